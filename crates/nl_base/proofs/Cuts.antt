@@ -1,5 +1,5 @@
 -- Texts cut at a byte.
-use Rattle.std.proofs.Common.{◌≡◌, ℕ, ◌+◌, ◌<◌, ◌==◌, Bool, true, false, if◌then◌else◌, List, [], ◌∷◌, ◌++◌, take, drop, get_or, length, length-drop, drop-cons, slice_get, suc, ◌-◌, subst, Option, Some, None, option_map, refl, sym, ◌∙◌, ap, eq-eqb, arith}
+use Rattle.std.proofs.Common.{◌≡◌, ℕ, ◌+◌, ◌<◌, ◌==◌, Bool, true, false, if◌then◌else◌, List, [], ◌∷◌, ◌++◌, take, drop, length, length-drop, drop-cons, slice_get, suc, ◌-◌, subst, Option, Some, None, option_map, refl, sym, ◌∙◌, ap, eq-eqb, arith}
 use Rattle.std.proofs.lemmas.Bool.{eqb-true}
 use Rattle.std.proofs.lemmas.List.{take-append-drop}
 use Rattle.std.proofs.Math.Seq.{take-length}
@@ -49,13 +49,13 @@ rest_of xs at =
 
 -- a place where a byte stands first, or last, is where the bytes are cut
 pub cut_first-place : (byte : ℕ) (xs : List ℕ) (at : ℕ) → at < length xs → slice_get xs at ≡ Some byte → Free byte (take at xs)
-  → cut_at_first byte xs ≡ Some (take at xs, take (length xs - (at + 1)) (drop (at + 1) xs))
+    → cut_at_first byte xs ≡ Some (take at xs, take (length xs - (at + 1)) (drop (at + 1) xs))
 cut_first-place byte xs at within e free =
     let cut = cut_first-at byte (take at xs) (drop (suc at) xs) free in
     subst (λ ys. cut_at_first byte xs ≡ Some (take at xs, ys)) (rest_of xs at) (subst (λ ys. cut_at_first byte ys ≡ Some (take at xs, drop (suc at) xs)) (around byte xs at within e) cut)
 
 pub cut_last-place : (byte : ℕ) (xs : List ℕ) (at : ℕ) → at < length xs → slice_get xs at ≡ Some byte → Free byte (drop (at + 1) xs)
-  → cut_at_last byte xs ≡ Some (take at xs, take (length xs - (at + 1)) (drop (at + 1) xs))
+    → cut_at_last byte xs ≡ Some (take at xs, take (length xs - (at + 1)) (drop (at + 1) xs))
 cut_last-place byte xs at within e free =
     let one : at + 1 ≡ suc at = omega arith in
     let cut = cut_last-at byte (take at xs) (drop (suc at) xs) (rw one at free) in
@@ -85,7 +85,7 @@ cut_first-is byte [] before after e = absurd cc
 cut_first-is byte (x ∷ xs) before after e = go (x == byte) refl (cut_at_first byte xs) refl (cut_first-is byte xs) e
   where
     go : (t : Bool) → (x == byte) ≡ t → (o : Option (List ℕ × List ℕ)) → cut_at_first byte xs ≡ o → ((b a : List ℕ) → cut_at_first byte xs ≡ Some (b, a) → xs ≡ b ++ byte ∷ a)
-      → ◌≡◌ {A = Option (List ℕ × List ℕ)} (if◌then◌else◌ {A = Option (List ℕ × List ℕ)} t (Some ([], xs)) (option_map (λ sides. (x ∷ sides.0, sides.1)) o)) (Some (before, after)) → x ∷ xs ≡ before ++ byte ∷ after
+        → ◌≡◌ {A = Option (List ℕ × List ℕ)} (if◌then◌else◌ {A = Option (List ℕ × List ℕ)} t (Some ([], xs)) (option_map (λ sides. (x ∷ sides.0, sides.1)) o)) (Some (before, after)) → x ∷ xs ≡ before ++ byte ∷ after
     go true t o c more h = rw (sym (ap first_side h), sym (ap second_side h), eqb-true x byte t) refl
     go false t None c more h = absurd cc
     go false t (Some sides) c more h = rw (sym (ap first_side h), sym (ap second_side h)) (ap (λ rest. x ∷ rest) (more sides.0 sides.1 c))
@@ -95,7 +95,7 @@ cut_last-is byte [] before after e = absurd cc
 cut_last-is byte (x ∷ xs) before after e = go (x == byte) refl (cut_at_last byte xs) refl (cut_last-is byte xs) e
   where
     go : (t : Bool) → (x == byte) ≡ t → (o : Option (List ℕ × List ℕ)) → cut_at_last byte xs ≡ o → ((b a : List ℕ) → cut_at_last byte xs ≡ Some (b, a) → xs ≡ b ++ byte ∷ a)
-      → ◌≡◌ {A = Option (List ℕ × List ℕ)} (elim o [ None ↦ if◌then◌else◌ {A = Option (List ℕ × List ℕ)} t (Some ([], xs)) None | Some sides ↦ Some (x ∷ sides.0, sides.1) ]) (Some (before, after)) → x ∷ xs ≡ before ++ byte ∷ after
+        → ◌≡◌ {A = Option (List ℕ × List ℕ)} (elim o [ None ↦ if◌then◌else◌ {A = Option (List ℕ × List ℕ)} t (Some ([], xs)) None | Some sides ↦ Some (x ∷ sides.0, sides.1) ]) (Some (before, after)) → x ∷ xs ≡ before ++ byte ∷ after
     go t u (Some sides) c more h = rw (sym (ap first_side h), sym (ap second_side h)) (ap (λ rest. x ∷ rest) (more sides.0 sides.1 c))
     go true t None c more h = rw (sym (ap first_side h), sym (ap second_side h), eqb-true x byte t) refl
     go false t None c more h = absurd cc
@@ -115,7 +115,7 @@ cut_end-is (x ∷ []) front last e = rw (sym (ap front_of e), sym (ap last_of e)
 cut_end-is (x ∷ (y ∷ ys)) front last e = go (cut_at_end (y ∷ ys)) refl (cut_end-is (y ∷ ys)) e
   where
     go : (o : Option (List ℕ × ℕ)) → cut_at_end (y ∷ ys) ≡ o → ((f : List ℕ) (l : ℕ) → cut_at_end (y ∷ ys) ≡ Some (f, l) → y ∷ ys ≡ f ++ l ∷ [])
-      → ◌≡◌ {A = Option (List ℕ × ℕ)} (elim o [ None ↦ Some ([], x) | Some ends ↦ Some (x ∷ ends.0, ends.1) ]) (Some (front, last)) → x ∷ (y ∷ ys) ≡ front ++ last ∷ []
+        → ◌≡◌ {A = Option (List ℕ × ℕ)} (elim o [ None ↦ Some ([], x) | Some ends ↦ Some (x ∷ ends.0, ends.1) ]) (Some (front, last)) → x ∷ (y ∷ ys) ≡ front ++ last ∷ []
     go (Some ends) c more h = rw (sym (ap front_of h), sym (ap last_of h)) (ap (λ rest. x ∷ rest) (more ends.0 ends.1 c))
     go None c more h = absurd (never (cut_at_end ys) c)
       where

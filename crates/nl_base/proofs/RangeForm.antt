@@ -19,7 +19,7 @@ bracket_of : (byte b : ℕ) → opening_of byte ≡ Some b → (k : Bracket) × 
 bracket_of byte b e = go (byte == 93) refl (byte == 62) refl (byte == 41) refl e
   where
     go : (t : Bool) → (byte == 93) ≡ t → (u : Bool) → (byte == 62) ≡ u → (v : Bool) → (byte == 41) ≡ v
-      → (if t then Some 91 else (if u then Some 60 else (if v then Some 40 else None))) ≡ Some b → (k : Bracket) × (opening k ≡ b) × (closing k ≡ byte)
+        → (if t then Some 91 else (if u then Some 60 else (if v then Some 40 else None))) ≡ Some b → (k : Bracket) × (opening k ≡ b) × (closing k ≡ byte)
     go true t u f v g h = (square, cc, sym (eqb-true byte 93 t))
     go false t true f v g h = (angle, cc, sym (eqb-true byte 62 f))
     go false t false f true g h = (round, cc, sym (eqb-true byte 41 g))
@@ -70,7 +70,7 @@ range_form-complete text size base range form =
     let right = signed_decimal range.right in
     let front : List ℕ = base ++ opening k ∷ inside range in
     let whole : text ≡ front ++ closing k ∷ [] =
-      form.is_text ∙ ap (λ rest. base ++ (opening k ∷ rest)) (sym (append_assoc left (58 ∷ right) (closing k ∷ []))) ∙ sym (append_assoc base (opening k ∷ inside range) (closing k ∷ [])) in
+    form.is_text ∙ ap (λ rest. base ++ (opening k ∷ rest)) (sym (append_assoc left (58 ∷ right) (closing k ∷ []))) ∙ sym (append_assoc base (opening k ∷ inside range) (closing k ∷ [])) in
     let last = cut_last-at (opening k) base (inside range) (inside_has_no_bracket k range form.left_fits form.right_fits) in
     rw (whole, cut_end-at front (closing k), opening_of-closing k, last, spelled_range-inside size range form.left_fits form.right_fits form.is_size) refl
 
@@ -94,10 +94,10 @@ sized_range-is size (Some left) (Some right) range e = go (range_bits (record { 
 
 -- the parts of a text put together
 joined : (text front base body left right : List ℕ) (bracket close : ℕ) → text ≡ front ++ close ∷ [] → front ≡ base ++ bracket ∷ body → body ≡ left ++ 58 ∷ right
-  → text ≡ base ++ (bracket ∷ (left ++ (58 ∷ (right ++ (close ∷ [])))))
+    → text ≡ base ++ (bracket ∷ (left ++ (58 ∷ (right ++ (close ∷ [])))))
 joined text front base body left right bracket close e f g =
     e ∙ ap (λ xs. xs ++ close ∷ []) f ∙ append_assoc base (bracket ∷ body) (close ∷ []) ∙ ap (λ xs. base ++ (bracket ∷ (xs ++ close ∷ []))) g
-      ∙ ap (λ xs. base ++ (bracket ∷ xs)) (append_assoc left (58 ∷ right) (close ∷ []))
+    ∙ ap (λ xs. base ++ (bracket ∷ xs)) (append_assoc left (58 ∷ right) (close ∷ []))
 
 pub range_form-is : (text : List ℕ) (size : ℕ) (base : List ℕ) (range : Bounds) → range_form text size ≡ Some (base, range) → HasRangeForm text size base range
 unfolding range_form
@@ -112,7 +112,7 @@ range_form-is text size base range e =
     let right = spelled_index-is halves.0.1 made.0.right sized.is_right in
     let kind = bracket_of ends.0.1 opened.0 opened.1 in
     let parts = joined text ends.0.0 sides.0.0 sides.0.1 halves.0.0 halves.0.1 opened.0 ends.0.1
-      (cut_end-is text ends.0.0 ends.0.1 ends.1) (cut_last-is opened.0 ends.0.0 sides.0.0 sides.0.1 sides.1) (cut_first-is 58 sides.0.1 halves.0.0 halves.0.1 halves.1) in
+    (cut_end-is text ends.0.0 ends.0.1 ends.1) (cut_last-is opened.0 ends.0.0 sides.0.0 sides.0.1 sides.1) (cut_first-is 58 sides.0.1 halves.0.0 halves.0.1 halves.1) in
     let spelled : text ≡ sides.0.0 ++ bracketed kind.0 made.0 = rw (sym left.1, sym right.1, kind.1, kind.2) parts in
     let form : HasRangeForm text size sides.0.0 made.0 = record { bracket = kind.0; is_text = spelled; left_fits = left.0; right_fits = right.0; is_size = sized.is_size } in
     subst (λ (p : List ℕ × Bounds). HasRangeForm text size p.0 p.1) made.2 form
@@ -139,8 +139,8 @@ told text size found e = subst (Told text size) (sym e) (go (range_form text siz
     go : (o : Option (List ℕ × Bounds)) → range_form text size ≡ o → Told text size (option_map (λ form. (length form.0, form.1)) o)
     go None c =
         let none : HasNoRangeForm text size = λ base range form.
-            let same : ◌≡◌ {A = Option (List ℕ × Bounds)} None (Some (base, range)) = sym c ∙ range_form-complete text size base range form in
-            absurd cc in
+        let same : ◌≡◌ {A = Option (List ℕ × Bounds)} None (Some (base, range)) = sym c ∙ range_form-complete text size base range form in
+        absurd cc in
         (tt, tt, none)
     go (Some form) c =
         let has = range_form-is text size form.0 form.1 c in

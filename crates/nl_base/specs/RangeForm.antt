@@ -29,9 +29,9 @@ cut_at_first byte (b ∷ bs) = if b == byte then Some ([], bs) else option_map (
 abbrev pub cut_at_last : ℕ → List ℕ → Option (List ℕ × List ℕ)
 cut_at_last byte [] = None
 cut_at_last byte (b ∷ bs) = elim (cut_at_last byte bs) [
-    None ↦ if b == byte then Some ([], bs) else None
+  | None ↦ if b == byte then Some ([], bs) else None
   | Some sides ↦ Some (b ∷ sides.0, sides.1)
-  ]
+]
 
 -- the bytes before the last one, and the last
 abbrev pub cut_at_end : List ℕ → Option (List ℕ × ℕ)

@@ -34,3 +34,6 @@ pub use spelling::spell_u64;
 pub use split::split_range;
 pub use text::Text;
 pub use value::{Dir, PropValue};
+
+#[cfg(test)]
+mod tests;

@@ -66,9 +66,7 @@ fn last_place(bytes: &[u8], byte: u8) -> Option<usize>
 fn split_at_first(bytes: &[u8], byte: u8) -> Option<(&[u8], &[u8])>
     ensures { MatchOption result (cut_at_first byte bytes.now ≡ None) (λ sides. cut_at_first byte bytes.now ≡ Some (sides.0.now, sides.1.now)) }
 {
-    let Some(at) = first_place(bytes, byte) else {
-        return None;
-    };
+    let at = first_place(bytes, byte)?;
     Some((&bytes[..at], &bytes[at + 1..]))
 }
 
@@ -76,9 +74,7 @@ fn split_at_first(bytes: &[u8], byte: u8) -> Option<(&[u8], &[u8])>
 fn split_at_last(bytes: &[u8], byte: u8) -> Option<(&[u8], &[u8])>
     ensures { MatchOption result (cut_at_last byte bytes.now ≡ None) (λ sides. cut_at_last byte bytes.now ≡ Some (sides.0.now, sides.1.now)) }
 {
-    let Some(at) = last_place(bytes, byte) else {
-        return None;
-    };
+    let at = last_place(bytes, byte)?;
     Some((&bytes[..at], &bytes[at + 1..]))
 }
 
@@ -109,12 +105,8 @@ fn opened(bytes: &[u8], bracket: u8, size: u32) -> Option<(usize, Range)>
 fn base_and_range(text: &[u8], size: u32) -> Option<(usize, Range)>
     ensures { result ≡ option_map (λ form. (length form.0, form.1)) (range_form text.now size) }
 {
-    let Some((close, front)) = text.split_last() else {
-        return None;
-    };
-    let Some(bracket) = opening(*close) else {
-        return None;
-    };
+    let (close, front) = text.split_last()?;
+    let bracket = opening(*close)?;
     opened(front, bracket, size)
 }
 
