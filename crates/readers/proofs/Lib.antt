@@ -7,3 +7,4 @@ pub mod Loops
 pub mod Chain
 pub mod Whole
 pub mod Shapes
+pub mod Maybes

@@ -1,7 +1,7 @@
 -- Which parts are live and closed, by how they are made: a few words for each production.
-use Rattle.std.proofs.Common.{◌≡◌, List, Result, Ok, Err, refl, inl, inr}
+use Rattle.std.proofs.Common.{◌≡◌, Result, Ok, refl, inl, inr}
 use Rattle.grammar.specs.Part.{Glance, gives, sequence, leaves}
-use Rattle.grammar.specs.Clear.{Empty, First, Next, IsClear, IsClosed, IsLive}
+use Rattle.grammar.specs.Clear.{Empty, First, Next, IsClosed, IsLive}
 use Rattle.grammar.specs.Whole.{Terminal, proper, end}
 use Rattle.grammar.proofs.Follow.{clear_fewer}
 use Rattle.nl_base.specs.declared.place.Place.{Place}
@@ -58,3 +58,32 @@ closed_while f q e s k h l leave full = (
   l,
   λ s x n. left_by (f s k) (e s) k x (leave s) (full s) n,
 )
+
+-- ---- the same as a record, so that a part is found from the fact
+
+-- The part is closed in the context.
+pub record Shut {K X A : Type 0} (k : K) (p : PartOf K X A) : Type 0 where
+  pub closed : IsClosed k p
+
+pub shut_gives : {K X A : Type 0} (k : K) (a : A) → Shut {X = X} k (gives a)
+shut_gives k a = record { closed = tt }
+
+pub shut_one : {K X A : Type 0} (k : K) (f : K → X → Result A Reason) → Shut k (one f)
+shut_one k f = record { closed = closed_one f k }
+
+pub shut_then : {K X A B : Type 0} {p : PartOf K X A} {q : A → PartOf K X B} {k : K} → Shut k p → ((u : A) → Shut k (q u)) → Shut k (sequence p q)
+shut_then {p = p} {q = q} {k = k} h l = record { closed = closed_then p q k h.closed (λ u. (l u).closed) }
+
+-- [ ] and |, where the other part begins with a token
+pub shut_if : {K X A B C : Type 0} (k : K) (f : K → X → Glance C Reason) (p : C → PartOf K X A) (h : K → X → Result B Reason) (r : B → PartOf K X A) → ((c : C) → Shut k (p c)) → ((b : B) → Shut k (r b)) → ((x : X) (b : B) → h k x ≡ Ok b → f k x ≡ leaves) → Shut k (if_next f p (sequence (one h) r))
+shut_if k f p h r one_way other leave = record {
+  closed = closed_if f p (sequence (one h) r) k (λ c. (one_way c).closed) (closed_then (one h) r k (closed_one h k) (λ b. (other b).closed))
+      (λ x n. let e = first_one h r k x n in leave x e.0 e.1) (λ v n. not_empty h r k v n);
+}
+
+-- { }, where what follows the rounds begins with a token
+pub shut_while : {K X A B C S : Type 0} (k : K) (f : S → K → X → Glance C Reason) (q : S → C → PartOf K X S) (h : S → K → X → Result B Reason) (r : S → B → PartOf K X A) (s : S) → ((s : S) (c : C) → Shut k (q s c)) → ((s : S) (b : B) → Shut k (r s b)) → ((s : S) (x : X) (b : B) → h s k x ≡ Ok b → f s k x ≡ leaves) → Shut k (while_next f q (λ s. sequence (one (h s)) (r s)) s)
+shut_while k f q h r s round last leave = record {
+  closed = closed_while f q (λ s. sequence (one (h s)) (r s)) s k (λ s c. (round s c).closed) (λ s. closed_then (one (h s)) (r s) k (closed_one (h s) k) (λ b. (last s b).closed))
+      (λ s x n. let e = first_one (h s) (r s) k x n in leave s x e.0 e.1) (λ s v n. not_empty (h s) (r s) k v n);
+}

@@ -46,7 +46,7 @@ told_error errors.ReadFault L k w (Some s) (Some t) h = tt
 told_error errors.NoMemory L k w (Some s) (Some t) h = tt
 told_error errors.Spent L k w (Some s) (Some t) h = absurd h
 
-taken_ahead : {K X : Type 0} (L : Language X) (k : K) (x : X) (c d : Reader K X) (i : Supply) → c.spent ≡ false → c.ahead ≡ Some x → d.window ≡ c.window → d.ahead ≡ None → d.spent ≡ false → reading L any k (stream L c i) ≡ then_left x (stream L d i)
+pub taken_ahead : {K X : Type 0} (L : Language X) (k : K) (x : X) (c d : Reader K X) (i : Supply) → c.spent ≡ false → c.ahead ≡ Some x → d.window ≡ c.window → d.ahead ≡ None → d.spent ≡ false → reading L any k (stream L c i) ≡ then_left x (stream L d i)
 unfolding stream_of reading then_left any
 taken_ahead {X = X} L k x c d i h a w n s = rw (h, a, w, n, s) (by (tokens_ahead L c.window i))
   where
