@@ -77,33 +77,36 @@ module _ {K X V C : Type 0} (L : Language X) (view : V → Option C) (f : K → 
     near = h.near;
   }
 
--- what the reader is made of after the look is apart, as the token is taken out of it
-module _ {K X V C : Type 0} (L : Language X) (view : V → Option C) (f : K → X → Glance C Reason) (a : Reader K X) (i j : Supply) (w : Window) (x : X) (k : K) (b r : Bool) where
+-- c: after the look, of which w, h, k and b are the parts, as the token is taken out of it
+module _ {K X V C : Type 0} (L : Language X) (view : V → Option C) (f : K → X → Glance C Reason) (a c : Reader K X) (i j : Supply) (w : Window) (h m : Option X) (x : X) (k : K) (b r : Bool) (is : reader w h k b ≡ c) (some : h ≡ Some x) (empty : m ≡ None) (looks : Looks L (Ok r) a c i j) where
+  seen : Looks L (Ok r) a (reader w (Some x) k b) i j
+  seen = subst (λ z. Looks L (Ok r) a (reader w z k b) i j) some (subst (λ (z : Reader K X). Looks L (Ok r) a z i j) (sym is) looks)
+
   -- the token that was seen is taken
-  pub some_at_token : (y : V) (v : C) (m : Option X) → view y ≡ Some v → Looks L (Ok r) a (reader w (Some x) k b) i j → f a.context x ≡ takes v → m ≡ None → ReadsMaybe L view (maybe f) (Ok y) a (reader w m k b) i j
-  some_at_token y v m e h l n = rw n (record {
+  pub some_at_token : (y : V) (v : C) → view y ≡ Some v → f a.context x ≡ takes v → ReadsMaybe L view (maybe f) (Ok y) a (reader w m k b) i j
+  some_at_token y v e l = rw empty (record {
     value = (
-      rw e (took L f a.context x v (stream L a i) (stream L (reader w None k b) j) (ap (reading L any a.context) (sym h.value.3.0) ∙ taken_ahead L a.context x (reader w (Some x) k b) (reader w None k b) j h.spends refl refl refl h.spends) l),
-      h.value.3.1,
-      (let z : room (reader w None k b) < room (reader w (Some x) k b) = room_ahead w x k b b in omega (arith, h.value.3.2)),
+      rw e (took L f a.context x v (stream L a i) (stream L (reader w None k b) j) (ap (reading L any a.context) (sym seen.value.3.0) ∙ taken_ahead L a.context x (reader w (Some x) k b) (reader w None k b) j seen.spends refl refl refl seen.spends) l),
+      seen.value.3.1,
+      (let z : room (reader w None k b) < room (reader w (Some x) k b) = room_ahead w x k b b in omega (arith, seen.value.3.2)),
     );
     error = tt;
-    moves = h.moves;
-    unspent = h.unspent;
+    moves = seen.moves;
+    unspent = seen.unspent;
     spent = tt;
-    spends = h.spends;
+    spends = seen.spends;
     cause = tt;
     near = tt;
   })
 
   -- the token that was seen is refused
-  pub refused_at_token : (reason : Reason) (m : Option X) → Looks L (Ok r) a (reader w (Some x) k b) i j → f a.context x ≡ refuses reason → IsNear w (L.stop x) → m ≡ None → ReadsMaybe L view (maybe f) (Err (errors.Text (fault_at L (proper x) reason))) a (reader w m k true) i j
-  refused_at_token reason m h l near n = rw n (record {
+  pub refused_at_token : (reason : Reason) → f a.context x ≡ refuses reason → IsNear w (L.stop x) → ReadsMaybe L view (maybe f) (Err (errors.Text (fault_at L (proper x) reason))) a (reader w m k true) i j
+  refused_at_token reason l near = rw empty (record {
     value = tt;
-    error = refused_there L f a.context x reason (stream L a i) (stream L (reader w (Some x) k b) j) h.value.0 l;
-    moves = h.moves;
+    error = refused_there L f a.context x reason (stream L a i) (stream L (reader w (Some x) k b) j) seen.value.0 l;
+    moves = seen.moves;
     unspent = tt;
-    spent = (λ s. absurd cc, λ s. let z : true ≡ false = sym s ∙ h.unspent in absurd cc);
+    spent = (λ s. absurd cc, λ s. let z : true ≡ false = sym s ∙ seen.unspent in absurd cc);
     spends = refl;
     cause = λ s. absurd cc;
     near = near_text w (fault_at L (proper x) reason) near;
