@@ -7,9 +7,9 @@ use Rattle.std.specs.List.{AllByRecursion, prefix_len}
 use Rattle.nl_base.specs.declared.place.Place.{Place}
 use Rattle.nl_base.specs.Place.{place_past, place_along}
 use Rattle.nl_base.proofs.Places.{place_past-along, place_past-offset}
-use Rattle.nl_bytes.specs.declared.bytes.Class.{Class}
-use Rattle.nl_bytes.specs.declared.bytes.Class.TheVariants.{Space, Digit, WordByte, Plain}
-use Rattle.nl_bytes.specs.Bytes.{in_class, AreIn, Window, Runs}
+use Rattle.nl_bytes.specs.declared.class.Class.{Class}
+use Rattle.nl_bytes.specs.Classes.{in_class, AreIn}
+use Rattle.nl_bytes.specs.Bytes.{Window, Runs}
 
 one_more : (n : ℕ) → 1 + n ≡ suc n
 one_more n = omega arith
@@ -77,10 +77,10 @@ front-all p (x ∷ xs) = go (p x) refl (front-all p xs)
     go false e rest = tt
 
 -- a whole run is held, and a byte after it
-pub held_run : {class : Class} {old new : Window} {n next : ℕ} {text : List ℕ} (l : Option (List ℕ)) → n ≡ prefix_len (in_class class) old.held → n < length old.held → n ≤ 1024 → old.place.offset + n ≤ LIMIT
+pub held_run : {class : Class} {most : ℕ} {old new : Window} {n next : ℕ} {text : List ℕ} (l : Option (List ℕ)) → n ≡ prefix_len (in_class class) old.held → n < length old.held → n ≤ most → old.place.offset + n ≤ LIMIT
     → new.held ≡ drop n old.held → new.place ≡ place_past old.place (take n old.held) → text ≡ take n old.held → next ≡ get_or old.held n 0
-    → Runs class 1025 old new l l [] text (Ok (Some next))
-held_run {class} {old} {new} {n} {next} {text} l run more most limit held place text-is next-is =
+    → Runs class most old new l l [] text (Ok (Some next))
+held_run {class} {most} {old} {new} {n} {next} {text} l run more enough limit held place text-is next-is =
     let used = take n old.held in
     let len : length used ≡ n = omega (arith, length-take n old.held) in
     let out : in_class class next ≡ false = ap (in_class class) next-is ∙ (rw run (prefix_len_stops (in_class class) old.held 0 (omega (arith, run)))) in

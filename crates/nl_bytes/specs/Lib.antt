@@ -1,2 +1,3 @@
-pub mod Bytes
+pub mod Classes
 pub mod Halts
+pub mod Bytes

@@ -1,112 +1,21 @@
-ghost use Rattle.std.specs.Prelude.{◌≡◌, ◌<◌, ◌≤◌, ◌++◌, [], ◌∷◌, ℕ, List, length, take, drop, slice_index, IfOk, OnOk, IsErrOf, IfSome, IsTrue, vec_len, ◌^◌, ◌+◌, Option};
-ghost use Rattle.nl_io.specs.Causes.{HasCause, Rose};
+ghost use Rattle.std.specs.Prelude.{◌≡◌, ◌≢◌, ◌<◌, ◌≤◌, [], length, take, drop, slice_index, IfOk, IfErr, OnOk, IsErrOf, ◌+◌};
+ghost use Rattle.nl_io.specs.Causes.{Rose};
 
+use crate::class::Class;
+use crate::halt::Halt;
+use nl_base::Place;
 use nl_io::Source;
-use nl_base::{Place, ReadError};
-use std::alloc::{AllocError, AllocFailed, Global};
+use std::alloc::{AllocError, Global};
 use std::marker::Model;
 
-/// How many bytes of an input are looked at.
+/// How many bytes of an input are answered.
 pub const LIMIT: u64 = 268_435_456;
 
 const ROOM: usize = 4096;
 
-const SPACE: u8 = 1;
-
-const DIGIT: u8 = 2;
-
-const WORD_BYTE: u8 = 4;
-
-const PLAIN: u8 = 8;
-
-// For each byte a byte whose low four bits are the flags above.
-static CLASSES: [u8; 256] = *b"\
-    000000000990090000000000000000009808808888888888>>>>>>>>>>888888\
-    8<<<<<<<<<<<<<<<<<<<<<<<<<<8888<8<<<<<<<<<<<<<<<<<<<<<<<<<<88880\
-    8888888888888888888888888888888888888888888888888888888888888888\
-    8888888888888888888888888888888888888888888888888888888888888888";
-
-/// Classes of bytes.
-#[derive(Clone, Copy, Debug, PartialEq, Eq)]
-pub enum Class {
-    Space,
-    Digit,
-    WordByte,
-    Plain,
-}
-
-/// Why no byte was answered.
-#[derive(Clone, Copy, Debug, PartialEq, Eq)]
-pub enum Halt {
-    Failed,
-    TooLong,
-    NoMemory,
-}
-
-impl<T: Drop> From<AllocFailed<T>> for Halt {
-    ghost use Rattle.nl_bytes.specs.declared.bytes.Halt.TheVariants.{NoMemory};
-
-    ghost from_gives = { λ _ e. e ≡ NoMemory };
-
-    fn from(_: AllocFailed<T>) -> Self {
-        Halt::NoMemory
-    }
-}
-
-impl From<AllocError> for Halt {
-    ghost use Rattle.nl_bytes.specs.declared.bytes.Halt.TheVariants.{NoMemory};
-
-    ghost from_gives = { λ _ e. e ≡ NoMemory };
-
-    fn from(_: AllocError) -> Self {
-        Halt::NoMemory
-    }
-}
-
-impl From<Halt> for ReadError {
-    ghost use Rattle.nl_bytes.specs.Halts.{error_of};
-
-    ghost from_gives = { λ h e. e ≡ error_of h };
-
-    fn from(halt: Halt) -> Self {
-        match halt {
-            Halt::Failed => ReadError::ReadFault,
-            Halt::TooLong => ReadError::TooLong,
-            Halt::NoMemory => ReadError::NoMemory,
-        }
-    }
-}
-
-impl Class {
-    ghost use Rattle.nl_bytes.specs.Bytes.{in_class};
-    ghost use Rattle.std.specs.List.{prefix_len};
-
-    #[inline]
-    pub fn contains(self, b: u8) -> bool
-        ensures { result ≡ in_class self b }
-    {
-        match self {
-            Class::Space => CLASSES[b as usize] & SPACE != 0,
-            Class::Digit => CLASSES[b as usize] & DIGIT != 0,
-            Class::WordByte => CLASSES[b as usize] & WORD_BYTE != 0,
-            Class::Plain => CLASSES[b as usize] & PLAIN != 0,
-        }
-    }
-
-    /// How many bytes at the front are in the class.
-    #[inline]
-    pub fn front(self, bytes: &[u8]) -> usize
-        ensures { result ≡ prefix_len (in_class self) bytes.now }
-    {
-        let mut n = 0;
-        while n < bytes.len() && self.contains(bytes[n]) {
-            n += 1;
-        }
-        n
-    }
-}
-
-/// Looks at the bytes of a source, through a buffer.
+/// Reads the bytes of a source, through a buffer.
+///
+/// Seen as the bytes that are held, and the place of the first.
 #[derive(Drop)]
 pub struct Bytes {
     buffer: Vec<u8>,
@@ -133,9 +42,11 @@ impl Model for Bytes {
 
 impl Bytes {
     ghost use Rattle.nl_base.specs.Place.{place_at_start, place_after, place_past};
-    ghost use Rattle.nl_bytes.specs.Bytes.{Uses, IsAhead, Runs, Skips, AreIn, in_class};
+    ghost use Rattle.nl_bytes.specs.Bytes.{Uses, IsAhead, Runs, Skips};
+    ghost use Rattle.nl_bytes.specs.Classes.{AreIn, in_class};
     ghost use Rattle.std.specs.Prelude.{false};
 
+    /// A reader at the start of a text.
     pub fn new(alloc: Global) -> Result<Self, AllocError>
         ensures { IfOk result (λ b. b ≡ record { held = []; place = place_at_start }) }
     {
@@ -149,12 +60,14 @@ impl Bytes {
         })
     }
 
+    /// The place of the byte ahead.
     #[inline]
     pub fn place(&self) -> Place
+        ensures place { result ≡ self.now.place }
         ensures line { self.now.place.line ≤ self.now.place.offset + 1 }
         ensures column { (1 ≤ self.now.place.column) × (self.now.place.column ≤ self.now.place.offset + 1) }
-        ensures place { result ≡ self.now.place }
         ensures held { length self.now.held ≤ 4096 }
+        ensures limit { self.now.place.offset ≤ LIMIT + 1 }
     {
         Place {
             offset: self.offset,
@@ -169,6 +82,8 @@ impl Bytes {
         ensures ahead { IfOk result (IsAhead self.new (S.left source.new)) }
         ensures within { OnOk result (self.new.place.offset ≤ LIMIT) }
         ensures too_long { IsErrOf result Halt.TooLong → LIMIT < self.new.place.offset }
+        ensures no_memory { IfErr result (λ e. e ≢ Halt.NoMemory) }
+        ensures limit { self.new.place.offset ≤ LIMIT + 1 }
         ensures count { S.faults source.old ≤ S.faults source.new }
         ensures cause { IsErrOf result Halt.Failed → Rose (S.faults source.old) (S.faults source.new) }
     {
@@ -201,7 +116,7 @@ impl Bytes {
         let byte = self.buffer[self.used];
         self.used += 1;
         self.offset += 1;
-        if byte == 10 {
+        if byte == b'\n' {
             self.line += 1;
             self.begin = self.offset;
         }
@@ -286,11 +201,10 @@ impl Bytes {
         ensures held { self.new.held ≡ drop count self.old.held }
         ensures place { self.new.place ≡ place_past self.old.place (take count self.old.held) }
     {
-        match class {
-            Class::Digit => self.pass_along(class, count),
-            Class::WordByte => self.pass_along(class, count),
-            Class::Space => self.pass_lines(count),
-            Class::Plain => self.pass_lines(count),
+        if class.contains(b'\n') {
+            self.pass_lines(count)
+        } else {
+            self.pass_along(class, count)
         }
     }
 
@@ -304,18 +218,19 @@ impl Bytes {
         source: &mut S,
     ) -> Result<Option<u8>, Halt>
         ensures runs { Runs class most self.old self.new (S.left source.old) (S.left source.new) out.old.items out.new.items result }
+        ensures limit { self.new.place.offset ≤ LIMIT + 1 }
         ensures count { S.faults source.old ≤ S.faults source.new }
         ensures cause { IsErrOf result Halt.Failed → Rose (S.faults source.old) (S.faults source.new) }
     {
         let mut n = 0;
         loop {
             let next = self.peek(source)?;
-            let Some(b) = next else {
+            let Some(byte) = next else {
                 return Ok(None);
             };
             let count = self.ahead_in(class, most - n);
             if count == 0 {
-                return Ok(Some(b));
+                return Ok(Some(byte));
             }
             let (front, _) = self.held().split_at(count);
             out.extend_from_slice(front)?;
@@ -328,17 +243,19 @@ impl Bytes {
     #[inline]
     pub fn skip<S: Source>(&mut self, class: Class, source: &mut S) -> Result<Option<u8>, Halt>
         ensures skips { Skips class self.old self.new (S.left source.old) (S.left source.new) result }
+        ensures no_memory { IfErr result (λ e. e ≢ Halt.NoMemory) }
+        ensures limit { self.new.place.offset ≤ LIMIT + 1 }
         ensures count { S.faults source.old ≤ S.faults source.new }
         ensures cause { IsErrOf result Halt.Failed → Rose (S.faults source.old) (S.faults source.new) }
     {
         loop {
             let next = self.peek(source)?;
-            let Some(b) = next else {
+            let Some(byte) = next else {
                 return Ok(None);
             };
             let count = self.ahead_in(class, usize::MAX);
             if count == 0 {
-                return Ok(Some(b));
+                return Ok(Some(byte));
             }
             self.pass(class, count);
         }

@@ -1,5 +1,6 @@
 use Rattle.std.proofs.Common.{ℕ, ◌-◌, List, ◌++◌, ◌≡◌, ◌≤◌, length}
-use Rattle.nl_bytes.specs.Bytes.{Uses, AreIn}
+use Rattle.nl_bytes.specs.Bytes.{Uses}
+use Rattle.nl_bytes.specs.Classes.{AreIn}
 use Rattle.nl_bytes.proofs.bytes.Bytes.run.Given as goal
 
 abbrev pub invariant-loop-next : goal.invariant-loop-next

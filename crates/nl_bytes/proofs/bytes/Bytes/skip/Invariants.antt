@@ -1,5 +1,6 @@
 use Rattle.std.proofs.Common.{ℕ, ◌-◌, List, ◌++◌, ◌≡◌, ◌≤◌, ◌+◌, length}
-use Rattle.nl_bytes.specs.Bytes.{Uses, AreIn}
+use Rattle.nl_bytes.specs.Bytes.{Uses}
+use Rattle.nl_bytes.specs.Classes.{AreIn}
 use Rattle.nl_bytes.specs.declared.bytes.TheConstants.{LIMIT}
 use Rattle.nl_bytes.proofs.bytes.Bytes.skip.Given as goal
 

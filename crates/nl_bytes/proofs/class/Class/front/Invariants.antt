@@ -1,7 +1,7 @@
 use Rattle.std.proofs.Common.{◌≡◌, ◌≤◌, ◌+◌, ◌-◌, length, drop}
 use Rattle.std.specs.List.{prefix_len}
-use Rattle.nl_bytes.specs.Bytes.{in_class}
-use Rattle.nl_bytes.proofs.bytes.Class.front.Given as goal
+use Rattle.nl_bytes.specs.Classes.{in_class}
+use Rattle.nl_bytes.proofs.class.Class.front.Given as goal
 
 abbrev pub invariant-loop-n : goal.invariant-loop-n
 invariant-loop-n l = record {
