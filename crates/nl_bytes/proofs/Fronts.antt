@@ -1,5 +1,5 @@
 -- The bytes of a class at the front.
-use Rattle.std.proofs.Common.{◌≡◌, ◌≤◌, ℕ, zero, suc, ◌+◌, ◌-◌, ◌<◌, ◌==◌, Bool, true, false, cond, List, [], ◌∷◌, length, get_or, take, drop, drop-cons, ◌++◌, Option, Some, None, Ok, Err, IsTrue, refl, sym, ap, ◌∙◌, subst, arith, length-take, eqb-true}
+use Rattle.std.proofs.Common.{◌≡◌, ◌≤◌, ℕ, zero, suc, ◌+◌, ◌-◌, ◌<◌, ◌==◌, Bool, true, false, cond, List, [], ◌∷◌, length, get_or, take, drop, drop-cons, Option, Some, Ok, IsTrue, refl, sym, ap, ◌∙◌, arith, length-take, eqb-true}
 use Rattle.std.proofs.lemmas.List.Sums.{prefix_len-le-length, prefix_len_stops}
 use Rattle.nl_bytes.proofs.Uses.{Uses-front}
 use Rattle.nl_bytes.specs.declared.bytes.TheConstants.{LIMIT}

@@ -1,6 +1,6 @@
 -- What the calls of a reader say where the source tells its bytes.
 use Rattle.std.proofs.Common.{◌≡◌, ℕ, List, [], ◌∷◌, ◌++◌, Option, Some, None, refl, sym, ap, ◌∙◌}
-use Rattle.std.specs.Io.KnownBytes.{Consumes, IsAtEnd}
+use Rattle.std.specs.Io.KnownBytes.{Consumes}
 use Rattle.nl_bytes.specs.Bytes.{Window, Uses, IsAhead, input, first}
 
 Consumes-known : (a b : Option (List ℕ)) (used bs : List ℕ) → Consumes a b used → a ≡ Some bs → (rest : List ℕ) × (b ≡ Some rest) × (bs ≡ used ++ rest)

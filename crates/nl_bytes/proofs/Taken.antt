@@ -1,11 +1,11 @@
 -- How much was taken from a source.
-use Rattle.std.proofs.Common.{◌≡◌, ℕ, ◌+◌, ◌≤◌, List, [], ◌∷◌, ◌++◌, length, Option, Some, None, Result, Ok, Err, refl, sym, ap, ◌∙◌, arith, length-append}
+use Rattle.std.proofs.Common.{◌≡◌, ℕ, ◌+◌, ◌≤◌, List, ◌++◌, length, Option, Some, None, Result, Ok, Err, ap, ◌∙◌, arith, length-append}
 use Rattle.nl_base.specs.declared.place.Place.{Place}
 use Rattle.nl_base.specs.declared.fault.ReadError.{ReadError}
 use Rattle.nl_base.specs.declared.fault.ReadError.TheVariants.{Text, ReadFault, TooLong, NoMemory, Spent}
 use Rattle.nl_base.specs.Faults.{OnText}
 use Rattle.nl_base.proofs.Places.{place_past-offset}
-use Rattle.nl_bytes.specs.Bytes.{Window, Uses, input, TookAtMost}
+use Rattle.nl_bytes.specs.Bytes.{Window, Uses, TookAtMost}
 
 -- no more was taken than was used and is held
 pub took : (old new : Window) (l m : Option (List ℕ)) (used : List ℕ) → Uses old new l m used → (stop : ℕ) → new.place.offset ≤ stop → length new.held ≤ 4096 → TookAtMost l m (stop + 4096)

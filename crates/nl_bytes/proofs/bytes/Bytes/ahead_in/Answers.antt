@@ -1,4 +1,4 @@
-use Rattle.std.proofs.Common.{◌≡◌, List, length, ℕ, ◌≤◌, ap, ◌∙◌, take, arith}
+use Rattle.std.proofs.Common.{List, length, ℕ, ap, ◌∙◌, take, arith}
 use Rattle.nl_base.specs.declared.place.Place.{Place}
 use Rattle.nl_bytes.proofs.Fronts.{Found, front-found}
 use Rattle.nl_bytes.proofs.bytes.Bytes.ahead_in.Goals as goal

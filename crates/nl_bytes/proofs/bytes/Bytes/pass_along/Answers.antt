@@ -1,5 +1,4 @@
-use Rattle.std.proofs.Common.{◌≡◌, refl, ap, ◌∙◌, sym, arith}
-use Rattle.nl_base.specs.declared.place.Place.{Place}
+use Rattle.std.proofs.Common.{refl, ap, sym, arith}
 use Rattle.nl_bytes.specs.Bytes.{Window}
 use Rattle.nl_bytes.proofs.Fronts.{passed-along, moved_along}
 use Rattle.nl_bytes.proofs.bytes.Bytes.pass_along.Goals as goal

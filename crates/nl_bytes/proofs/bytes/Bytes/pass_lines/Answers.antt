@@ -1,4 +1,4 @@
-use Rattle.std.proofs.Common.{◌≡◌, ◌∙◌, arith}
+use Rattle.std.proofs.Common.{◌∙◌}
 use Rattle.nl_bytes.proofs.Fronts.{same_place}
 use Rattle.nl_bytes.proofs.bytes.Bytes.pass_lines.Goals as goal
 

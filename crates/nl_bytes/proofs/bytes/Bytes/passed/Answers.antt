@@ -1,4 +1,4 @@
-use Rattle.std.proofs.Common.{◌≡◌, List, ℕ, ◌≤◌, ◌-◌, ◌+◌, ap, ◌∙◌, sym, take, length, subst, arith, length-take}
+use Rattle.std.proofs.Common.{◌≡◌, List, ℕ, ap, ◌∙◌, sym, take, length, subst, arith, length-take}
 use Rattle.nl_base.specs.declared.place.Place.{Place}
 use Rattle.nl_base.specs.Place.{place_past}
 use Rattle.nl_base.proofs.Places.{Near, place_past-near}

@@ -1,4 +1,4 @@
-use Rattle.std.proofs.Common.{ℕ, arith, length, vec_len, length-take, length-append, length-drop}
+use Rattle.std.proofs.Common.{ℕ, arith, length-take, length-append, length-drop}
 use Rattle.nl_bytes.proofs.Held.{held_front}
 use Rattle.nl_bytes.proofs.bytes.Bytes.peek.Goals as goal
 

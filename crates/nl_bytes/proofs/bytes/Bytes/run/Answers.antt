@@ -1,6 +1,5 @@
-use Rattle.std.proofs.Common.{◌≡◌, ℕ, List, [], ◌∷◌, ◌++◌, take, length, length-take, Some, IsTrue, arith, rules, sym, ap, ◌∙◌, append_assoc, length-append}
-use Rattle.nl_bytes.specs.Bytes.{IsAhead}
-use Rattle.nl_bytes.specs.Classes.{in_class, AreIn}
+use Rattle.std.proofs.Common.{◌≡◌, ℕ, List, ◌++◌, take, length, length-take, IsTrue, arith, ap, ◌∙◌, append_assoc, length-append}
+use Rattle.nl_bytes.specs.Classes.{in_class}
 use Rattle.nl_bytes.proofs.Uses.{Uses-passed, AllByRecursion-append}
 use Rattle.nl_bytes.proofs.bytes.Bytes.run.Goals as goal
 

@@ -1,8 +1,7 @@
-use Rattle.std.proofs.Common.{◌≡◌, ℕ, List, [], ◌∷◌, ◌++◌, take, length, length-take, Some, IsTrue, arith, rules, sym, ap, ◌∙◌}
+use Rattle.std.proofs.Common.{◌≡◌, ℕ, List, ◌++◌, take, length, length-take, IsTrue, arith, ap, ◌∙◌}
 use Rattle.nl_base.specs.declared.place.Place.{Place}
 use Rattle.nl_base.proofs.Places.{place_past-offset}
-use Rattle.nl_bytes.specs.Bytes.{IsAhead}
-use Rattle.nl_bytes.specs.Classes.{in_class, AreIn}
+use Rattle.nl_bytes.specs.Classes.{in_class}
 use Rattle.nl_bytes.proofs.Uses.{Uses-passed, AllByRecursion-append}
 use Rattle.nl_bytes.proofs.bytes.Bytes.skip.Goals as goal
 

@@ -1,4 +1,4 @@
-use Rattle.std.proofs.Common.{◌≡◌, refl, arith, ap, sym, ◌∙◌}
+use Rattle.std.proofs.Common.{refl, arith, ap, sym, ◌∙◌}
 use Rattle.std.specs.Char.{is_ascii_digit}
 use Rattle.nl_bytes.specs.declared.class.Class.{Class}
 use Rattle.nl_bytes.specs.declared.class.TheConstants.{EDIF_CLASSES, VERILOG_CLASSES}
