@@ -6,3 +6,4 @@ pub mod Quoted
 pub mod Held
 pub mod Words
 pub mod Readers
+pub mod Limits
