@@ -7,3 +7,4 @@ pub mod Held
 pub mod Words
 pub mod Readers
 pub mod Limits
+pub mod Proper

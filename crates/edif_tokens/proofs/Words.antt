@@ -18,7 +18,7 @@ or_right : (x y : Bool) → y ≡ true → (x || y) ≡ true
 or_right true y e = refl
 or_right false y e = e
 
-identifier_of : (lead : Bool) (b : ℕ) (rest : List ℕ) → begins_word lead b ≡ true → AreIn WordByte rest → (IsTrue lead → 0 < length rest) → base.is_identifier (b ∷ rest) ≡ true
+pub identifier_of : (lead : Bool) (b : ℕ) (rest : List ℕ) → begins_word lead b ≡ true → AreIn WordByte rest → (IsTrue lead → 0 < length rest) → base.is_identifier (b ∷ rest) ≡ true
 identifier_of false b [] begins each some = begins
 identifier_of true b [] begins each some = absurd (let k = some refl in omega arith)
 identifier_of false b (c ∷ cs) begins each some = let all = words_all (c ∷ cs) each in rw (begins, all) refl
