@@ -1,0 +1,10 @@
+pub mod Spans
+pub mod Answering
+pub mod Streams
+pub mod Strings
+pub mod Quoted
+pub mod Held
+pub mod Words
+pub mod Readers
+pub mod Limits
+pub mod Proper
