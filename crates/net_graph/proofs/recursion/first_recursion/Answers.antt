@@ -16,6 +16,6 @@ returns-in-Some-2 c =
     record {
       closing = said_of_some c.in_ok-place.field-0 _ _ c.in-Some-2.place c.in-Some-2.is c.in_ok-place.ensures;
       first_number = λ earlier lt reaches.
-          let falls : FallsAt c.args.graph.now c.in_ok-levels.levels.items earlier = subst (λ levels. FallsAt c.args.graph.now levels earlier) c.as_slice-then-levels_fall.ensures.value (c.in-Some.ensures.1 earlier lt) in
+          let falls : FallsAt c.args.graph.now c.in_ok-levels.levels.items earlier = subst (λ levels. FallsAt c.args.graph.now levels earlier) c.as_slice-then-levels_fall.ensures.value (c.in-Some.ensures.first earlier lt) in
           falls_free c.args.graph.now c.in_ok-levels.levels.items earlier fall falls reaches;
     }
