@@ -1,0 +1,4 @@
+mod Cost
+mod Flooding
+mod Links
+mod Numbers

@@ -1,0 +1,63 @@
+ghost use Rattle.std.specs.Prelude.{◌≡◌, ℕ, ◌+◌, ◌*◌, ◌<◌, ◌≤◌, ◌^◌, List, [], map, length, slice_get, Some, slice_index, slice_index_or, sum_by, IfOk};
+
+use crate::steps::Steps;
+use indexmap::IndexSet;
+use net_hier::cells::Node;
+use std::marker::Model;
+use std::sync::ledger::Ledger;
+
+/// The joined nodes of a cell, numbered in their order, and for each the numbers of the nodes at the other ends of its joins.
+#[derive(Drop)]
+pub struct Adjacency {
+    nodes: IndexSet<Node>,
+    lists: Vec<Vec<u32>>,
+}
+
+impl Model for Adjacency {
+    ghost use Rattle.std.specs.Prelude.{map};
+    ghost use Rattle.net_bits.specs.Neighbours.{Neighbours, AreFew};
+
+    ghost Value = { Neighbours };
+
+    ghost view = { λ a. record { nodes = a.nodes.keys; lists = map (λ list. list.items) a.lists.items } };
+
+    ghost invariant = { λ a. AreFew (record { nodes = a.nodes.keys; lists = map (λ list. list.items) a.lists.items }) };
+}
+
+impl Adjacency {
+    /// How many nodes there are.
+    pub fn count(&self) -> u32
+        ensures { result ≡ length self.now.nodes }
+    {
+        self.nodes.len() as u32
+    }
+
+    /// How many neighbours the node of this number has.
+    pub fn degree(&self, number: u32) -> u32
+        requires { number < length self.now.nodes }
+        ensures { result ≡ length (slice_index_or self.now.lists number []) }
+    {
+        self.lists[number as usize].len() as u32
+    }
+
+    /// The node of this number. It counts one step.
+    pub fn node<L: Ledger>(&self, number: u32, steps: &mut Steps<L>) -> Node
+        requires { number < length self.now.nodes }
+        ensures node { slice_get self.now.nodes number ≡ Some result }
+        ensures cost { steps.new ≡ steps.old + 1 }
+    {
+        steps.tick();
+        self.nodes.as_slice()[number as usize]
+    }
+
+    /// The number of the neighbour at this place in the list of the node of this number. It counts one step.
+    pub fn neighbour<L: Ledger>(&self, number: u32, place: u32, steps: &mut Steps<L>) -> u32
+        requires number { number < length self.now.nodes }
+        requires place { place < length (slice_index_or self.now.lists number []) }
+        ensures neighbour { result ≡ slice_index (slice_index_or self.now.lists number []) place }
+        ensures cost { steps.new ≡ steps.old + 1 }
+    {
+        steps.tick();
+        self.lists[number as usize][place as usize]
+    }
+}

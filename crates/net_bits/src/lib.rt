@@ -1,0 +1,6 @@
+// The classes of locally connected nodes of one cell.
+#![tactic(auto)]
+
+pub mod adjacency;
+mod flood;
+pub mod steps;
