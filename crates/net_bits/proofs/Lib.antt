@@ -1,4 +1,7 @@
 mod Cost
 mod Flooding
+mod EndLists
+mod EndSets
 mod Links
+mod Nodes
 mod Numbers

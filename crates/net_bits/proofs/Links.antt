@@ -1,6 +1,6 @@
 -- walks by steps
 use Rattle.std.proofs.Common.{◌≡◌, List, [], ◌∷◌, ◌++◌, refl, sym, subst}
-use Rattle.net_hier.specs.Walks.{Leads, IsLinked}
+use Rattle.net_graph.specs.Walks.{Leads, IsLinked}
 
 pub linked-self : {A : Type 0} (step : A → A → Type 0) (a : A) → IsLinked step a a
 linked-self step a = record { places = []; lead = refl }

@@ -1,6 +1,6 @@
 -- Classes of connected numbers, by lists of neighbours.
 use Rattle.std.specs.Prelude.{◌≡◌, ℕ, ◌+◌, ◌<◌, ◌≤◌, List, [], ◌∷◌, Option, Some, None, length, slice_index_or, Contains, ◌⊎◌, ◌↔◌}
-use Rattle.net_hier.specs.Walks.{IsLinked}
+use Rattle.net_graph.specs.Walks.{IsLinked}
 
 -- the second number stands in the list of the first
 abbrev pub IsNext : List (List ℕ) → ℕ → ℕ → Type 0

@@ -1,8 +1,11 @@
 ghost use Rattle.std.specs.Prelude.{◌≡◌, ℕ, ◌+◌, ◌*◌, ◌<◌, ◌≤◌, ◌^◌, List, [], map, length, slice_get, Some, slice_index, slice_index_or, sum_by, IfOk};
 
+use crate::joined::{joined_nodes, neighbour_lists};
 use crate::steps::Steps;
 use indexmap::IndexSet;
-use net_hier::cells::Node;
+use net_hier::{HCell, Node};
+use nl_base::NoMemory;
+use std::alloc::Global;
 use std::marker::Model;
 use std::sync::ledger::Ledger;
 
@@ -25,6 +28,21 @@ impl Model for Adjacency {
 }
 
 impl Adjacency {
+    ghost use Rattle.net_bits.specs.Neighbours.{AreNeighbours, joined_count};
+
+    /// The joined nodes of the cell, and their neighbours. The cell has at most 33,554,432 joins.
+    pub fn of_cell(alloc: Global, cell: &HCell) -> Result<Adjacency, NoMemory>
+        requires { length cell.now.joins ≤ 33554432 }
+        ensures neighbours { IfOk result (AreNeighbours cell.now) }
+        ensures count { IfOk result (λ adjacency. length adjacency.nodes ≡ joined_count cell.now) }
+        ensures degrees { IfOk result (λ adjacency. sum_by length adjacency.lists ≡ 2 * length cell.now.joins) }
+    {
+        let joins = cell.joins.items();
+        let nodes = joined_nodes(alloc, joins)?;
+        let lists = neighbour_lists(alloc, &nodes, joins)?;
+        Ok(Adjacency { nodes, lists })
+    }
+
     /// How many nodes there are.
     pub fn count(&self) -> u32
         ensures { result ≡ length self.now.nodes }

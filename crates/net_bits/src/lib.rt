@@ -3,4 +3,5 @@
 
 pub mod adjacency;
 mod flood;
+mod joined;
 pub mod steps;
