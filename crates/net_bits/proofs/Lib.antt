@@ -1,7 +1,10 @@
+mod ClassTables
 mod Cost
-mod Flooding
 mod EndLists
 mod EndSets
+mod Flooding
+mod Items
 mod Links
 mod Nodes
 mod Numbers
+mod Transport

@@ -4,17 +4,8 @@ use Rattle.std.proofs.lemmas.List.Elements.{Contains-push_cases, Contains-append
 use Rattle.std.proofs.lemmas.Bool.{cases_eq}
 use Rattle.net_graph.specs.Walks.{IsLinked}
 use Rattle.net_bits.specs.Flood.{number, IsNumbered, AreNumbered}
+use Rattle.net_bits.proofs.Items.{Contains-cons_cases, Contains-cons_there, Contains-cons_here, no_member}
 use Rattle.net_bits.proofs.Links.{linked-self, linked-step, linked-trans, linked-keeps}
-
-pub Contains-cons_cases : {X : Type 0} (x : X) (xs : List X) (y : X) → Contains (x ∷ xs) y → (x ≡ y) ⊎ Contains xs y
-Contains-cons_cases x xs y (zero, h, e) = inl e
-Contains-cons_cases x xs y (suc k, h, e) = inr (k, omega arith, e)
-
-pub Contains-cons_there : {X : Type 0} (x : X) (xs : List X) (y : X) → Contains xs y → Contains (x ∷ xs) y
-Contains-cons_there x xs y h = Contains-append_right (x ∷ []) xs y h
-
-pub Contains-cons_here : {X : Type 0} (x : X) (xs : List X) → Contains (x ∷ xs) x
-Contains-cons_here x xs = (0, omega arith, refl)
 
 -- what a node that gets the number `k` changes
 module _ (step : ℕ → ℕ → Type 0) (numbers : List (Option ℕ)) (w k : ℕ) (in' : w < length numbers) (none : number numbers w ≡ None) where
@@ -182,9 +173,6 @@ numbered-skip step numbers done count c h i = record {
 some_or_none : (o : Option ℕ) → (o ≡ None) ⊎ ((c : ℕ) × (o ≡ Some c))
 some_or_none None = inl refl
 some_or_none (Some c) = inr (c, refl)
-
-pub no_member : (v : ℕ) → Contains [] v → ⊥
-no_member v h = omega (arith, h.1)
 
 -- where nothing waits and all nodes are numbered
 pub are_numbered : (step : ℕ → ℕ → Type 0) (numbers : List (Option ℕ)) (done count : ℕ) → length numbers ≤ done

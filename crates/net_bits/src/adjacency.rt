@@ -78,4 +78,12 @@ impl Adjacency {
         steps.tick();
         self.lists[number as usize][place as usize]
     }
+
+    // The set of the nodes.
+    pub(crate) fn into_nodes(self) -> IndexSet<Node>
+        ensures { result.keys ≡ self.nodes }
+    {
+        let Adjacency { nodes, lists: _ } = self;
+        nodes
+    }
 }

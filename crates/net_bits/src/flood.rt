@@ -1,4 +1,4 @@
-ghost use Rattle.std.specs.Prelude.{◌≡◌, ℕ, ◌+◌, ◌*◌, ◌<◌, ◌≤◌, ◌^◌, List, [], ◌∷◌, None, Some, length, slice_index, slice_index_or, sum_by, IfOk, OnOk};
+ghost use Rattle.std.specs.Prelude.{◌≡◌, ℕ, ◌+◌, ◌*◌, ◌<◌, ◌≤◌, ◌^◌, List, [], ◌∷◌, None, Some, length, map, slice_index, slice_index_or, sum_by, IfOk, OnOk};
 ghost use Rattle.net_bits.specs.Flood.{AreNumbered, AreMutual, IsNext, IsNumbered, number, unspent};
 
 use crate::adjacency::Adjacency;
@@ -40,8 +40,40 @@ fn flood<L: Ledger>(
     Ok(())
 }
 
-/// Gives each node the number of its class, and answers how many classes there are. Classes are numbered in the order of their least nodes.
+// The classes, where each number has one.
+fn all_of(alloc: Global, classes: &[Option<u32>]) -> Result<Vec<u32>, NoMemory>
+    requires { (v : ℕ) → v < length classes.now → (c : ℕ) × (number classes.now v ≡ Some c) }
+    ensures { IfOk result (λ numbers. map Some numbers.items ≡ classes.now) }
+{
+    let mut numbers = Vec::new(alloc);
+    for class in classes {
+        match class {
+            Some(class) => numbers.push(*class)?,
+            None => unreachable!(),
+        }
+    }
+    Ok(numbers)
+}
+
+/// The number of the class of each node, and how many classes there are. Classes are numbered in the order of their least nodes.
 pub fn number_classes<L: Ledger>(
+    alloc: Global,
+    adjacency: &Adjacency,
+    steps: &mut Steps<L>,
+) -> Result<(Vec<u32>, u32), NoMemory>
+    requires nodes { length adjacency.now.nodes ≡ length adjacency.now.lists }
+    requires lists { AreMutual adjacency.now.lists }
+    ensures len { IfOk result (λ r. length r.0.items ≡ length adjacency.now.lists) }
+    ensures numbers { IfOk result (λ r. AreNumbered (IsNext adjacency.now.lists) (map Some r.0.items) r.1) }
+    ensures cost { steps.new ≤ steps.old + sum_by length adjacency.now.lists }
+{
+    let (classes, count) = flood_all(alloc, adjacency, steps)?;
+    let numbers = all_of(alloc, classes.as_slice())?;
+    Ok((numbers, count))
+}
+
+// Floods from each node that has no class yet, in order.
+fn flood_all<L: Ledger>(
     alloc: Global,
     adjacency: &Adjacency,
     steps: &mut Steps<L>,

@@ -2,6 +2,7 @@
 #![tactic(auto)]
 
 pub mod adjacency;
+pub mod classes;
 mod flood;
 mod joined;
 pub mod steps;

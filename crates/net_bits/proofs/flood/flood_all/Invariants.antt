@@ -1,6 +1,6 @@
 use Rattle.std.proofs.Common.{◌≡◌, ◌+◌, ◌≤◌, [], length, sum_by}
 use Rattle.net_bits.specs.Flood.{IsNext, IsNumbered, unspent}
-use Rattle.net_bits.proofs.flood.number_classes.Given as goal
+use Rattle.net_bits.proofs.flood.flood_all.Given as goal
 
 abbrev pub invariant-loop-root : goal.invariant-loop-root
 invariant-loop-root g l = record {
