@@ -1,8 +1,9 @@
 -- tables of classes
-use Rattle.std.proofs.Common.{Vec, Global, ◌≡◌, ◌≢◌, ℕ, zero, suc, ◌+◌, ◌<◌, ◌≤◌, ◌++◌, ◌==◌, ◌⊎◌, ◌↔◌, inl, inr, Bool, true, false, cond, List, [], ◌∷◌, Option, Some, None, length, get_or, set, take, replicate, map, filter, position, slice_get, refl, sym, ◌∙◌, ap, subst, arith, All, Contains, eqb, get_or-set_same, get_or-set_other, length-set}
+use Rattle.std.proofs.Common.{Vec, Global, ◌≡◌, ◌≢◌, ℕ, zero, suc, ◌+◌, ◌<◌, ◌≤◌, ◌++◌, ◌==◌, ◌⊎◌, ◌↔◌, inl, inr, Bool, true, false, cond, List, [], ◌∷◌, Option, Some, None, length, get_or, set, take, replicate, map, filter, position, slice_get, refl, sym, ◌∙◌, ap, subst, arith, All, Contains, eqb, nat_lt, get_or-set_same, get_or-set_other, length-set}
 use Rattle.std.specs.List.Sorted.{IsStrictlySortedBy}
 use Rattle.std.specs.List.{position_or_len}
-use Rattle.std.specs.Option.{option_and_then}
+use Rattle.std.specs.Borrow.{Bor}
+use Rattle.std.specs.Option.{IfSome, is_some, option_and_then, option_copied}
 use Rattle.std.proofs.lemmas.Bool.Decides.{nat_tests}
 use Rattle.std.proofs.lemmas.Grind.{common_steps}
 use Rattle.std.proofs.lemmas.List.{take_more, take_all, length-map, map-set, get_or-map, get_or-replicate, length-replicate, append-nil}
@@ -10,7 +11,7 @@ use Rattle.std.proofs.lemmas.List.Elements.{filter-append}
 use Rattle.std.proofs.lemmas.List.Quantifiers.{position-Some}
 use Rattle.std.proofs.lemmas.List.Sums.{position_or_len_is}
 use Rattle.std.proofs.lemmas.Map.Keys.{Less-from_sorted}
-use Rattle.std.proofs.lemmas.Option.{slice_get-get_or, slice_get_within, get_or_from_slice_get}
+use Rattle.std.proofs.lemmas.Option.{slice_get-get_or, slice_get_past, slice_get_within, get_or_from_slice_get}
 use Rattle.net_hier.specs.Nodes.{node_cmp}
 use Rattle.net_hier.specs.NodeTies.{node_ties}
 use Rattle.net_hier.specs.contracts.nodes.NodePartialEq.TheImpl.{eq-value}
@@ -157,3 +158,8 @@ are_classes cell neighbours are numbers count len by =
           let less = Less-from_sorted node_cmp nodes u.0 p.0 x sorted u.1 in' in
           (get_or nodes u.0 x, ap (node_cmp (get_or nodes u.0 x)) (sym (get_or_from_slice_get nodes p.0 x x p.1)) ∙ less, class_at table sorted u.0 (get_or nodes u.0 x) here ∙ n);
     }
+
+-- the element that a slice's `get` lends
+pub copied_get : (xs : List ℕ) (i : ℕ) (r : Option (Bor ℕ)) → is_some r ≡ nat_lt i (length xs) → IfSome r (λ x. x.now ≡ get_or xs i x.now) → option_copied r ≡ slice_get xs i
+copied_get xs i None h e = sym (slice_get_past xs i (grind (arith, nat_tests)))
+copied_get xs i (Some x) h e = ap Some e ∙ sym (slice_get-get_or xs i x.now (grind (arith, nat_tests)))
