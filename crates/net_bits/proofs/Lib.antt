@@ -4,6 +4,7 @@ mod EndLists
 mod EndSets
 mod Flooding
 mod Items
+mod LeafLaws
 mod Links
 mod Nodes
 mod Numbers

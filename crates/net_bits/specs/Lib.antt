@@ -1,3 +1,4 @@
 pub mod Classes
 pub mod Flood
+pub mod Leaves
 pub mod Neighbours

@@ -5,4 +5,5 @@ pub mod adjacency;
 pub mod classes;
 mod flood;
 mod joined;
+pub mod leaf;
 pub mod steps;
