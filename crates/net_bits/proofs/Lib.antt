@@ -6,6 +6,7 @@ mod Flooding
 mod Items
 mod LeafLaws
 mod Links
+mod NameLaws
 mod Nodes
 mod Numbers
 mod Transport

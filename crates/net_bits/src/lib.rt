@@ -6,4 +6,5 @@ pub mod classes;
 mod flood;
 mod joined;
 pub mod leaf;
+pub mod names;
 pub mod steps;
