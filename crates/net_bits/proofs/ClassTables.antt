@@ -42,9 +42,9 @@ module _ (table : ClassTable) (sorted : IsStrictlySortedBy node_cmp table.nodes)
   class_at i x h =
       let in' = slice_get_within table.nodes i x h in
       let first = position_or_len_is (same_node x) table.nodes i x (omega arith)
-        (λ k l. same_node-other x (get_or table.nodes k x)
-          (λ e. let s = once table.nodes sorted k i x (slice_get-get_or table.nodes k x (omega arith) ∙ ap Some (sym e)) h in omega arith))
-        (λ _. (same_node-Decides x (get_or table.nodes i x)).1 (sym (get_or_from_slice_get table.nodes i x x h))) in
+      (λ k l. same_node-other x (get_or table.nodes k x)
+      (λ e. let s = once table.nodes sorted k i x (slice_get-get_or table.nodes k x (omega arith) ∙ ap Some (sym e)) h in omega arith))
+      (λ _. (same_node-Decides x (get_or table.nodes i x)).1 (sym (get_or_from_slice_get table.nodes i x x h))) in
       ap (option_and_then (slice_get table.numbers)) (position_is (same_node x) table.nodes i in' first)
 
   -- the place of a node that has a class

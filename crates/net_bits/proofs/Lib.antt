@@ -3,6 +3,7 @@ mod Cost
 mod EndLists
 mod EndSets
 mod Flooding
+mod FreshLaws
 mod Items
 mod LeafLaws
 mod Links

@@ -79,7 +79,7 @@ module _ (set : NameSet) (name : List ℕ) where
 
   pub seeking_end : IsSeeking set name None → has_name set name ≡ false
   seeking_end i = list_any_none (alike set.up_to_case name) set.names
-    (λ k d l. subst (λ n. alike set.up_to_case name n ≡ false) (get_or_default set.names k [] d l)
+      (λ k d l. subst (λ n. alike set.up_to_case name n ≡ false) (get_or_default set.names k [] d l)
       (elim (cases_lt k i.bound) as (λ _. alike set.up_to_case name (get_or set.names k []) ≡ false) [
         | inl b ↦ unlike set.up_to_case name (get_or set.names k []) (λ e. i.is_last k b (digest_at set k l ∙ e))
         | inr b ↦ i.none_alike k b l
@@ -148,8 +148,8 @@ links_push set name earlier old new o links is_o updates =
       λ k g l. absurd (omega (arith, len, g, l)),
     )
     latest_by q false e len = last_more (digests set) (digest_of set.up_to_case name) q (get nat_eq old q)
-      (λ s. let t = eq-eqb (digest_of set.up_to_case name) q s in cc)
-      (subst (λ n. IsLast (digests set) q n (get nat_eq old q)) (sym len) (links.latest_is q))
+        (λ s. let t = eq-eqb (digest_of set.up_to_case name) q s in cc)
+        (subst (λ n. IsLast (digests set) q n (get nat_eq old q)) (sym len) (links.latest_is q))
 
 -- the name and the link of an entry, among those of all
 pub entry_name : (entries : List Entry) (at : ℕ) (e : Entry) → at < length entries → e ≡ get_or entries at e → get_or (map (λ (entry : Entry). entry.name) entries) at [] ≡ e.name

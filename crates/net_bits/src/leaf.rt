@@ -21,12 +21,7 @@ pub fn is_leaf(hier: &Hier, cell: u32, classes: &Classes) -> bool
 
 /// Which constant the cell of this number stands for: `false` for a zero cell, `true` for a one cell, under the chosen names.
 /// The classes are those of this cell.
-pub fn constant_of(
-    hier: &Hier,
-    cell: u32,
-    classes: &Classes,
-    constants: &Constants,
-) -> Option<bool>
+pub fn constant_of(hier: &Hier, cell: u32, classes: &Classes, constants: &Constants) -> Option<bool>
     requires cell { cell < length hier.now.cells }
     requires classes { AreClassesAt hier.now.cells cell classes.now }
     ensures zero { (value : CellValue) → IsCell hier.now.cells cell value → ((result ≡ Some false) ↔ IsConstantCell constants.now false value) }
@@ -83,7 +78,8 @@ fn has_form(cell: &HCell, name: &ConstName) -> bool
     ensures { IsTrue result ↔ HasForm name.now cell.now }
 {
     match cell.ports.items() {
-        [port] => cell.name.bytes() == name.cell.bytes() && is_scalar_output(port, name.port.bytes()),
+        [port] => cell.name.bytes() == name.cell.bytes()
+            && is_scalar_output(port, name.port.bytes()),
         _ => false,
     }
 }

@@ -4,6 +4,7 @@
 pub mod adjacency;
 pub mod classes;
 mod flood;
+pub mod fresh;
 mod joined;
 pub mod leaf;
 pub mod names;

@@ -1,4 +1,4 @@
-ghost use Rattle.std.specs.Prelude.{◌≡◌, ◌<◌, [], not, IfOk, OnOk, OnErr};
+ghost use Rattle.std.specs.Prelude.{◌≡◌, ◌==◌, [], length, not, IfOk, OnOk, OnErr};
 ghost use Rattle.net_bits.specs.Names.{alike, has_name, with_name};
 ghost use Rattle.net_bits.specs.NameTables.{digest_of, digest_step, key_byte};
 
@@ -44,6 +44,20 @@ impl Names {
             entries: Vec::new(alloc),
             latest: IndexMap::new(alloc),
         }
+    }
+
+    /// How many names the set has.
+    pub fn len(&self) -> usize
+        ensures { result ≡ length self.now.names }
+    {
+        self.entries.len()
+    }
+
+    /// Whether the set has no names.
+    pub fn is_empty(&self) -> bool
+        ensures { result ≡ (length self.now.names == 0) }
+    {
+        self.entries.is_empty()
     }
 
     /// Whether the set has the name.
@@ -96,7 +110,11 @@ fn are_alike(a: &[u8], b: &[u8], fold: bool) -> bool
 fn counted(byte: u8, fold: bool) -> u8
     ensures { result ≡ key_byte fold byte }
 {
-    if fold { byte.to_ascii_lowercase() } else { byte }
+    if fold {
+        byte.to_ascii_lowercase()
+    } else {
+        byte
+    }
 }
 
 // A number that is the same for names that are alike, and seldom for others: the hash FNV-1a.
