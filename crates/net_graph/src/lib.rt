@@ -1,0 +1,2 @@
+// Graphs of numbers: for each number, the numbers below it.
+#![tactic(auto)]

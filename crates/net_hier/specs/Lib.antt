@@ -1,0 +1,13 @@
+pub mod Cells
+pub mod Constants
+pub mod Design
+pub mod Facts
+pub mod Flat
+pub mod FlatCount
+pub mod NodeTies
+pub mod Nodes
+pub mod Paths
+pub mod SameCells
+pub mod SameDesign
+pub mod Units
+pub mod Valid

@@ -1,0 +1,64 @@
+// The design.
+ghost use Rattle.std.specs.Prelude.{◌≡◌};
+ghost use Rattle.net_hier.specs.Valid.{IsHier};
+
+use crate::cells::{HCell, HProp};
+use nl_base::Seq;
+use std::marker::Model;
+
+/// A hierarchical design: its cells in file order, the number of its top cell, its own properties, and the order in which each
+/// cell stands after those of its instances. Every `Hier` is valid: the numbers that name things are in range, the names of the
+/// ports and of the instances of a cell differ, each width is 1 to 65,536, each cell is reached from the top, no cell reaches
+/// itself, and there are at most 268,435,456 cells, as many instances in each, and 33,554,432 units.
+#[derive(Drop)]
+pub struct Hier {
+    cells: Seq<HCell>,
+    top: u32,
+    props: Seq<HProp>,
+    order: Seq<u32>,
+}
+
+impl Model for Hier {
+    ghost use Rattle.net_hier.specs.Design.{Design};
+    ghost use Rattle.net_hier.specs.Valid.{IsHier};
+
+    ghost Value = { Design };
+
+    ghost view = { λ h. record { cells = h.cells; top = h.top; props = h.props; order = h.order } };
+
+    ghost invariant = { λ h. IsHier (record { cells = h.cells; top = h.top; props = h.props; order = h.order }) };
+}
+
+impl Hier {
+    /// The cells in file order.
+    pub fn cells(&self) -> &[HCell]
+        ensures cells { result.now ≡ self.now.cells }
+        ensures valid { IsHier self.now }
+    {
+        self.cells.items()
+    }
+
+    /// The number of the top cell.
+    pub fn top(&self) -> u32
+        ensures top { result ≡ self.now.top }
+        ensures valid { IsHier self.now }
+    {
+        self.top
+    }
+
+    /// The design's own properties.
+    pub fn props(&self) -> &[HProp]
+        ensures props { result.now ≡ self.now.props }
+        ensures valid { IsHier self.now }
+    {
+        self.props.items()
+    }
+
+    /// The numbers of all cells, each once: the postorder of the depth-first walk from the top that follows instances in order.
+    pub fn order(&self) -> &[u32]
+        ensures order { result.now ≡ self.now.order }
+        ensures valid { IsHier self.now }
+    {
+        self.order.items()
+    }
+}
