@@ -12,6 +12,7 @@
 pub mod cells;
 pub mod constants;
 pub mod hier;
+pub mod laws;
 pub mod nodes;
 
 pub use cells::{HCell, HInst, HNet, HPort, HProp};

@@ -1,0 +1,7 @@
+pub mod Back
+pub mod FactsAgree
+pub mod Forth
+pub mod Near
+pub mod Pairs
+pub mod PathLaws
+pub mod Theorem
