@@ -1,1 +1,3 @@
+pub mod MarkLaws
 pub mod WalkLaws
+pub mod WorkLaws
