@@ -1,8 +1,8 @@
-use Rattle.std.proofs.Common.{◌≡◌, ℕ, zero, suc, ◌<◌, ◌≤◌, ◌⊎◌, inl, inr, List, [], ◌∷◌, ◌++◌, refl, sym, ◌∙◌, ap, subst, subst₂, slice_get, Some, length, arith, append_assoc, option_map}
+use Rattle.std.proofs.Common.{◌≡◌, ℕ, zero, suc, ◌<◌, ◌≤◌, ◌⊎◌, inl, inr, List, [], ◌∷◌, ◌++◌, refl, sym, ◌∙◌, ap, subst, subst₂, slice_get, Some, length, arith, append_assoc}
 use Rattle.std.specs.Prelude.{Contains}
-use Rattle.std.proofs.lemmas.Option.{slice_get-map, slice_get_within, slice_get_read}
-use Rattle.net_graph.specs.Graph.{HasList, IsAbove, ReachesItself, Visits, VisitsEach, again, first, none, next}
-use Rattle.net_hier.specs.Walks.{Leads}
+use Rattle.std.proofs.lemmas.Option.{slice_get_within, slice_get_read}
+use Rattle.net_graph.specs.Graph.{HasList, IsAbove, IsReached, ReachesItself, Visits, VisitsEach, again, first, none, next}
+use Rattle.net_graph.specs.Walks.{Leads}
 use Rattle.net_graph.proofs.ListLaws.{same_element}
 
 -- the element stands somewhere in the list
@@ -35,7 +35,7 @@ contained xs x h = record { place = h.0; is_there = slice_get_read xs (length xs
 stands_more : {A : Type 0} (xs ys : List A) (x : A) → StandsIn xs x → StandsIn (xs ++ ys) x
 stands_more xs ys x h = record { place = h.place; is_there = get_front xs ys h.place x h.is_there }
 
--- each list of the list stands after those below it
+-- each number of the order stands after those below it
 abbrev pub HasBelow : List (List ℕ) → List ℕ → Type 0
 HasBelow graph order = (place number : ℕ) (list : List ℕ) (at : ℕ) (instance : ℕ) → slice_get order place ≡ Some number → HasList graph number list → slice_get list at ≡ Some instance →
     (before : ℕ) × (before < place) × (slice_get order before ≡ Some instance)
@@ -83,36 +83,44 @@ module _ (graph : List (List ℕ)) (top : ℕ) where
   mutual
     pub visits_below : {before after : List ℕ} {number : ℕ} → Visits graph before number after → HasBelow graph before → HasBelow graph after
     visits_below (again h) below = below
-    visits_below (first {middle = middle} {number = number} {list = list} fresh is_list each) below = more_below middle number list is_list (visits_each_below each below)
-        (λ at instance e. visits_each_lists each at instance (slice_get-map (λ i. i.list) list at ∙ ap (option_map (λ i. i.list)) e))
+    visits_below (first {middle = middle} {number = number} {numbers = list} fresh is_list each) below = more_below middle number list is_list (visits_each_below each below)
+        (λ at instance e. visits_each_lists each at instance e)
 
     pub visits_each_below : {before after : List ℕ} {numbers : List ℕ} → VisitsEach graph before numbers after → HasBelow graph before → HasBelow graph after
     visits_each_below none below = below
     visits_each_below (next one rest) below = visits_each_below rest (visits_below one below)
 
-  -- an order of which each reached list is one rules out a recursion
-  pub reached_listed : (order : List ℕ) → HasBelow graph order → StandsIn order top → (path : Path) (number : ℕ) → LeadsTo graph top path number → StandsIn order number
-  reached_listed order below listed [] number leads = subst (StandsIn order) (sym leads) listed
-  reached_listed order below listed (name ∷ path) number leads =
-      let i : HasInstance graph leads.0 name number = leads.2 in
-      let s : StandsIn order leads.0 = reached_listed order below listed path leads.0 leads.1 in
-      let (before, lt, e) = below s.place leads.0 i.list i.number i.instance s.is_there i.is_list i.is_there in
-      subst (StandsIn order) i.is_of (record { place = before; is_there = e })
+  -- what stands below a listed number is listed before it
+  below_listed : (order : List ℕ) → HasBelow graph order → (outer inner place : ℕ) → IsAbove graph outer inner → slice_get order place ≡ Some outer → (before : ℕ) × (before < place) × (slice_get order before ≡ Some inner)
+  below_listed order below outer inner place above e = below place outer above.numbers above.place inner e above.are_below above.is_there
 
   descends : (order : List ℕ) → HasBelow graph order → (a : ℕ) (places : List ℕ) (b : ℕ) → Leads (IsAbove graph) a places b → (place : ℕ) → slice_get order place ≡ Some a → (lower : ℕ) × (lower ≤ place) × (slice_get order lower ≡ Some b)
   descends order below a [] b lead place e = (place, omega arith, subst (λ m. slice_get order place ≡ Some m) lead e)
   descends order below a (middle ∷ places) b lead place e =
-      let above : IsAbove graph a middle = lead.0 in
-      let i : HasInstance graph a above.name middle = above.has in
-      let (before, lt, f) = below place a i.list i.number i.instance e i.is_list i.is_there in
-      let (lower, le, g) = descends order below middle places b lead.1 before (subst (λ m. slice_get order before ≡ Some m) i.is_of f) in
+      let (before, lt, f) = below_listed order below a middle place lead.0 e in
+      let (lower, le, g) = descends order below middle places b lead.1 before f in
       (lower, omega arith, g)
 
+  -- what is reached from a listed number is listed
+  pub reached_listed : (order : List ℕ) → HasBelow graph order → StandsIn order top → (number : ℕ) → IsReached graph top number → StandsIn order number
+  reached_listed order below listed number reached =
+      let (lower, le, e) = descends order below top reached.places number reached.lead listed.place listed.is_there in
+      record { place = lower; is_there = e }
+
+  -- a listed number does not reach itself
   pub listed_once : (order : List ℕ) → HasBelow graph order → (bound place number : ℕ) → place < bound → slice_get order place ≡ Some number → ¬ ReachesItself graph number
   listed_once order below zero place number lt e reaches = omega arith
   listed_once order below (suc bound) place number lt e reaches =
-      let above : IsAbove graph number reaches.below = reaches.first in
-      let i : HasInstance graph number above.name reaches.below = above.has in
-      let (before, blt, f) = below place number i.list i.number i.instance e i.is_list i.is_there in
-      let (lower, le, g) = descends order below reaches.below reaches.back.places number reaches.back.lead before (subst (λ m. slice_get order before ≡ Some m) i.is_of f) in
+      let (before, blt, f) = below_listed order below number reaches.below place reaches.first e in
+      let (lower, le, g) = descends order below reaches.below reaches.back.places number reaches.back.lead before f in
       listed_once order below bound lower number (omega arith) g reaches
+
+  none_below : HasBelow graph []
+  none_below place number list at instance e is_list there = absurd (cc)
+
+  -- no number of a postorder's walk reaches itself
+  pub postorder_free : (order : List ℕ) → Visits graph [] top order → (number : ℕ) → IsReached graph top number → ¬ ReachesItself graph number
+  postorder_free order visits number reached =
+      let below : HasBelow graph order = visits_below visits none_below in
+      let s : StandsIn order number = reached_listed order below (visits_lists visits) number reached in
+      listed_once order below (suc s.place) s.place number (omega arith) s.is_there

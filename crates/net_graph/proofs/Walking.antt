@@ -1,21 +1,18 @@
 -- The walk that lists the graph, over plain lists: what it keeps, and the work that is left.
-use Rattle.std.proofs.Common.{◌≡◌, ℕ, zero, suc, ◌+◌, ◌-◌, ◌<◌, ◌≤◌, ◌⊎◌, inl, inr, List, [], ◌∷◌, ◌++◌, refl, sym, ◌∙◌, ap, subst, subst₂, slice_get, get_or, set, drop, replicate, Some, Bool, true, false, cond, length, map, arith, length-append, option_map, sum_by}
+use Rattle.std.proofs.Common.{◌≡◌, ℕ, zero, suc, ◌+◌, ◌-◌, ◌<◌, ◌≤◌, ◌⊎◌, inl, inr, List, [], ◌∷◌, ◌++◌, refl, sym, ◌∙◌, ap, subst, subst₂, slice_get, get_or, set, drop, replicate, Some, Bool, true, false, cond, length, map, arith, length-append, sum_by}
 use Rattle.std.specs.Prelude.{Contains}
-use Rattle.std.proofs.lemmas.List.{get_or-set_same, length-map, length-replicate}
+use Rattle.std.proofs.lemmas.List.{get_or-set_same, length-replicate}
 use Rattle.std.proofs.Math.ListN.{length-set}
 use Rattle.std.proofs.lemmas.List.Elements.{Contains-push}
 use Rattle.std.proofs.lemmas.List.Sums.{sum_by-append}
-use Rattle.std.proofs.lemmas.Option.{slice_get-map, slice_get_within, slice_get_read, get_or_from_slice_get, slice_get-get_or}
+use Rattle.std.proofs.lemmas.Option.{slice_get_within, slice_get_read, get_or_from_slice_get, slice_get-get_or}
 use Rattle.net_graph.specs.Graph.{IsInRange}
 use Rattle.net_graph.specs.Graph.{HasList, IsAbove, ReachesItself, Visits, VisitsEach, again, first, none, next}
 use Rattle.net_graph.proofs.OrderLaws.{StandsIn, contained, front_or_last, get_front, get_last}
 use Rattle.net_graph.proofs.ListLaws.{element_there, same_element}
 use Rattle.net_graph.proofs.WalkLaws.{linked_along, linked_by, linked_itself}
-use Rattle.net_hier.specs.Walks.{IsLinked}
+use Rattle.net_graph.specs.Walks.{IsLinked}
 use Rattle.net_graph.specs.declared.order.Visit.{Visit}
-
-abbrev pub below_of : List ℕ → List ℕ
-list = map (λ instance. instance) list
 
 -- the rest of a visit's instances are followed, and its list is listed
 pub record Closes (graph : List (List ℕ)) (done : List ℕ) (visit : Visit) (final : List ℕ) : Type 0 where
@@ -195,7 +192,7 @@ module _ (graph : List (List ℕ)) (top : ℕ) (in_range : IsInRange graph) wher
   -- the instance that is followed next
   next_there : (list : List ℕ) (at : ℕ) (instance : ℕ) → slice_get list at ≡ Some instance → drop at list ≡ instance ∷ drop (at + 1) list
   next_there list at instance e =
-      let p : slice_get list at ≡ Some instance = slice_get-map (λ i. i.list) list at ∙ ap (option_map (λ i. i.list)) e in
+      let p : slice_get list at ≡ Some instance = e in
       let q : suc at ≡ at + 1 = omega arith in
       subst (λ m. drop at list ≡ instance ∷ drop m list) q (drop_at list at instance p)
 
@@ -240,7 +237,7 @@ module _ (graph : List (List ℕ)) (top : ℕ) (in_range : IsInRange graph) wher
   keeps_new seen listed order stack rest visit list instance e is_list there not_seen k =
       let on : Visit = record { number = visit.number; followed = visit.followed + 1 } in
       let entered : Visit = record { number = instance; followed = 0 } in
-      let within : instance < length graph = in_range visit.number list visit.followed instance is_list there in
+      let within : instance < length graph = in_range visit.number instance (record { numbers = list; are_below = is_list; place = visit.followed; is_there = there }) in
       let ins : Each (λ v. v.number < length graph) (rest ++ visit ∷ []) = subst (Each (λ v. v.number < length graph)) e k.stack_in in
       let seens : Each (λ v. get_or (set seen instance true) v.number false ≡ true) (rest ++ visit ∷ []) =
       subst (Each (λ v. get_or (set seen instance true) v.number false ≡ true)) e (λ place v at. set_keeps seen instance v.number (k.stack_seen place v at)) in
@@ -288,7 +285,7 @@ module _ (graph : List (List ℕ)) (top : ℕ) (in_range : IsInRange graph) wher
       let seens : Each (λ v. get_or seen v.number false ≡ true) (rest ++ visit ∷ []) = subst (Each (λ v. get_or seen v.number false ≡ true)) e k.stack_seen in
       let within : visit.number < length graph = each_last (λ v. v.number < length graph) rest visit ins in
       let is_seen : get_or seen visit.number false ≡ true = each_last (λ v. get_or seen v.number false ≡ true) rest visit seens in
-      let past : length list ≤ visit.followed = omega (arith, length-map list (λ i. i.list)) in
+      let past : length list ≤ visit.followed = le in
       let closes : Closes graph order visit (order ++ visit.number ∷ []) =
       record { list = list; is_list = is_list; after = order; each = subst (λ ns. VisitsEach graph order ns order) (sym (drop_past list visit.followed past)) none; final_is = refl } in
       record {
@@ -387,7 +384,7 @@ pub record Turn (graph : List (List ℕ)) (visit : Visit) (list : List ℕ) (ins
   pub is_list : HasList graph visit.number list
   pub is_next : visit.followed < length list
   pub there : slice_get list visit.followed ≡ Some (get_or instances visit.followed d)
-  pub below_in : (get_or instances visit.followed d).list < length graph
+  pub below_in : get_or instances visit.followed d < length graph
 
 pub turn_of : (graph : List (List ℕ)) (top : ℕ) (seen listed : List Bool) (order : List ℕ) (stack rest : List Visit) (visit : Visit) (list : List ℕ) (instances : List ℕ) (d : ℕ) → IsInRange graph →
     Keeps graph top seen listed order stack → stack ≡ rest ++ visit ∷ [] → list ≡ get_or graph visit.number list → instances ≡ list → visit.followed < length instances → Turn graph visit list instances d
@@ -395,7 +392,7 @@ turn_of graph top seen listed order stack rest visit list instances d in_range k
     let is_list : HasList graph visit.number list = read_at graph visit.number list (within graph top seen listed order stack rest visit k e) is in
     let next_lt : visit.followed < length list = subst (λ l. visit.followed < length l) same lt in
     let there : slice_get list visit.followed ≡ Some (get_or instances visit.followed d) = subst (λ l. slice_get l visit.followed ≡ Some (get_or instances visit.followed d)) same (slice_get-get_or instances visit.followed d lt) in
-    record { is_list = is_list; is_next = next_lt; there = there; below_in = in_range visit.number list visit.followed (get_or instances visit.followed d) is_list there }
+    record { is_list = is_list; is_next = next_lt; there = there; below_in = in_range visit.number (get_or instances visit.followed d) (record { numbers = list; are_below = is_list; place = visit.followed; is_there = there }) }
 
 -- what is read within the list does not depend on the default
 pub read_or : (bs : List Bool) (i : ℕ) (b : Bool) → i < length bs → b ≡ get_or bs i b → get_or bs i false ≡ b

@@ -8,4 +8,6 @@
 // IEEE 1364-2005, clause 12 (module instances).
 #![tactic(auto)]
 
+pub mod order;
 pub mod reach;
+pub mod recursion;
