@@ -1,4 +1,5 @@
 pub mod Back
+pub mod Building
 pub mod FactsAgree
 pub mod Forth
 pub mod Near

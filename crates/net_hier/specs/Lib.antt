@@ -1,3 +1,4 @@
+pub mod Build
 pub mod Cells
 pub mod Constants
 pub mod Design

@@ -9,12 +9,16 @@
 // (hierarchical structures), share.
 #![tactic(auto)]
 
+pub mod build;
 pub mod cells;
 pub mod constants;
+pub mod graph;
 pub mod hier;
 pub mod laws;
 pub mod nodes;
+pub mod units;
 
+pub use build::BuildFault;
 pub use cells::{HCell, HInst, HNet, HPort, HProp};
 pub use constants::{ConstName, Constants};
 pub use hier::Hier;
