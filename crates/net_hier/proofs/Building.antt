@@ -8,7 +8,7 @@ use Rattle.net_graph.proofs.Closing.{closing_reaches}
 use Rattle.net_graph.proofs.ListLaws.{element_there, same_element}
 use Rattle.net_hier.specs.Build.{IsOrderOf}
 use Rattle.net_hier.specs.Design.{IsCell, below_of, cells_below}
-use Rattle.net_hier.specs.Valid.{CellsFit, IsHier, count_limit}
+use Rattle.net_hier.specs.Valid.{CellsFit, Each, IsGoodCell, IsHier, count_limit}
 use Rattle.net_hier.specs.declared.cells.HCell.{HCell}
 use Rattle.net_hier.specs.declared.cells.HInst.{HInst}
 use Rattle.net_hier.specs.declared.cells.HProp.{HProp}
@@ -42,14 +42,28 @@ instance_of cell place inner there =
     let mapped : slice_get (below_of cell) place ≡ Some instance.cell = slice_get-map (λ i. i.cell) cell.instances place ∙ ap (option_map (λ i. i.cell)) is_there in
     record { instance = instance; is_there = is_there; is_of = same_element (below_of cell) place instance.cell inner mapped there }
 
+-- the cells of the instances of good cells are in the graph
+pub good_in_range : (cells : List HCell) → ((number : ℕ) (cell : HCell) → IsCell cells number cell → IsGoodCell cells cell) → IsInRange (cells_below cells)
+good_in_range cells good outer inner above =
+    let l : IsListOf cells outer above.numbers = list_of cells outer above.numbers above.are_below in
+    let there : slice_get (below_of l.cell) above.place ≡ Some inner = subst (λ ns. slice_get ns above.place ≡ Some inner) (sym l.are_below) above.is_there in
+    let i : IsInstanceOf l.cell above.place inner = instance_of l.cell above.place inner there in
+    let lt : i.instance.cell < length cells = (good outer l.cell l.is_cell).instances_in_range above.place i.instance i.is_there in
+    subst (λ n. inner < n) (sym (same_length cells)) (subst (λ m. m < length cells) i.is_of lt)
+
+-- the parts of what fits
+pub fit_of : (cells : List HCell) (top : ℕ) → length cells ≤ count_limit → top < length cells → Each (λ cell. (length cell.instances ≤ count_limit) × IsGoodCell cells cell) cells →
+    ((number : ℕ) → number < length cells → IsReached (cells_below cells) top number) → CellsFit cells top
+fit_of cells top few within each reached = record {
+  few_parts = record { few_cells = few; few_instances = λ number cell e. (each number cell e).0 };
+  has_top = within;
+  good_cells = λ number cell e. (each number cell e).1;
+  reached = reached;
+}
+
 module _ (cells : List HCell) (top : ℕ) (fit : CellsFit cells top) where
   pub in_range : IsInRange (cells_below cells)
-  in_range outer inner above =
-      let l : IsListOf cells outer above.numbers = list_of cells outer above.numbers above.are_below in
-      let there : slice_get (below_of l.cell) above.place ≡ Some inner = subst (λ ns. slice_get ns above.place ≡ Some inner) (sym l.are_below) above.is_there in
-      let i : IsInstanceOf l.cell above.place inner = instance_of l.cell above.place inner there in
-      let lt : i.instance.cell < length cells = (fit.good_cells outer l.cell l.is_cell).instances_in_range above.place i.instance i.is_there in
-      subst (λ n. inner < n) (sym (same_length cells)) (subst (λ m. m < length cells) i.is_of lt)
+  in_range = good_in_range cells fit.good_cells
 
   pub top_within : top < length (cells_below cells)
   top_within = subst (λ n. top < n) (sym (same_length cells)) fit.has_top

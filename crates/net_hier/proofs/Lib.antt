@@ -1,6 +1,7 @@
 pub mod Back
 pub mod Building
 pub mod FactsAgree
+pub mod Fitting
 pub mod Forth
 pub mod Near
 pub mod Pairs

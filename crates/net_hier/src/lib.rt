@@ -12,9 +12,11 @@
 pub mod build;
 pub mod cells;
 pub mod constants;
+pub mod fit;
 pub mod graph;
 pub mod hier;
 pub mod laws;
+pub mod names;
 pub mod nodes;
 pub mod units;
 
