@@ -1,5 +1,6 @@
 pub mod Back
 pub mod Building
+pub mod Example
 pub mod FactsAgree
 pub mod Fitting
 pub mod Forth
