@@ -52,8 +52,8 @@ is_next_gives [] graph number h = absurd (false≢true h)
 is_next_gives (mark ∷ marks) [] number h = absurd (false≢true h)
 is_next_gives (mark ∷ marks) (numbers ∷ graph) number h =
     elim (or_cases (mark && list_any (λ n. n == number) numbers) (is_next marks graph number) h) [
-      inl e ↦ (0, and_first mark _ e, and_second mark _ e)
-    | inr e ↦ (let r : (outer : ℕ) × (is_marked marks outer ≡ true) × (has_below graph outer number ≡ true) = is_next_gives marks graph number e in (suc r.0, r.1, r.2))
+      | inl e ↦ (0, and_first mark _ e, and_second mark _ e)
+      | inr e ↦ (let r : (outer : ℕ) × (is_marked marks outer ≡ true) × (has_below graph outer number ≡ true) = is_next_gives marks graph number e in (suc r.0, r.1, r.2))
     ]
 
 spread_marked : (graph : List (List ℕ)) (all : List Bool) (i : ℕ) (marks : List Bool) (k : ℕ) → k < length marks → is_marked (spread_from graph all i marks) k ≡ (is_marked marks k || is_next all graph (i + k))
@@ -152,9 +152,9 @@ module _ (graph : List (List ℕ)) (start : ℕ) where
       let marks = spread_times graph t (only_mark size start) in
       let within : k < length marks = subst (λ n. k < n) (length_spread graph marks 0 marks) (marked_within (spread graph marks) k h) in
       elim (or_cases (is_marked marks k) (is_next marks graph (0 + k)) (sym (spread_marked graph marks 0 marks k within) ∙ h)) [
-        inl e ↦ reachable_by t k e
-      | inr e ↦ (let r = is_next_gives marks graph (0 + k) e in
-          below (reachable_by t r.0 r.1) (subst (λ n. has_below graph r.0 n ≡ true) (let z : 0 + k ≡ k = omega arith in z) r.2))
+        | inl e ↦ reachable_by t k e
+        | inr e ↦ (let r = is_next_gives marks graph (0 + k) e in
+            below (reachable_by t r.0 r.1) (subst (λ n. has_below graph r.0 n ≡ true) (let z : 0 + k ≡ k = omega arith in z) r.2))
       ]
 
   -- what is marked is reachable
@@ -166,11 +166,11 @@ module _ (graph : List (List ℕ)) (start : ℕ) where
   marked-reachable within in_range k itself = times_keep graph (only_mark size start) size start (get_or-set_same (replicate size false) start true false (subst (λ n. start < n) (sym (length-replicate size false)) within))
   marked-reachable within in_range k (below {outer = outer} r b) =
       subst (λ marks. is_marked marks k ≡ true) marks_settled
-        (spread_adds graph (marks_of graph start) outer k (marked-reachable within in_range outer r) b (subst (λ n. k < n) (sym length_marks) (in_range outer k b)))
+      (spread_adds graph (marks_of graph start) outer k (marked-reachable within in_range outer r) b (subst (λ n. k < n) (sym length_marks) (in_range outer k b)))
 
   -- marks that are on just the reachable numbers are those marks
   pub marks_are : start < size → ((outer number : ℕ) → has_below graph outer number ≡ true → number < size) → (marks : List Bool) → length marks ≡ size
       → ((k : ℕ) → is_marked marks k ≡ true → IsReachable graph start k) → ((k : ℕ) → IsReachable graph start k → is_marked marks k ≡ true) → marks ≡ marks_of graph start
   marks_are within in_range marks long sound complete =
       ext_get_or false marks (marks_of graph start) (long ∙ sym length_marks)
-        (λ k h. same_bool (is_marked marks k) (is_marked (marks_of graph start) k) (λ e. marked-reachable within in_range k (sound k e)) (λ e. complete k (reachable-marked k e)))
+      (λ k h. same_bool (is_marked marks k) (is_marked (marks_of graph start) k) (λ e. marked-reachable within in_range k (sound k e)) (λ e. complete k (reachable-marked k e)))

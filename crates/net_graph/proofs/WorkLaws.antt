@@ -17,8 +17,8 @@ use Rattle.net_graph.proofs.WalkLaws.{linked_along, linked_by, linked_itself}
 has_push : (xs : List ℕ) (n k : ℕ) → has (xs ++ n ∷ []) k ≡ true → (has xs k ≡ true) ⊎ (n ≡ k)
 has_push xs n k h =
     elim (or_cases (has xs k) ((n == k) || false) (sym (list_any-append (λ m. m == k) xs (n ∷ [])) ∙ h)) [
-      inl e ↦ inl e
-    | inr e ↦ elim (or_cases (n == k) false e) [ inl d ↦ inr ((Decides-eqb n k).0 d) | inr d ↦ absurd (false≢true d) ]
+      | inl e ↦ inl e
+      | inr e ↦ elim (or_cases (n == k) false e) [ inl d ↦ inr ((Decides-eqb n k).0 d) | inr d ↦ absurd (false≢true d) ]
     ]
 
 push_has_old : (xs : List ℕ) (n k : ℕ) → has xs k ≡ true → has (xs ++ n ∷ []) k ≡ true
@@ -80,17 +80,17 @@ module _ (old : List Bool) (waiting numbers : List ℕ) (new : List Bool) (waits
         keeps = λ k h. set_keeps new n k (so_far.keeps k h);
         marks_all = λ k h. elim (has_push numbers n k h) [ inl e ↦ set_keeps new n k (so_far.marks_all k e) | inr e ↦ here k e ];
         marks_only = λ k h. elim (set_only new n k h) [
-          inl e ↦ elim (so_far.marks_only k e) [ inl d ↦ inl d | inr d ↦ inr (push_has_old numbers n k d) ]
-        | inr e ↦ inr (push_has_new numbers n k e)
+          | inl e ↦ elim (so_far.marks_only k e) [ inl d ↦ inl d | inr d ↦ inr (push_has_old numbers n k d) ]
+          | inr e ↦ inr (push_has_new numbers n k e)
         ];
         waits_on = λ k h. push_has_old waits n k (so_far.waits_on k h);
         waits_new = λ k h. elim (set_only new n k h) [
-          inl e ↦ elim (so_far.waits_new k e) [ inl d ↦ inl d | inr d ↦ inr (push_has_old waits n k d) ]
-        | inr e ↦ inr (push_has_new waits n k e)
+          | inl e ↦ elim (so_far.waits_new k e) [ inl d ↦ inl d | inr d ↦ inr (push_has_old waits n k d) ]
+          | inr e ↦ inr (push_has_new waits n k e)
         ];
         waits_only = λ k h. elim (has_push waits n k h) [
-          inl e ↦ elim (so_far.waits_only k e) [ inl d ↦ inl d | inr d ↦ inr (push_has_old numbers n k d) ]
-        | inr e ↦ inr (push_has_new numbers n k e)
+          | inl e ↦ elim (so_far.waits_only k e) [ inl d ↦ inl d | inr d ↦ inr (push_has_old numbers n k d) ]
+          | inr e ↦ inr (push_has_new numbers n k e)
         ];
         same_work = omega (arith, so_far.same_work, count-set new n within unknown, length-append waits (n ∷ []));
       }
@@ -106,7 +106,6 @@ pub mark_turn_new : (old : List Bool) (waiting numbers : List ℕ) (i d : ℕ) �
 mark_turn_new old waiting numbers i d within new waits so_far unknown fits =
     subst (λ ns. MarksNumbers old waiting ns (set new (get_or numbers i d) true) (waits ++ get_or numbers i d ∷ [])) (sym (take_more numbers i d within)) (marks_one_more old waiting (take i numbers) new waits so_far (get_or numbers i d) unknown fits)
 
-
 has_at : (xs : List ℕ) (place x : ℕ) → slice_get xs place ≡ Some x → has xs x ≡ true
 has_at [] place x e = absurd (cc)
 has_at (y ∷ xs) zero x e = let p : y ≡ x = cc in or_left (y == x) (has xs x) ((Decides-eqb y x).1 p)
@@ -118,9 +117,9 @@ has_read xs k d h = has_at xs k (get_or xs k d) (slice_get-get_or xs k d h)
 has_place : (xs : List ℕ) (x : ℕ) → has xs x ≡ true → (place : ℕ) × (slice_get xs place ≡ Some x)
 has_place [] x h = absurd (false≢true h)
 has_place (y ∷ xs) x h = elim (or_cases (y == x) (has xs x) h) [
-    inl e ↦ (0, ap Some ((Decides-eqb y x).0 e))
+  | inl e ↦ (0, ap Some ((Decides-eqb y x).0 e))
   | inr e ↦ (let r : (place : ℕ) × (slice_get xs place ≡ Some x) = has_place xs x e in (suc r.0, r.1))
-  ]
+]
 
 -- the two ways to say that a number stands below another
 pub above_has : (graph : List (List ℕ)) (outer inner : ℕ) → IsAbove graph outer inner → has_below graph outer inner ≡ true
@@ -166,14 +165,14 @@ module _ (graph : List (List ℕ)) (before : List Bool) (start : ℕ) where
         waits_marked = λ k h. elim (done.waits_only k h) [ inl e ↦ done.keeps k (under.waits_marked k (old k e)) | inr e ↦ done.marks_all k e ];
         waits_reached = λ k h. elim (done.waits_only k h) [ inl e ↦ under.waits_reached k (old k e) | inr e ↦ low k e ];
         closed = λ outer k h b. elim (done.waits_new outer h) [
-          inl e ↦ elim (under.closed outer k e b) [
-            inl d ↦ inl (done.keeps k d)
-          | inr d ↦ elim (has_push rest number outer (subst (λ ws. has ws outer ≡ true) taken d)) [
-              inl w ↦ inr (done.waits_on outer w)
-            | inr w ↦ inl (done.marks_all k (subst (λ ns. has ns k ≡ true) (sym are) (subst (λ o. has_below graph o k ≡ true) (sym w) b)))
+          | inl e ↦ elim (under.closed outer k e b) [
+            | inl d ↦ inl (done.keeps k d)
+            | inr d ↦ elim (has_push rest number outer (subst (λ ws. has ws outer ≡ true) taken d)) [
+              | inl w ↦ inr (done.waits_on outer w)
+              | inr w ↦ inl (done.marks_all k (subst (λ ns. has ns k ≡ true) (sym are) (subst (λ o. has_below graph o k ≡ true) (sym w) b)))
             ]
           ]
-        | inr e ↦ inr e
+          | inr e ↦ inr e
         ];
       }
 
@@ -226,8 +225,8 @@ module _ (graph : List (List ℕ)) (before : List Bool) (start : ℕ) where
         waits_marked = λ k h. subst (λ m. is_marked (set before start true) m ≡ true) (the_start k h) at_start;
         waits_reached = λ k h. subst (IsReachable graph start) (the_start k h) itself;
         closed = λ outer k h b. elim (set_only before start outer h) [
-          inl e ↦ inl (set_keeps before start k (closed outer k e (has_above graph outer k b)))
-        | inr e ↦ inr (push_has_new [] start outer e)
+          | inl e ↦ inl (set_keeps before start k (closed outer k e (has_above graph outer k b)))
+          | inr e ↦ inr (push_has_new [] start outer e)
         ];
       }
 
@@ -259,7 +258,7 @@ none_closed graph n outer inner h above = absurd (no_mark n outer h)
 pub reached_marks : (graph : List (List ℕ)) (start : ℕ) → start < length graph → IsInRange graph → (marks : List Bool) → length marks ≡ length graph → ((k : ℕ) → (is_marked marks k ≡ true) ↔ IsReached graph start k) → marks ≡ marks_of graph start
 reached_marks graph start within in_range marks long are =
     marks_are graph start within (λ outer number b. in_range outer number (has_above graph outer number b)) marks long
-      (λ k h. marked_by_reach graph start k ((are k).0 h)) (λ k h. (are k).1 (reached_by_marks graph start k h))
+    (λ k h. marked_by_reach graph start k ((are k).0 h)) (λ k h. (are k).1 (reached_by_marks graph start k h))
 
 pub under_along : (graph : List (List ℕ)) (before : List Bool) (start : ℕ) (marks made : List Bool) (waiting kept : List ℕ) → IsUnderWay graph before start marks waiting → made ≡ marks → kept ≡ waiting → IsUnderWay graph before start made kept
 under_along graph before start marks made waiting kept u e f =

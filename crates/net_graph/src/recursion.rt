@@ -14,11 +14,7 @@ pub struct Recursion {
 }
 
 // The first place in the number's list from which the number is reached, or nothing exactly where it does not reach itself.
-fn closing_place(
-    alloc: Global,
-    graph: &[Seq<u32>],
-    number: u32,
-) -> Result<Option<usize>, NoMemory>
+fn closing_place(alloc: Global, graph: &[Seq<u32>], number: u32) -> Result<Option<usize>, NoMemory>
     requires in_range { IsInRange graph.now }
     requires within { number < length graph.now }
     ensures { IfOk result (λ found. MatchOption found (¬ ReachesItself graph.now number) (λ place. IsClosing graph.now number place)) }
@@ -36,10 +32,7 @@ fn closing_place(
 
 /// The least number of the graph that reaches itself, and the first place in its list from which it is reached; nothing exactly
 /// where no number reaches itself.
-pub fn first_recursion(
-    alloc: Global,
-    graph: &[Seq<u32>],
-) -> Result<Option<Recursion>, NoMemory>
+pub fn first_recursion(alloc: Global, graph: &[Seq<u32>]) -> Result<Option<Recursion>, NoMemory>
     requires in_range { IsInRange graph.now }
     requires short { length graph.now < 2 ^ 32 }
     ensures { IfOk result (λ found. MatchOption found ((number : ℕ) → ¬ ReachesItself graph.now number) (λ recursion. IsFirstRecursion graph.now recursion.number recursion.place)) }

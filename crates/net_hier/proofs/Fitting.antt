@@ -65,7 +65,7 @@ module _ {A : Type 0} (name : A → List ℕ) (items : List A) where
   names_more i x names new h lt is fresh added =
       let there : slice_get items i ≡ Some x = slice_get_read items (length items) i x refl lt is in
       let clash : (place : ℕ) (item other : A) → place < i → slice_get items place ≡ Some item → slice_get items i ≡ Some other → ¬ (name item ≡ name other) = λ place item other plt e oe same.
-        (let f : other ≡ x = same_element items i other x oe there in fresh place (kept_name i place names item h.are plt e ∙ ap Some (same ∙ ap name f))) in
+      (let f : other ≡ x = same_element items i other x oe there in fresh place (kept_name i place names item h.are plt e ∙ ap Some (same ∙ ap name f))) in
       record {
         are = added ∙ (ap (λ ns. ns ++ name x ∷ []) h.are ∙ (sym (map-append name (take i items) (x ∷ [])) ∙ ap (map name) (ap (λ y. take i items ++ y ∷ []) is ∙ sym (take_more items i x lt))));
         own = λ place oplace item oitem plt olt e oe same. elim (lt_or_is place i plt) [

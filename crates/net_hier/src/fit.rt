@@ -47,7 +47,11 @@ fn node_fits(cells: &[HCell], cell: &HCell, node: &Node) -> bool
 {
     match *node {
         Node::Port { port, bit } => port_bit_fits(cell, port, bit),
-        Node::Pin { instance, port, bit } => pin_bit_fits(cells, cell, instance, port, bit),
+        Node::Pin {
+            instance,
+            port,
+            bit,
+        } => pin_bit_fits(cells, cell, instance, port, bit),
         Node::Net(net) => (net as usize) < cell.nets.len(),
         Node::Zero | Node::One => true,
     }

@@ -23,5 +23,9 @@ pub mod units;
 pub use build::BuildFault;
 pub use cells::{HCell, HInst, HNet, HPort, HProp};
 pub use constants::{ConstName, Constants};
+pub use fit::cells_fit;
 pub use hier::Hier;
 pub use nodes::{Join, Node};
+
+#[cfg(test)]
+mod tests;

@@ -130,8 +130,8 @@ returns-then-not-index-2 c =
     record {
       order = (
         c.in-Some.visit.number,
-      keeps_closes c.args.graph.now c.args.start c.requires.in_range c.loop-visit.seen.items c.loop-visit.listed.items c.loop-visit.order.items c.loop-visit.stack.items c.pop.new.self.items c.in-Some.visit c.index-graph-visit.result
-          (get_or c.items-numbers.result.now c.in-Some.visit.followed 0) e t.is_list t.there is_seen not_listed c.loop-visit.invariant,
+        keeps_closes c.args.graph.now c.args.start c.requires.in_range c.loop-visit.seen.items c.loop-visit.listed.items c.loop-visit.order.items c.loop-visit.stack.items c.pop.new.self.items c.in-Some.visit c.index-graph-visit.result
+            (get_or c.items-numbers.result.now c.in-Some.visit.followed 0) e t.is_list t.there is_seen not_listed c.loop-visit.invariant,
       );
       free = λ some. let e : false ≡ true = some in absurd (cc);
     }
@@ -140,5 +140,5 @@ pub returns-clause-free : goal.returns-clause-free
 returns-clause-free c some =
     let none : c.loop-visit.stack.items ≡ [] = empty_list c.loop-visit.stack.items (omega (arith, c.in_default.ensures.cases, c.loop-visit.stack.ok.0)) in
     let last : Keeps c.args.graph.now c.args.start c.loop-visit.seen.items c.loop-visit.listed.items c.loop-visit.order.items [] =
-      subst (λ stack. Keeps c.args.graph.now c.args.start c.loop-visit.seen.items c.loop-visit.listed.items c.loop-visit.order.items stack) none c.loop-visit.invariant in
+    subst (λ stack. Keeps c.args.graph.now c.args.start c.loop-visit.seen.items c.loop-visit.listed.items c.loop-visit.order.items stack) none c.loop-visit.invariant in
     postorder_free c.args.graph.now c.args.start c.loop-visit.order.items (keeps_last c.args.graph.now c.args.start c.requires.in_range c.loop-visit.seen.items c.loop-visit.listed.items c.loop-visit.order.items last)

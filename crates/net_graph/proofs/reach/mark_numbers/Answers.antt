@@ -12,10 +12,10 @@ loop-number-preserved c =
     let fits : get_or c.args.numbers.now i 0 < length c.loop-number.marks.items = omega (arith, c.requires i 0 within, c.loop-number.invariant.long, c.args.marks.now.ok.0) in
     let read : c.index.result.now ≡ is_marked c.loop-number.marks.items (get_or c.args.numbers.now i 0) = get_or_read c.loop-number.marks.items _ _ fits c.index.ensures false in
     elim c.if-not-index.branch [
-      then-not-index+in-Ok w ↦ marks_along _ _ _ _ _ _ _
-        (mark_turn_new c.args.marks.now.items c.args.waiting.now.items c.args.numbers.now i 0 within c.loop-number.marks.items c.loop-number.waiting.items c.loop-number.invariant (sym read ∙ w.if-not-index.true) fits)
-        (ap (λ v. v.items) w.marks-is) (ap (λ v. v.items) w.waiting-is ∙ w.in-Ok.ensures.items)
-    | else-not-index w ↦ marks_along _ _ _ _ _ _ _
-        (mark_turn_known c.args.marks.now.items c.args.waiting.now.items c.args.numbers.now i 0 within c.loop-number.marks.items c.loop-number.waiting.items c.loop-number.invariant (sym read ∙ w.if-not-index.false))
-        (ap (λ v. v.items) w.marks-is) (ap (λ v. v.items) w.waiting-is)
+      | then-not-index+in-Ok w ↦ marks_along _ _ _ _ _ _ _
+          (mark_turn_new c.args.marks.now.items c.args.waiting.now.items c.args.numbers.now i 0 within c.loop-number.marks.items c.loop-number.waiting.items c.loop-number.invariant (sym read ∙ w.if-not-index.true) fits)
+          (ap (λ v. v.items) w.marks-is) (ap (λ v. v.items) w.waiting-is ∙ w.in-Ok.ensures.items)
+      | else-not-index w ↦ marks_along _ _ _ _ _ _ _
+          (mark_turn_known c.args.marks.now.items c.args.waiting.now.items c.args.numbers.now i 0 within c.loop-number.marks.items c.loop-number.waiting.items c.loop-number.invariant (sym read ∙ w.if-not-index.false))
+          (ap (λ v. v.items) w.marks-is) (ap (λ v. v.items) w.waiting-is)
     ]

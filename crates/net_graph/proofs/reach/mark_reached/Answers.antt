@@ -12,12 +12,12 @@ loop-number-init c =
     let fits : c.args.start < length c.args.marks.now.items = omega (arith, long, c.requires.within) in
     let read : c.index.result.now ≡ is_marked c.args.marks.now.items c.args.start = get_or_read c.args.marks.now.items _ _ fits c.index.ensures false in
     elim c.if-not-index.branch [
-      then-not-index+in_ok-push w ↦ under_along _ _ _ _ _ _ _
-        (work_start_new c.args.graph.now c.args.marks.now.items c.args.start long c.requires.closed c.requires.within)
-        (ap (λ v. v.items) w.marks-is) (ap (λ v. v.items) w.waiting-is ∙ (w.in_ok-push.ensures.items ∙ ap (λ ws. ws ++ c.args.start ∷ []) c.new-waiting.ensures.items))
-    | else-not-index w ↦ under_along _ _ _ _ _ _ _
-        (work_start_known c.args.graph.now c.args.marks.now.items c.args.start long c.requires.closed (sym read ∙ w.if-not-index.false))
-        (ap (λ v. v.items) w.marks-is) (ap (λ v. v.items) w.waiting-is ∙ c.new-waiting.ensures.items)
+      | then-not-index+in_ok-push w ↦ under_along _ _ _ _ _ _ _
+          (work_start_new c.args.graph.now c.args.marks.now.items c.args.start long c.requires.closed c.requires.within)
+          (ap (λ v. v.items) w.marks-is) (ap (λ v. v.items) w.waiting-is ∙ (w.in_ok-push.ensures.items ∙ ap (λ ws. ws ++ c.args.start ∷ []) c.new-waiting.ensures.items))
+      | else-not-index w ↦ under_along _ _ _ _ _ _ _
+          (work_start_known c.args.graph.now c.args.marks.now.items c.args.start long c.requires.closed (sym read ∙ w.if-not-index.false))
+          (ap (λ v. v.items) w.marks-is) (ap (λ v. v.items) w.waiting-is ∙ c.new-waiting.ensures.items)
     ]
 
 pub bounds-graph-number : goal.bounds-graph-number
@@ -27,8 +27,8 @@ pub mark_numbers-requires : goal.mark_numbers-requires
 mark_numbers-requires c k d h =
     let b : c.in-Some.number < length c.args.graph.now = work_bound _ _ _ _ _ _ _ c.loop-number.invariant c.in-Some.ensures.items in
     let r : get_or c.items.result.now k d < length c.loop-number.marks.items =
-      work_fits c.args.graph.now c.args.marks.now.items c.args.start c.loop-number.marks.items c.loop-number.waiting.items c.loop-number.invariant c.requires.in_range c.in-Some.number c.items.result.now
-        (c.items.ensures ∙ below_at c.args.graph.now c.in-Some.number c.index-graph-number.result b c.index-graph-number.is) k d h in
+    work_fits c.args.graph.now c.args.marks.now.items c.args.start c.loop-number.marks.items c.loop-number.waiting.items c.loop-number.invariant c.requires.in_range c.in-Some.number c.items.result.now
+    (c.items.ensures ∙ below_at c.args.graph.now c.in-Some.number c.index-graph-number.result b c.index-graph-number.is) k d h in
     omega (arith, r, c.loop-number.marks.ok.0)
 
 pub loop-number-smaller : goal.loop-number-smaller
@@ -39,7 +39,7 @@ pub loop-number-preserved : goal.loop-number-preserved
 loop-number-preserved c =
     let b : c.in-Some.number < length c.args.graph.now = work_bound _ _ _ _ _ _ _ c.loop-number.invariant c.in-Some.ensures.items in
     work_turn c.args.graph.now c.args.marks.now.items c.args.start c.loop-number.marks.items c.mark_numbers.new.marks.items c.loop-number.waiting.items c.pop.new.self.items c.mark_numbers.new.waiting.items c.items.result.now c.in-Some.number c.loop-number.invariant c.in-Some.ensures.items
-      (c.items.ensures ∙ below_at c.args.graph.now c.in-Some.number c.index-graph-number.result b c.index-graph-number.is) c.in_ok-mark_numbers.ensures
+    (c.items.ensures ∙ below_at c.args.graph.now c.in-Some.number c.index-graph-number.result b c.index-graph-number.is) c.in_ok-mark_numbers.ensures
 
 pub returns-clause-closed : goal.returns-clause-closed
 returns-clause-closed c =

@@ -11,7 +11,7 @@ pub mark_reached-requires-clause-within : goal.mark_reached-requires-clause-with
 mark_reached-requires-clause-within c =
     let has_list : HasList c.args.graph.now c.args.number c.items-numbers.result.now = read_there c.args.graph.now c.args.number _ _ c.requires.within c.index-graph-number.is c.items-numbers.ensures in
     c.requires.in_range c.args.number (get_or c.items-numbers.result.now c.loop-place.place 0)
-      (record { numbers = c.items-numbers.result.now; are_below = has_list; place = c.loop-place.place; is_there = slice_get-get_or c.items-numbers.result.now c.loop-place.place 0 c.loop-place-test.true })
+    (record { numbers = c.items-numbers.result.now; are_below = has_list; place = c.loop-place.place; is_there = slice_get-get_or c.items-numbers.result.now c.loop-place.place 0 c.loop-place-test.true })
 
 pub returns-then-index : goal.returns-then-index
 returns-then-index c =

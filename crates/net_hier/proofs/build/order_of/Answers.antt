@@ -24,7 +24,7 @@ pub returns-then-units-gt-UNIT_LIMIT : goal.returns-then-units-gt-UNIT_LIMIT
 returns-then-units-gt-UNIT_LIMIT c =
     let is_graph : c.as_slice.result.now ≡ cells_below c.args.cells.now = c.as_slice.ensures.value ∙ c.in_ok-graph.ensures in
     let free : (number : ℕ) → IsReached (cells_below c.args.cells.now) c.args.top number → ¬ ReachesItself (cells_below c.args.cells.now) number =
-      subst (λ graph. (number : ℕ) → IsReached graph c.args.top number → ¬ ReachesItself graph number) is_graph (c.in_ok-order.ensures.free (some_is _ _ c.in-Some.is)) in
+    subst (λ graph. (number : ℕ) → IsReached graph c.args.top number → ¬ ReachesItself graph number) is_graph (c.in_ok-order.ensures.free (some_is _ _ c.in-Some.is)) in
     record {
       no_recursion = none_reaches c.args.cells.now c.args.top c.requires free;
       is_count = c.units_of-units.ensures;
@@ -35,7 +35,7 @@ pub returns : goal.returns
 returns c =
     let is_graph : c.as_slice.result.now ≡ cells_below c.args.cells.now = c.as_slice.ensures.value ∙ c.in_ok-graph.ensures in
     let free : (number : ℕ) → IsReached (cells_below c.args.cells.now) c.args.top number → ¬ ReachesItself (cells_below c.args.cells.now) number =
-      subst (λ graph. (number : ℕ) → IsReached graph c.args.top number → ¬ ReachesItself graph number) is_graph (c.in_ok-order.ensures.free (some_is _ _ c.in-Some.is)) in
+    subst (λ graph. (number : ℕ) → IsReached graph c.args.top number → ¬ ReachesItself graph number) is_graph (c.in_ok-order.ensures.free (some_is _ _ c.in-Some.is)) in
     let listed : IsPostorder c.as_slice.result.now c.args.top c.in-Some.order.items = said_of_some c.in_ok-order.field-0 _ _ c.in-Some.order c.in-Some.is c.in_ok-order.ensures.order in
     record {
       no_recursion = none_reaches c.args.cells.now c.args.top c.requires free;

@@ -11,6 +11,6 @@ all_reached-requires-clause-in_range c = good_in_range c.items-cells.result.now 
 pub returns : goal.returns
 returns c = (
   (λ found. subst (λ cells. CellsFit cells c.args.top) c.items-cells.ensures
-    (fit_of c.items-cells.result.now c.args.top (omega (arith, c.if-cells-gt-COUNT_LIMIT.false)) (omega (arith, c.if-top-cells.false)) (c.in_ok-each_cell_fits.ensures.0 c.if-not-branch.false) (c.in_ok-reached.ensures.0 found))),
+      (fit_of c.items-cells.result.now c.args.top (omega (arith, c.if-cells-gt-COUNT_LIMIT.false)) (omega (arith, c.if-top-cells.false)) (c.in_ok-each_cell_fits.ensures.0 c.if-not-branch.false) (c.in_ok-reached.ensures.0 found))),
   (λ fit. c.in_ok-reached.ensures.1 (subst (λ cells. CellsFit cells c.args.top) (sym c.items-cells.ensures) fit).reached),
 )

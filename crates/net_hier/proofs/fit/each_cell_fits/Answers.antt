@@ -6,7 +6,7 @@ use Rattle.net_hier.proofs.fit.each_cell_fits.Goals as goal
 pub loop-cell-preserved : goal.loop-cell-preserved
 loop-cell-preserved c =
     holds_more (λ cell. (length cell.instances ≤ count_limit) × IsGoodCell c.args.cells.now cell) c.args.cells.now c.loop-cell.cell-index c.cell-item.result c.loop-cell.invariant c.loop-cell-test.true c.cell-item.is
-      (c.in_ok-cell_fits.ensures.0 c.if-not-branch.false)
+    (c.in_ok-cell_fits.ensures.0 c.if-not-branch.false)
 
 pub returns : goal.returns
 returns c = (
