@@ -1,1 +1,7 @@
+pub mod Closing
+pub mod ListLaws
+pub mod MarkLaws
+pub mod OrderLaws
 pub mod WalkLaws
+pub mod Walking
+pub mod WorkLaws

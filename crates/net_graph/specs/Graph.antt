@@ -2,10 +2,14 @@
 use Rattle.std.specs.Prelude.{◌≡◌, ℕ, ◌<◌, List, [], ◌∷◌, ◌++◌, length, slice_get, Some, Contains}
 use Rattle.net_graph.specs.Walks.{IsLinked}
 
+-- these are the numbers below the number
+abbrev pub HasList : List (List ℕ) → ℕ → List ℕ → Type 0
+HasList graph number numbers = slice_get graph number ≡ Some numbers
+
 -- the inner number stands in the list of the outer one
 pub record IsAbove (graph : List (List ℕ)) (outer inner : ℕ) : Type 0 where
   pub numbers : List ℕ
-  pub are_below : slice_get graph outer ≡ Some numbers
+  pub are_below : HasList graph outer numbers
   pub place : ℕ
   pub is_there : slice_get numbers place ≡ Some inner
 
@@ -27,7 +31,7 @@ mutual
   -- the depth-first walk comes to the number after it has listed the numbers before, and has listed those after when it leaves it: it follows the list of the number in order, and lists each number once, after those below it
   pub data Visits (graph : List (List ℕ)) : List ℕ → ℕ → List ℕ → Type 0 where
     again : {before : List ℕ} {number : ℕ} → Contains before number → Visits graph before number before
-    first : {before middle : List ℕ} {number : ℕ} {numbers : List ℕ} → ¬ Contains before number → slice_get graph number ≡ Some numbers →
+    first : {before middle : List ℕ} {number : ℕ} {numbers : List ℕ} → ¬ Contains before number → HasList graph number numbers →
         VisitsEach graph before numbers middle → Visits graph before number (middle ++ number ∷ [])
 
   pub data VisitsEach (graph : List (List ℕ)) : List ℕ → List ℕ → List ℕ → Type 0 where
@@ -38,13 +42,16 @@ mutual
 abbrev pub IsPostorder : List (List ℕ) → ℕ → List ℕ → Type 0
 IsPostorder graph start order = Visits graph [] start order
 
--- the least number that reaches itself, and the first place in its list of a number from which it is reached
-pub record IsFirstRecursion (graph : List (List ℕ)) (number place : ℕ) : Type 0 where
-  pub reaches : ReachesItself graph number
-  pub first_number : (earlier : ℕ) → earlier < number → ¬ ReachesItself graph earlier
+-- the first place in the number's list of a number from which it is reached
+pub record IsClosing (graph : List (List ℕ)) (number place : ℕ) : Type 0 where
   pub numbers : List ℕ
-  pub are_below : slice_get graph number ≡ Some numbers
+  pub are_below : HasList graph number numbers
   pub inner : ℕ
   pub is_there : slice_get numbers place ≡ Some inner
   pub closes : IsReached graph inner number
   pub first_place : (earlier other : ℕ) → earlier < place → slice_get numbers earlier ≡ Some other → ¬ IsReached graph other number
+
+-- the least number that reaches itself, and its closing place
+pub record IsFirstRecursion (graph : List (List ℕ)) (number place : ℕ) : Type 0 where
+  pub closing : IsClosing graph number place
+  pub first_number : (earlier : ℕ) → earlier < number → ¬ ReachesItself graph earlier

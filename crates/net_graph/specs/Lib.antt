@@ -1,2 +1,4 @@
 pub mod Graph
+pub mod Marks
 pub mod Walks
+pub mod WorkList

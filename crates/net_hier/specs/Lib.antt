@@ -1,6 +1,8 @@
+pub mod Build
 pub mod Cells
 pub mod Constants
 pub mod Design
+pub mod Example
 pub mod Facts
 pub mod Flat
 pub mod FlatCount

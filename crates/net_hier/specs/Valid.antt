@@ -18,14 +18,29 @@ IsNode cells cell (Net net) = net < length cell.nets
 IsNode cells cell Zero = Unit {0}
 IsNode cells cell One = Unit {0}
 
--- what holds of each cell of a design
+-- the fact holds of each item
+abbrev pub Each : {A : Type 0} → (A → Type 0) → List A → Type 0
+Each {A = A} Holds items = (place : ℕ) (item : A) → slice_get items place ≡ Some item → Holds item
+
+-- no two items have one name
+abbrev pub HaveOwnNames : {A : Type 0} → (A → List ℕ) → List A → Type 0
+HaveOwnNames {A = A} name items = (place oplace : ℕ) (item oitem : A) → slice_get items place ≡ Some item → slice_get items oplace ≡ Some oitem → name item ≡ name oitem → place ≡ oplace
+
+-- the two nodes of a join are the cell's
+abbrev pub IsJoinOf : List HCell → HCell → Join → Type 0
+IsJoinOf cells cell join = IsNode cells cell join.a × IsNode cells cell join.b
+
+-- a port of 1 to 65,536 bits
+abbrev pub IsPortWidth : HPort → Type 0
+IsPortWidth port = (1 ≤ width_of port.range) × (width_of port.range ≤ 65536)
+
+-- what holds of each cell of a design: numbers are in range, port names differ, instance names differ, and each width is 1 to 65,536
 pub record IsGoodCell (cells : List HCell) (cell : HCell) : Type 0 where
-  pub instances_in_range : (place : ℕ) (instance : HInst) → slice_get cell.instances place ≡ Some instance → instance.cell < length cells
-  pub joins_in_range : (join : Join) → Contains cell.joins join → IsNode cells cell join.a × IsNode cells cell join.b
-  pub port_names : (place oplace : ℕ) (port oport : HPort) → slice_get cell.ports place ≡ Some port → slice_get cell.ports oplace ≡ Some oport → port.name ≡ oport.name → place ≡ oplace
-  pub instance_names : (place oplace : ℕ) (instance oinstance : HInst) → slice_get cell.instances place ≡ Some instance → slice_get cell.instances oplace ≡ Some oinstance →
-      instance.name ≡ oinstance.name → place ≡ oplace
-  pub widths : All (λ port. (1 ≤ width_of port.range) × (width_of port.range ≤ 65536)) cell.ports
+  pub instances_in_range : Each (λ instance. instance.cell < length cells) cell.instances
+  pub joins_in_range : Each (IsJoinOf cells cell) cell.joins
+  pub port_names : HaveOwnNames (λ port. port.name) cell.ports
+  pub instance_names : HaveOwnNames (λ instance. instance.name) cell.instances
+  pub widths : Each IsPortWidth cell.ports
 
 -- the conditions of a design, but for the limits on its size
 pub record IsValid (design : Design) : Type 0 where

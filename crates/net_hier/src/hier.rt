@@ -1,9 +1,12 @@
 // The design.
-ghost use Rattle.std.specs.Prelude.{◌≡◌};
-ghost use Rattle.net_hier.specs.Valid.{IsHier};
+ghost use Rattle.std.specs.Prelude.{◌≡◌, MatchResult};
+ghost use Rattle.net_hier.specs.Build.{IsBuilt, IsFaultOf};
+ghost use Rattle.net_hier.specs.Valid.{CellsFit, IsHier};
 
+use crate::build::{BuildFault, order_of};
 use crate::cells::{HCell, HProp};
 use nl_base::Seq;
+use std::alloc::Global;
 use std::marker::Model;
 
 /// A hierarchical design: its cells in file order, the number of its top cell, its own properties, and the order in which each
@@ -30,6 +33,25 @@ impl Model for Hier {
 }
 
 impl Hier {
+    /// The design of these cells, this top and these properties, where no cell reaches itself and the units are at most 33,554,432.
+    pub fn build(
+        alloc: Global,
+        cells: Seq<HCell>,
+        top: u32,
+        props: Seq<HProp>,
+    ) -> Result<Hier, BuildFault>
+        requires { CellsFit cells top }
+        ensures { MatchResult result (IsBuilt cells top props) (IsFaultOf cells) }
+    {
+        let order = order_of(alloc, cells.items(), top)?;
+        Ok(Hier {
+            cells,
+            top,
+            props,
+            order,
+        })
+    }
+
     /// The cells in file order.
     pub fn cells(&self) -> &[HCell]
         ensures cells { result.now ≡ self.now.cells }

@@ -9,12 +9,23 @@
 // (hierarchical structures), share.
 #![tactic(auto)]
 
+pub mod build;
 pub mod cells;
 pub mod constants;
+pub mod fit;
+pub mod graph;
 pub mod hier;
+pub mod laws;
+pub mod names;
 pub mod nodes;
+pub mod units;
 
+pub use build::BuildFault;
 pub use cells::{HCell, HInst, HNet, HPort, HProp};
 pub use constants::{ConstName, Constants};
+pub use fit::cells_fit;
 pub use hier::Hier;
 pub use nodes::{Join, Node};
+
+#[cfg(test)]
+mod tests;

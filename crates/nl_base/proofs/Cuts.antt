@@ -4,31 +4,26 @@ use Rattle.std.proofs.lemmas.Bool.{eqb-true}
 use Rattle.std.proofs.lemmas.List.{take-append-drop}
 use Rattle.std.proofs.Math.Seq.{take-length}
 use Rattle.std.proofs.lemmas.Option.{get_or_from_slice_get}
-use Rattle.std.specs.List.{AllByRecursion}
 use Rattle.std.specs.Option.{option_and_then}
-use Rattle.nl_base.specs.RangeForm.{cut_at_first, cut_at_last, cut_at_end}
+use Rattle.nl_base.specs.RangeForm.{IsFreeOf, cut_at_first, cut_at_last, cut_at_end}
 
--- no byte of this value
-abbrev pub Free : ℕ → List ℕ → Type 0
-Free byte bytes = AllByRecursion (λ b. (b == byte) ≡ false) bytes
-
-pub free-append : (byte : ℕ) (xs ys : List ℕ) → Free byte xs → Free byte ys → Free byte (xs ++ ys)
+pub free-append : (byte : ℕ) (xs ys : List ℕ) → IsFreeOf byte xs → IsFreeOf byte ys → IsFreeOf byte (xs ++ ys)
 free-append byte [] ys h k = k
 free-append byte (x ∷ xs) ys h k = (h.0, free-append byte xs ys h.1 k)
 
-pub cut_first-none : (byte : ℕ) (xs : List ℕ) → Free byte xs → cut_at_first byte xs ≡ None
+pub cut_first-none : (byte : ℕ) (xs : List ℕ) → IsFreeOf byte xs → cut_at_first byte xs ≡ None
 cut_first-none byte [] h = refl
 cut_first-none byte (x ∷ xs) h = rw (h.0, cut_first-none byte xs h.1) refl
 
-pub cut_first-at : (byte : ℕ) (before after : List ℕ) → Free byte before → cut_at_first byte (before ++ byte ∷ after) ≡ Some (before, after)
+pub cut_first-at : (byte : ℕ) (before after : List ℕ) → IsFreeOf byte before → cut_at_first byte (before ++ byte ∷ after) ≡ Some (before, after)
 cut_first-at byte [] after h = rw (eq-eqb byte byte refl) refl
 cut_first-at byte (x ∷ xs) after h = rw (h.0, cut_first-at byte xs after h.1) refl
 
-pub cut_last-none : (byte : ℕ) (xs : List ℕ) → Free byte xs → cut_at_last byte xs ≡ None
+pub cut_last-none : (byte : ℕ) (xs : List ℕ) → IsFreeOf byte xs → cut_at_last byte xs ≡ None
 cut_last-none byte [] h = refl
 cut_last-none byte (x ∷ xs) h = rw (cut_last-none byte xs h.1, h.0) refl
 
-pub cut_last-at : (byte : ℕ) (before after : List ℕ) → Free byte after → cut_at_last byte (before ++ byte ∷ after) ≡ Some (before, after)
+pub cut_last-at : (byte : ℕ) (before after : List ℕ) → IsFreeOf byte after → cut_at_last byte (before ++ byte ∷ after) ≡ Some (before, after)
 cut_last-at byte [] after h = rw (cut_last-none byte after h, eq-eqb byte byte refl) refl
 cut_last-at byte (x ∷ xs) after h = rw (cut_last-at byte xs after h) refl
 
@@ -48,13 +43,13 @@ rest_of xs at =
     rw one (rw (sym (length-drop (suc at) xs)) (sym (take-length (drop (suc at) xs))))
 
 -- a place where a byte stands first, or last, is where the bytes are cut
-pub cut_first-place : (byte : ℕ) (xs : List ℕ) (at : ℕ) → at < length xs → slice_get xs at ≡ Some byte → Free byte (take at xs)
+pub cut_first-place : (byte : ℕ) (xs : List ℕ) (at : ℕ) → at < length xs → slice_get xs at ≡ Some byte → IsFreeOf byte (take at xs)
     → cut_at_first byte xs ≡ Some (take at xs, take (length xs - (at + 1)) (drop (at + 1) xs))
 cut_first-place byte xs at within e free =
     let cut = cut_first-at byte (take at xs) (drop (suc at) xs) free in
     subst (λ ys. cut_at_first byte xs ≡ Some (take at xs, ys)) (rest_of xs at) (subst (λ ys. cut_at_first byte ys ≡ Some (take at xs, drop (suc at) xs)) (around byte xs at within e) cut)
 
-pub cut_last-place : (byte : ℕ) (xs : List ℕ) (at : ℕ) → at < length xs → slice_get xs at ≡ Some byte → Free byte (drop (at + 1) xs)
+pub cut_last-place : (byte : ℕ) (xs : List ℕ) (at : ℕ) → at < length xs → slice_get xs at ≡ Some byte → IsFreeOf byte (drop (at + 1) xs)
     → cut_at_last byte xs ≡ Some (take at xs, take (length xs - (at + 1)) (drop (at + 1) xs))
 cut_last-place byte xs at within e free =
     let one : at + 1 ≡ suc at = omega arith in

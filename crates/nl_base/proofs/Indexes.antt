@@ -16,8 +16,8 @@ use Rattle.std.specs.Int.Signed.{mag}
 use Rattle.std.proofs.lemmas.Fmt.{IsAscii-signed, parse-signed_decimal}
 use Rattle.std.proofs.lemmas.Str.{IsUtf8-from_ascii}
 use Rattle.std.proofs.lemmas.Int.{fits_signed_from_abs}
-use Rattle.nl_base.specs.RangeForm.{spelled_index}
-use Rattle.nl_base.proofs.Cuts.{Free, free-append}
+use Rattle.nl_base.specs.RangeForm.{IsFreeOf, spelled_index}
+use Rattle.nl_base.proofs.Cuts.{free-append}
 
 -- the number that a decimal text spells
 number-decimal : (n : ℕ) → n < 2 ^ 64 → signed_digits_value 10 (decimal n) ≡ pos n
@@ -97,9 +97,9 @@ spelled_index-no_parse {E} bytes fault h = spelled_index-none bytes (λ z small 
     absurd cc)
 
 -- decimal texts have no byte other than `-` and the digits
-pub free-decimal : (byte : ℕ) → ((d : ℕ) → d < 10 → (48 + d == byte) ≡ false) → (n : ℕ) → n < 2 ^ 64 → Free byte (decimal n)
-free-decimal byte far = decimal_by_steps (λ n ds. Free byte ds) (λ n small. (far n small, tt)) (λ n ds big h. free-append byte ds _ h (far (n % 10) (mod_below n 10 (omega arith)), tt))
+pub free-decimal : (byte : ℕ) → ((d : ℕ) → d < 10 → (48 + d == byte) ≡ false) → (n : ℕ) → n < 2 ^ 64 → IsFreeOf byte (decimal n)
+free-decimal byte far = decimal_by_steps (λ n ds. IsFreeOf byte ds) (λ n small. (far n small, tt)) (λ n ds big h. free-append byte ds _ h (far (n % 10) (mod_below n 10 (omega arith)), tt))
 
-pub free-signed_decimal : (byte : ℕ) → ((d : ℕ) → d < 10 → (48 + d == byte) ≡ false) → (45 == byte) ≡ false → (z : ℤ) → nat_abs z < 2 ^ 64 → Free byte (signed_decimal z)
+pub free-signed_decimal : (byte : ℕ) → ((d : ℕ) → d < 10 → (48 + d == byte) ≡ false) → (45 == byte) ≡ false → (z : ℤ) → nat_abs z < 2 ^ 64 → IsFreeOf byte (signed_decimal z)
 free-signed_decimal byte far minus (pos n) small = free-decimal byte far n small
 free-signed_decimal byte far minus (negsuc n) small = (minus, free-decimal byte far (suc n) small)

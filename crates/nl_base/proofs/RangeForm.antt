@@ -6,8 +6,8 @@ use Rattle.std.specs.Fmt.{signed_decimal}
 use Rattle.std.proofs.lemmas.Bool.{ne_eqb, eqb-true}
 use Rattle.std.proofs.Math.Seq.{take-append_seam}
 use Rattle.nl_base.specs.Ranges.{Bounds, Bracket, square, angle, round, opening, closing, bracketed, range_bits, HasRangeForm, HasNoRangeForm}
-use Rattle.nl_base.specs.RangeForm.{cut_at_first, cut_at_last, cut_at_end, opening_of, opened_range, range_form, sized_range, spelled_index, spelled_range}
-use Rattle.nl_base.proofs.Cuts.{Free, free-append, cut_first-at, cut_last-at, cut_end-at, cut_first-is, cut_last-is, cut_end-is, option_and_then-Some, option_map-Some}
+use Rattle.nl_base.specs.RangeForm.{IsFreeOf, cut_at_first, cut_at_last, cut_at_end, opening_of, opened_range, range_form, sized_range, spelled_index, spelled_range}
+use Rattle.nl_base.proofs.Cuts.{free-append, cut_first-at, cut_last-at, cut_end-at, cut_first-is, cut_last-is, cut_end-is, option_and_then-Some, option_map-Some}
 use Rattle.nl_base.proofs.Indexes.{free-signed_decimal, spelled_index-signed_decimal, spelled_index-is}
 
 opening_of-closing : (k : Bracket) → opening_of (closing k) ≡ Some (opening k)
@@ -51,7 +51,7 @@ wide z small = omega (arith, small)
 abbrev inside : Bounds → List ℕ
 inside range = signed_decimal range.left ++ 58 ∷ signed_decimal range.right
 
-inside_has_no_bracket : (k : Bracket) (range : Bounds) → nat_abs range.left < 2 ^ 31 → nat_abs range.right < 2 ^ 31 → Free (opening k) (inside range)
+inside_has_no_bracket : (k : Bracket) (range : Bounds) → nat_abs range.left < 2 ^ 31 → nat_abs range.right < 2 ^ 31 → IsFreeOf (opening k) (inside range)
 inside_has_no_bracket k range left right =
     let free = free-signed_decimal (opening k) (digit_is_no_bracket k) (minus_is_no_bracket k) in
     free-append (opening k) (signed_decimal range.left) (58 ∷ signed_decimal range.right) (free range.left (wide range.left left)) (colon_is_no_bracket k, free range.right (wide range.right right))

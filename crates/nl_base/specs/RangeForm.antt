@@ -1,5 +1,6 @@
 -- The range form as a function, for definitions that compute: it answers the base and the range exactly where a text has the range form (`proofs/RangeForm.antt`).
-use Rattle.std.specs.Prelude.{ℕ, ◌^◌, ◌&&◌, ◌==◌, nat_lt, List, [], ◌∷◌, Option, Some, None, option_map, ℤ, nat_abs, if◌then◌else◌}
+use Rattle.std.specs.Prelude.{◌≡◌, false, ℕ, ◌^◌, ◌&&◌, ◌==◌, nat_lt, List, [], ◌∷◌, Option, Some, None, option_map, ℤ, nat_abs, if◌then◌else◌}
+use Rattle.std.specs.List.{AllByRecursion}
 use Rattle.std.specs.Option.{option_and_then}
 use Rattle.std.specs.Fmt.{signed_decimal}
 use Rattle.std.specs.Str.{bytes_eq}
@@ -19,6 +20,10 @@ sized_range size None right = None
 sized_range size (Some left) None = None
 sized_range size (Some left) (Some right) =
     if range_bits (record { left = left; right = right }) == size then Some (record { left = left; right = right }) else None
+
+-- no byte has this value
+abbrev pub IsFreeOf : ℕ → List ℕ → Type 0
+IsFreeOf byte bytes = AllByRecursion (λ b. (b == byte) ≡ false) bytes
 
 -- the bytes before the first byte of this value, and those after it
 abbrev pub cut_at_first : ℕ → List ℕ → Option (List ℕ × List ℕ)

@@ -1,7 +1,6 @@
-ghost use Rattle.std.specs.Prelude.{◌≡◌, ◌<◌, ◌≤◌, ◌+◌, ◌==◌, false, take, drop, length, slice_get, option_map, IfSome, IfNone, MatchOption};
-ghost use Rattle.std.specs.List.{AllByRecursion};
+ghost use Rattle.std.specs.Prelude.{◌≡◌, ◌<◌, ◌≤◌, ◌+◌, take, drop, length, slice_get, option_map, IfSome, IfNone, MatchOption};
 ghost use Rattle.nl_base.specs.Ranges.{HasRangeForm, HasNoRangeForm};
-ghost use Rattle.nl_base.specs.RangeForm.{cut_at_first, cut_at_last, opened_range, opening_of, range_form, spelled_index, spelled_range};
+ghost use Rattle.nl_base.specs.RangeForm.{IsFreeOf, cut_at_first, cut_at_last, opened_range, opening_of, range_form, spelled_index, spelled_range};
 
 use crate::range::Range;
 use itoa::Buffer;
@@ -38,7 +37,7 @@ fn index_of(bytes: &[u8]) -> Option<i32>
 
 /// Where the byte stands first.
 fn first_place(bytes: &[u8], byte: u8) -> Option<usize>
-    ensures { MatchOption result (AllByRecursion (λ b. (b == byte) ≡ false) bytes.now) (λ at. (at < length bytes.now) × (slice_get bytes.now at ≡ Some byte) × AllByRecursion (λ b. (b == byte) ≡ false) (take at bytes.now)) }
+    ensures { MatchOption result (IsFreeOf byte bytes.now) (λ at. (at < length bytes.now) × (slice_get bytes.now at ≡ Some byte) × IsFreeOf byte (take at bytes.now)) }
 {
     for at in 0..bytes.len() {
         if bytes[at] == byte {
@@ -50,7 +49,7 @@ fn first_place(bytes: &[u8], byte: u8) -> Option<usize>
 
 /// Where the byte stands last.
 fn last_place(bytes: &[u8], byte: u8) -> Option<usize>
-    ensures { MatchOption result (AllByRecursion (λ b. (b == byte) ≡ false) bytes.now) (λ at. (at < length bytes.now) × (slice_get bytes.now at ≡ Some byte) × AllByRecursion (λ b. (b == byte) ≡ false) (drop (at + 1) bytes.now)) }
+    ensures { MatchOption result (IsFreeOf byte bytes.now) (λ at. (at < length bytes.now) × (slice_get bytes.now at ≡ Some byte) × IsFreeOf byte (drop (at + 1) bytes.now)) }
 {
     let mut end = bytes.len();
     while end > 0 {

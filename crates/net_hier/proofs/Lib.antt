@@ -1,0 +1,10 @@
+pub mod Back
+pub mod Building
+pub mod Example
+pub mod FactsAgree
+pub mod Fitting
+pub mod Forth
+pub mod Near
+pub mod Pairs
+pub mod PathLaws
+pub mod Theorem

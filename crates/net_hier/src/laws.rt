@@ -1,0 +1,20 @@
+// The laws of designs.
+ghost use Rattle.std.specs.Prelude.{ℕ, Option, Some};
+ghost use Rattle.net_hier.specs.Constants.{ConstantNames, AreConstantNames, usual_names};
+ghost use Rattle.net_hier.specs.Design.{Design};
+ghost use Rattle.net_hier.specs.Example.{tied_design, translated_design, untied_design};
+ghost use Rattle.net_hier.specs.SameCells.{SameCells};
+ghost use Rattle.net_hier.specs.SameDesign.{SameDesign};
+ghost use Rattle.net_hier.specs.Valid.{IsValid};
+
+/// Two designs that are the same cell by cell are the same design.
+pub fn same_cells_give_same_design()
+    ensures { (names : ConstantNames) (design other : Design) (n : Option ℕ) → AreConstantNames names → IsValid design → IsValid other → SameCells names design other n → SameDesign names design other }
+{}
+
+/// A cell whose port is joined to the constant zero is the same as one whose port a net joins to an added instance of `GND`, and
+/// it is no longer the same design once the join is dropped: the definitions are neither empty nor trivial.
+pub fn example_designs()
+    ensures same { SameCells usual_names tied_design translated_design (Some 1) }
+    ensures other { ¬ SameDesign usual_names tied_design untied_design }
+{}
