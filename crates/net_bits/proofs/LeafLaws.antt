@@ -86,7 +86,8 @@ outer_is cells cell One n h = tt
 joined_node : (cells : List HCell) (cell : HCell) → IsGoodCell cells cell → (x : Node) → Contains (ends cell.joins) x → IsNode cells cell x
 joined_node cells cell good x m =
     let r = Contains-from_flat_map (λ (join : Join). join.a ∷ (join.b ∷ [])) cell.joins x m in
-    let both = good.joins_in_range r.0 r.1 in
+    let at = place_of cell.joins r.0 r.1 in
+    let both = good.joins_in_range at.0 r.0 at.1 in
     elim (Contains-cons_cases r.0.a (r.0.b ∷ []) x r.2) as (λ _. IsNode cells cell x) [
       | inl e ↦ subst (IsNode cells cell) e both.0
       | inr n ↦ elim (Contains-cons_cases r.0.b [] x n) as (λ _. IsNode cells cell x) [

@@ -11,8 +11,8 @@ use indexmap::IndexSet;
 use net_hier::{HCell, Node};
 use nl_base::NoMemory;
 use std::alloc::Global;
-use std::marker::Model;
-use std::sync::ledger::Ledger;
+use std::marker::{Brand, Model};
+use std::sync::ledger::{Blank, Ledger};
 
 /// The classes of locally connected nodes of a cell. They are numbered from 0, in the order of their least nodes.
 #[derive(Drop)]
@@ -55,6 +55,15 @@ impl Classes {
         })
     }
 
+    /// The classes of a cell, which has at most 33,554,432 joins, for a caller that counts no steps.
+    pub fn of_cell_uncounted(alloc: Global, cell: &HCell) -> Result<Classes, NoMemory>
+        requires { length cell.now.joins ≤ 33554432 }
+        ensures { IfOk result (AreClasses cell.now) }
+    {
+        let classes = of_cell_from::<Brand>(alloc, cell, Blank::new(1))?;
+        Ok(classes)
+    }
+
     /// The number of the node's class, where the node is in a join.
     pub fn class_of(&self, node: &Node) -> Option<u32>
         ensures { result ≡ class_of self.now node.now }
@@ -79,6 +88,19 @@ impl Classes {
     {
         self.members[class as usize].as_slice()
     }
+}
+
+// The classes of a cell, counted from 0 on a new ledger.
+fn of_cell_from<L: Ledger>(alloc: Global, cell: &HCell, blank: Blank) -> Result<Classes, NoMemory>
+    requires joins { length cell.now.joins ≤ 33554432 }
+    requires name { blank.name ≡ L.name }
+    requires parts { blank.parts ≡ L.parts }
+    requires shares { 0 < blank.parts }
+    ensures { IfOk result (AreClasses cell.now) }
+{
+    let mut steps = Steps::<L>::start(blank);
+    let classes = Classes::of_cell(alloc, cell, &mut steps)?;
+    Ok(classes)
 }
 
 // For each class its nodes, in order.
