@@ -1,12 +1,12 @@
 -- tables of classes
-use Rattle.std.proofs.Common.{Vec, Global, ◌≡◌, ◌≢◌, ℕ, zero, suc, ◌+◌, ◌<◌, ◌≤◌, ◌++◌, ◌==◌, ◌⊎◌, ◌↔◌, inl, inr, Bool, true, false, cond, List, [], ◌∷◌, Option, Some, None, length, get_or, set, take, replicate, map, filter, position, slice_get, refl, sym, ◌∙◌, ap, subst, arith, All, Contains, eqb, nat_lt, get_or-set_same, get_or-set_other, length-set}
+use Rattle.std.proofs.Common.{Vec, Global, ◌≡◌, ℕ, zero, suc, ◌+◌, ◌<◌, ◌≤◌, ◌++◌, Bool, cond, List, [], ◌∷◌, Option, Some, None, length, get_or, set, take, replicate, map, filter, position, slice_get, refl, sym, ◌∙◌, ap, subst, arith, All, eqb, nat_lt, length-set}
 use Rattle.std.specs.List.Sorted.{IsStrictlySortedBy}
 use Rattle.std.specs.List.{position_or_len}
 use Rattle.std.specs.Borrow.{Bor}
 use Rattle.std.specs.Option.{IfSome, is_some, option_and_then, option_copied}
 use Rattle.std.proofs.lemmas.Bool.Decides.{nat_tests}
 use Rattle.std.proofs.lemmas.Grind.{common_steps}
-use Rattle.std.proofs.lemmas.List.{take_more, take_all, length-map, map-set, get_or-map, get_or-replicate, length-replicate, append-nil}
+use Rattle.std.proofs.lemmas.List.{take_more, take_all, length-map, map-set, get_or-map, get_or-replicate, length-replicate}
 use Rattle.std.proofs.lemmas.List.Elements.{filter-append}
 use Rattle.std.proofs.lemmas.List.Quantifiers.{position-Some}
 use Rattle.std.proofs.lemmas.List.Sums.{position_or_len_is}
@@ -18,7 +18,7 @@ use Rattle.net_hier.specs.contracts.nodes.NodePartialEq.TheImpl.{eq-value}
 use Rattle.net_hier.specs.declared.cells.HCell.{HCell}
 use Rattle.net_hier.specs.declared.nodes.Node.{Node}
 use Rattle.net_hier.specs.declared.nodes.Node.TheVariants.{Zero}
-use Rattle.net_bits.specs.Classes.{AreClasses, AreMembers, ClassTable, class_of, is_number, members_of}
+use Rattle.net_bits.specs.Classes.{AreClasses, AreMembers, ClassTable, class_of, is_number}
 use Rattle.net_bits.specs.Flood.{AreNumbered, IsNext, number}
 use Rattle.net_bits.specs.Neighbours.{AreNeighbours, Neighbours, same_node}
 use Rattle.net_bits.proofs.Items.{place_of, Contains-place}

@@ -1,5 +1,5 @@
 -- lists of neighbours, while joins are added to them
-use Rattle.std.proofs.Common.{Vec, Global, ◌≡◌, ℕ, ◌+◌, ◌<◌, ◌++◌, ◌==◌, ◌*◌, List, [], ◌∷◌, Option, Some, length, get_or, set, take, replicate, map, sum_by, if◌then◌else◌, refl, sym, ◌∙◌, ap, subst, arith, append_assoc, get_or-set_same, get_or-set_other, length-set, Bool, true, false, cond, eqb, slice_get}
+use Rattle.std.proofs.Common.{Vec, Global, ◌≡◌, ℕ, ◌+◌, ◌<◌, ◌++◌, ◌==◌, ◌*◌, List, [], ◌∷◌, Some, length, get_or, set, take, replicate, map, sum_by, if◌then◌else◌, refl, sym, ◌∙◌, ap, subst, arith, append_assoc, length-set, Bool, true, false, eqb, slice_get}
 use Rattle.std.specs.List.Sorted.{IsStrictlySortedBy}
 use Rattle.std.proofs.lemmas.Bool.{eqb-true, eq-eqb}
 use Rattle.std.proofs.lemmas.List.{length-map, map-append, map-set, get_or-map, append-nil, take_more, get_or-replicate, length-replicate}

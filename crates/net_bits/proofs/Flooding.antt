@@ -1,8 +1,8 @@
 -- the state of a flood, and what each turn of its loops makes of it
-use Rattle.std.proofs.Common.{◌≡◌, ℕ, zero, suc, ◌+◌, ◌<◌, ◌≤◌, ◌++◌, List, [], ◌∷◌, Option, Some, None, length, get_or, set, refl, sym, ◌∙◌, ap, subst, inl, inr, arith, rules, Bool, true, false, not, below_more, get_or-set_same, All, Contains, length-set, sum_by}
+use Rattle.std.proofs.Common.{◌≡◌, ℕ, ◌+◌, ◌<◌, ◌++◌, List, [], ◌∷◌, Option, Some, None, length, get_or, set, refl, sym, ◌∙◌, ap, subst, inl, inr, arith, rules, Bool, true, false, not, below_more, get_or-set_same, All, length-set}
 use Rattle.std.proofs.lemmas.List.{get_or_past, get_or_default, length_push}
 use Rattle.std.proofs.lemmas.List.Elements.{All-cons, All-nil, All-head, All-tail, All-pop, All-push, All-weaker, All-contains}
-use Rattle.std.proofs.lemmas.List.Sums.{sum_by-cons, sum_by_push}
+use Rattle.std.proofs.lemmas.List.Sums.{sum_by_push}
 use Rattle.std.proofs.lemmas.Bool.{cases_lt}
 use Rattle.std.specs.Option.{is_some}
 use Rattle.net_bits.specs.Flood.{AreMutual, number, IsNumbered, IsNext, unspent}

@@ -1,15 +1,14 @@
 -- leaves, by their classes
-use Rattle.std.proofs.Common.{◌≡◌, ℕ, ◌+◌, ◌<◌, ◌≤◌, ◌++◌, ◌==◌, ◌⊎◌, ◌↔◌, inl, inr, Bool, true, false, List, [], ◌∷◌, Option, Some, None, length, filter, slice_get, refl, sym, ◌∙◌, ap, subst, arith, Contains, eqb, get_or}
+use Rattle.std.proofs.Common.{◌≡◌, ℕ, ◌<◌, ◌≤◌, ◌==◌, ◌⊎◌, ◌↔◌, inl, inr, Bool, true, List, [], ◌∷◌, Option, Some, None, length, filter, slice_get, refl, sym, ◌∙◌, ap, subst, arith, Contains, get_or}
 use Rattle.std.specs.Prelude.{count_by}
 use Rattle.std.specs.List.Sorted.{IsStrictlySortedBy}
 use Rattle.std.proofs.lemmas.Bool.{eqb-true, eq-eqb, cases_lt}
 use Rattle.std.proofs.lemmas.List.Kept.{IsStrictlySortedBy-filter}
 use Rattle.std.proofs.lemmas.List.Sums.{length-filter}
 use Rattle.std.proofs.lemmas.Option.{get_or_from_slice_get, slice_get-get_or, slice_get_within}
-use Rattle.net_graph.specs.Walks.{IsLinked, Leads}
-use Rattle.net_hier.specs.Cells.{HasLocalStep, IsConstantCell, IsLeaf, IsLocallyConnected, IsPortBit, IsPortBitOrConstant}
+use Rattle.net_graph.specs.Walks.{Leads}
+use Rattle.net_hier.specs.Cells.{HasLocalStep, IsConstantCell, IsLeaf, IsLocallyConnected, IsPortBitOrConstant}
 use Rattle.net_hier.specs.Constants.{ConstantNames, name_of_constant}
-use Rattle.net_hier.specs.Design.{IsCell}
 use Rattle.net_hier.specs.Nodes.{node_cmp}
 use Rattle.net_hier.specs.Valid.{IsGoodCell, IsNode}
 use Rattle.net_hier.specs.declared.cells.HCell.{HCell}

@@ -1,5 +1,5 @@
 -- walks by steps
-use Rattle.std.proofs.Common.{◌≡◌, List, [], ◌∷◌, ◌++◌, refl, sym, subst}
+use Rattle.std.proofs.Common.{List, [], ◌∷◌, ◌++◌, refl, sym, subst}
 use Rattle.net_graph.specs.Walks.{Leads, IsLinked}
 
 pub linked-self : {A : Type 0} (step : A → A → Type 0) (a : A) → IsLinked step a a

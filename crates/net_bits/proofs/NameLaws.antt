@@ -1,9 +1,8 @@
 -- sets of names by digests
-use Rattle.std.proofs.Common.{◌≡◌, ◌≢◌, ℕ, zero, suc, ◌+◌, ◌*◌, ◌<◌, ◌≤◌, ◌++◌, ◌||◌, ◌⊎◌, inl, inr, Bool, true, false, not, cond, List, [], ◌∷◌, Option, Some, None, is_some, length, get_or, take, map, slice_get, refl, sym, ◌∙◌, ap, subst, arith, Contains, nat_eq, nat_lt}
+use Rattle.std.proofs.Common.{◌≡◌, ◌≢◌, ℕ, zero, suc, ◌+◌, ◌<◌, ◌≤◌, ◌++◌, ◌||◌, inl, inr, Bool, true, false, cond, List, [], ◌∷◌, Option, Some, None, length, get_or, map, refl, sym, ◌∙◌, ap, subst, arith, nat_eq}
 use Rattle.std.specs.List.{fold, list_any}
 use Rattle.std.proofs.lemmas.List.{map-append, get_or-map, length-map, length_push, get_or_append_left, get_or_push, get_or_default}
-use Rattle.std.proofs.lemmas.List.Sums.{fold-append}
-use Rattle.std.proofs.lemmas.List.Folds.{list_any_none, list_any-append}
+use Rattle.std.proofs.lemmas.List.Folds.{list_any_none}
 use Rattle.std.proofs.lemmas.Slice.Eq.{bytes_eq-Decides}
 use Rattle.std.proofs.lemmas.Bool.{cases_eq, cases_lt, eqb-true, eq-eqb}
 use Rattle.std.proofs.Math.Bool.{or-true}
@@ -11,7 +10,7 @@ use Rattle.indexmap.specs.IndexMap.{IndexMap, get}
 use Rattle.nl_base.specs.Case.{small}
 use Rattle.net_bits.specs.Names.{NameSet, alike, has_name}
 use Rattle.net_bits.specs.declared.names.Entry.{Entry}
-use Rattle.net_bits.specs.NameTables.{IsLast, HasLinks, digest_of, digest_step, digests, key_byte}
+use Rattle.net_bits.specs.NameTables.{IsLast, HasLinks, digest_of, digest_step, digests}
 
 -- how far a place is from the start
 abbrev pub after : Option ℕ → ℕ

@@ -1,6 +1,6 @@
 -- the transitions of a flood: a node gets a number, a node is taken from the work, a node has been visited
-use Rattle.std.proofs.Common.{◌≡◌, ◌≢◌, ℕ, zero, suc, ◌+◌, ◌<◌, ◌≤◌, ◌++◌, ◌⊎◌, inl, inr, List, [], ◌∷◌, Option, Some, None, length, replicate, get_or, set, refl, sym, ◌∙◌, ap, subst, arith, get_or-set_same, get_or-set_other, Contains}
-use Rattle.std.proofs.lemmas.List.Elements.{Contains-push_cases, Contains-append_left, Contains-append_right, Contains-append_cases, Contains-push}
+use Rattle.std.proofs.Common.{◌≡◌, ◌≢◌, ℕ, zero, suc, ◌+◌, ◌<◌, ◌≤◌, ◌++◌, ◌⊎◌, inl, inr, List, [], ◌∷◌, Option, Some, None, length, replicate, set, refl, sym, ◌∙◌, ap, subst, arith, get_or-set_same, get_or-set_other, Contains}
+use Rattle.std.proofs.lemmas.List.Elements.{Contains-push_cases, Contains-append_left, Contains-push}
 use Rattle.std.proofs.lemmas.Bool.{cases_eq}
 use Rattle.net_graph.specs.Walks.{IsLinked}
 use Rattle.net_bits.specs.Flood.{number, IsNumbered, AreNumbered}

@@ -1,5 +1,5 @@
 -- links of numbers are links of the nodes that they number
-use Rattle.std.proofs.Common.{◌≡◌, ℕ, ◌<◌, ◌++◌, ◌⊎◌, ◌↔◌, inl, inr, Bool, true, false, List, [], ◌∷◌, Option, Some, None, length, get_or, map, refl, sym, ◌∙◌, ap, subst, arith, Contains, slice_get, if◌then◌else◌}
+use Rattle.std.proofs.Common.{◌≡◌, ℕ, ◌++◌, ◌⊎◌, ◌↔◌, inl, inr, Bool, true, false, [], ◌∷◌, Option, Some, length, get_or, refl, sym, subst, arith, Contains, slice_get, if◌then◌else◌}
 use Rattle.std.proofs.lemmas.Bool.{cases_lt}
 use Rattle.std.proofs.lemmas.List.{get_or_past}
 use Rattle.std.proofs.lemmas.List.Elements.{Contains-append_cases, Contains-append_left, Contains-append_right}
@@ -12,7 +12,7 @@ use Rattle.net_hier.specs.declared.nodes.Node.{Node}
 use Rattle.net_hier.specs.declared.nodes.Node.TheVariants.{Zero}
 use Rattle.net_bits.specs.Flood.{AreMutual, IsNext}
 use Rattle.net_bits.specs.Neighbours.{AreNeighbours, Neighbours, ends, other_ends, other_ends_of, same_node}
-use Rattle.net_bits.proofs.Items.{Contains-cons_cases, Contains-cons_here, Contains-cons_there, Contains-map, Contains-from_map, Contains-flat_map, Contains-from_flat_map, no_member, place_of, Contains-place}
+use Rattle.net_bits.proofs.Items.{Contains-cons_cases, Contains-cons_here, Contains-cons_there, Contains-map, Contains-from_map, Contains-flat_map, Contains-from_flat_map, no_member}
 use Rattle.net_bits.proofs.Links.{linked-follows}
 use Rattle.net_bits.proofs.Nodes.{once, same_node-Decides}
 

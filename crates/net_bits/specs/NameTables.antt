@@ -1,5 +1,5 @@
 -- How a set of names is kept: each name with the place of the last one before it that has the same digest.
-use Rattle.std.specs.Prelude.{◌≡◌, ◌≢◌, ℕ, ◌+◌, ◌*◌, ◌%◌, ◌^◌, ◌<◌, ◌++◌, List, [], ◌∷◌, Bool, true, false, Option, Some, None, bit_xor, length, map, nat_eq, slice_get, slice_index_or}
+use Rattle.std.specs.Prelude.{◌≡◌, ◌≢◌, ℕ, ◌*◌, ◌%◌, ◌^◌, ◌<◌, List, Bool, true, false, Option, Some, None, bit_xor, length, map, nat_eq, slice_index_or}
 use Rattle.std.specs.List.{fold}
 use Rattle.indexmap.specs.IndexMap.{IndexMap, get}
 use Rattle.nl_base.specs.Case.{small}

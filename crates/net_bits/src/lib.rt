@@ -24,3 +24,6 @@ pub use fresh::fresh_name;
 pub use leaf::{constant_of, is_leaf};
 pub use names::Names;
 pub use steps::Steps;
+
+#[cfg(test)]
+mod tests;

@@ -1,4 +1,4 @@
-use Rattle.std.proofs.Common.{rules, arith, Vec, Global, ◌≡◌, ℕ, ◌+◌, ◌<◌, List, Some, length, map, subst, sym, ap, ◌∙◌, get_or, set, slice_get}
+use Rattle.std.proofs.Common.{rules, arith, Vec, Global, ◌≡◌, ◌+◌, ◌<◌, length, map, subst, sym, ◌∙◌, get_or}
 use Rattle.std.proofs.lemmas.List.{length-map}
 use Rattle.std.proofs.lemmas.Option.{slice_get-get_or}
 use Rattle.net_hier.specs.declared.nodes.Node.{Node}

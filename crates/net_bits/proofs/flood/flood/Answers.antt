@@ -1,6 +1,5 @@
-use Rattle.std.proofs.Common.{rules, arith, ◌≡◌, ℕ, ◌+◌, ◌<◌, ◌++◌, List, [], ◌∷◌, Some, Option, Vec, Global, ◌∙◌, set, length, subst, sym, ap, refl}
-use Rattle.std.proofs.lemmas.List.{length_push}
-use Rattle.std.proofs.lemmas.List.Sums.{sum_by-cons, sum_by_push}
+use Rattle.std.proofs.Common.{rules, arith, ◌≡◌, ℕ, ◌+◌, List, [], ◌∷◌, Some, Option, Vec, Global, ◌∙◌, set, length, subst, sym, ap, refl}
+use Rattle.std.proofs.lemmas.List.Sums.{sum_by-cons}
 use Rattle.net_bits.specs.Flood.{unspent}
 use Rattle.net_bits.proofs.Cost.{degree_of, owed, owed-popped, unnumbered, unspent-set}
 use Rattle.net_bits.proofs.Flooding.{IsFlooding, IsVisiting, flooding-root, flooding-popped, flooding-visited, flooding-below, next_at, visiting-none, visiting-some}

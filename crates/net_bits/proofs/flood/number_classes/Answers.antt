@@ -1,4 +1,4 @@
-use Rattle.std.proofs.Common.{◌≡◌, ℕ, ◌<◌, List, Option, Some, length, subst, sym, rules}
+use Rattle.std.proofs.Common.{◌≡◌, ℕ, ◌<◌, List, Option, Some, length, subst, sym}
 use Rattle.net_bits.specs.Flood.{number}
 use Rattle.net_bits.proofs.flood.number_classes.Goals as goal
 

@@ -1,4 +1,4 @@
-use Rattle.std.proofs.Common.{rules, arith, ◌≡◌, ◌+◌, true, ap, sym, ◌∙◌}
+use Rattle.std.proofs.Common.{arith, ◌≡◌, ◌+◌, true, ap, sym, ◌∙◌}
 use Rattle.net_bits.specs.Names.{has_name, numbered}
 use Rattle.net_bits.proofs.FreshLaws.{used-le, used_more}
 use Rattle.net_bits.proofs.fresh.fresh_name.Goals as goal

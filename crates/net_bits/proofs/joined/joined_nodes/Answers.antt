@@ -1,14 +1,8 @@
-use Rattle.std.proofs.Common.{rules, arith, ◌≡◌, sym, ap, ◌∙◌, length, take, List, [], ◌∷◌, subst}
-use Rattle.std.specs.List.{list_any}
-use Rattle.std.proofs.Math.Seq.{take-length}
-use Rattle.std.proofs.lemmas.Map.Made.{length-from_keys}
+use Rattle.std.proofs.Common.{arith}
 use Rattle.net_hier.specs.contracts.nodes.NodeEq.TheImpl.Laws.{laws-law}
-use Rattle.net_hier.specs.contracts.nodes.NodePartialEq.TheImpl.{eq-value}
-use Rattle.net_hier.specs.declared.nodes.Join.{Join}
-use Rattle.net_hier.specs.declared.nodes.Node.{Node}
 use Rattle.net_hier.specs.declared.nodes.Node.TheVariants.{Port}
 use Rattle.net_bits.specs.Neighbours.{ends}
-use Rattle.net_bits.proofs.EndSets.{HasEnds, joined_turn, joined_all, sorted_keys, Contains-ends, count-ends}
+use Rattle.net_bits.proofs.EndSets.{joined_turn, joined_all, sorted_keys, Contains-ends, count-ends}
 use Rattle.net_bits.proofs.joined.joined_nodes.Goals as goal
 
 pub loop-join-preserved : goal.loop-join-preserved

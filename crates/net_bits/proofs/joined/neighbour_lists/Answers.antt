@@ -1,11 +1,8 @@
-use Rattle.std.proofs.Common.{rules, arith, Vec, Global, ◌≡◌, ℕ, ◌+◌, ◌<◌, List, Some, length, map, take, subst, sym, ap, ◌∙◌, get_or, set}
-use Rattle.std.proofs.lemmas.List.{length-map, take_all}
+use Rattle.std.proofs.Common.{rules, arith, Vec, Global, ℕ}
+use Rattle.std.proofs.lemmas.List.{length-map}
 use Rattle.std.proofs.lemmas.Option.{slice_get_within}
-use Rattle.net_hier.specs.declared.nodes.Join.{Join}
-use Rattle.net_hier.specs.declared.nodes.Node.{Node}
 use Rattle.net_hier.specs.declared.nodes.Node.TheVariants.{Port}
-use Rattle.net_bits.specs.Neighbours.{AreOtherEnds}
-use Rattle.net_bits.proofs.EndLists.{AreOtherEnds-none, join_more}
+use Rattle.net_bits.proofs.EndLists.{join_more}
 use Rattle.net_bits.proofs.EndSets.{end_a, end_b}
 use Rattle.net_bits.proofs.joined.neighbour_lists.Goals as goal
 

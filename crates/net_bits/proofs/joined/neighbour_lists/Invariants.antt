@@ -1,4 +1,4 @@
-use Rattle.std.proofs.Common.{◌≡◌, ℕ, ◌*◌, List, [], map, length, sum_by, take, replicate}
+use Rattle.std.proofs.Common.{◌≡◌, ◌*◌, [], map, length, sum_by, take, replicate}
 use Rattle.net_bits.specs.Neighbours.{AreOtherEnds}
 use Rattle.net_bits.proofs.joined.neighbour_lists.Given as goal
 

@@ -1,4 +1,4 @@
-use Rattle.std.proofs.Common.{rules, arith, sym, ap, ◌∙◌, slice_get, get_or, Some}
+use Rattle.std.proofs.Common.{sym, ap, ◌∙◌, get_or, Some}
 use Rattle.std.proofs.lemmas.List.Quantifiers.{position-Some}
 use Rattle.std.proofs.lemmas.Option.{slice_get-get_or}
 use Rattle.net_hier.specs.contracts.nodes.NodePartialEq.TheImpl.{eq-value}

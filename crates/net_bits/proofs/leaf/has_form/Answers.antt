@@ -1,5 +1,4 @@
-use Rattle.std.proofs.Common.{rules, arith, ◌≡◌, ◌∷◌, [], List, sym, ap, ◌∙◌, subst, ◌↔◌}
-use Rattle.std.proofs.lemmas.Slice.Eq.{bytes_eq-Decides}
+use Rattle.std.proofs.Common.{rules, arith, ◌≡◌, ◌∷◌, [], sym, ap, ◌∙◌, subst}
 use Rattle.net_hier.specs.declared.cells.HPort.{HPort}
 use Rattle.net_bits.specs.Leaves.{IsScalarOutput}
 use Rattle.net_bits.proofs.LeafLaws.{form_of, one_item}

@@ -1,5 +1,4 @@
-use Rattle.std.proofs.Common.{rules, arith, ◌≡◌, ◌==◌, length, [], List, sym, ap, ◌∙◌, subst, true, false, eqb}
-use Rattle.std.proofs.lemmas.Bool.{eqb-true, eq-eqb}
+use Rattle.std.proofs.Common.{rules, ◌==◌, length, List, sym, ap, ◌∙◌}
 use Rattle.net_hier.specs.declared.cells.HCell.{HCell}
 use Rattle.net_hier.specs.declared.cells.HInst.{HInst}
 use Rattle.net_bits.proofs.LeafLaws.{apart_from_leaf, cell_is, leaf_from_apart, no_items}

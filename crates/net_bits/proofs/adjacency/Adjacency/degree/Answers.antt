@@ -1,7 +1,6 @@
-use Rattle.std.proofs.Common.{rules, arith, Vec, Global, ◌≡◌, ℕ, ◌<◌, ◌≤◌, ◌^◌, List, [], map, length, sum_by, get_or, slice_index_or, ap, sym, ◌∙◌}
+use Rattle.std.proofs.Common.{rules, arith, Vec, Global, ◌≡◌, ℕ, ◌<◌, [], map, length, get_or, ap}
 use Rattle.std.proofs.lemmas.List.{get_or-map, length-map}
 use Rattle.std.proofs.lemmas.List.Sums.{get_or-le-sum_by}
-use Rattle.net_hier.specs.declared.nodes.Node.{Node}
 use Rattle.net_bits.specs.Neighbours.{Neighbours}
 use Rattle.net_bits.proofs.adjacency.Adjacency.degree.Goals as goal
 

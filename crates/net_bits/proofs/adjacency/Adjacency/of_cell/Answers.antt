@@ -1,8 +1,8 @@
-use Rattle.std.proofs.Common.{rules, arith, Vec, Global, Contains, ◌↔◌, ◌≡◌, ◌≤◌, ◌*◌, ℕ, List, length, map, subst, sym, ap, ◌∙◌}
+use Rattle.std.proofs.Common.{arith, Vec, Global, Contains, ◌↔◌, ℕ, length, map, subst, ap}
 use Rattle.std.proofs.lemmas.Map.Made.{distinct_count-le}
 use Rattle.net_hier.specs.declared.nodes.Join.{Join}
 use Rattle.net_hier.specs.declared.nodes.Node.{Node}
-use Rattle.net_bits.specs.Neighbours.{AreOtherEnds, ends, same_node, joined_count}
+use Rattle.net_bits.specs.Neighbours.{AreOtherEnds, ends, same_node}
 use Rattle.net_bits.proofs.EndSets.{length-ends}
 use Rattle.net_bits.proofs.adjacency.Adjacency.of_cell.Goals as goal
 

@@ -1,6 +1,5 @@
-use Rattle.std.proofs.Common.{rules, ◌≡◌, Option, None, Some, ℕ, position, slice_get, length, subst, sym, ap, ◌∙◌}
+use Rattle.std.proofs.Common.{◌≡◌, slice_get, length, ap, ◌∙◌}
 use Rattle.std.specs.Option.{option_and_then}
-use Rattle.net_hier.specs.contracts.nodes.NodePartialEq.TheImpl.{eq-value}
 use Rattle.net_bits.specs.Classes.{ClassTable, class_of}
 use Rattle.net_bits.proofs.ClassTables.{class_by_eq, copied_get}
 use Rattle.net_bits.proofs.classes.Classes.class_of.Goals as goal

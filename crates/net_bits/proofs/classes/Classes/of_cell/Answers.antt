@@ -1,4 +1,4 @@
-use Rattle.std.proofs.Common.{rules, arith, Vec, Global, ◌≡◌, ℕ, ◌+◌, ◌<◌, List, Some, All, length, map, subst, sym, ap, ◌∙◌}
+use Rattle.std.proofs.Common.{Vec, Global, ◌≡◌, ℕ, ◌<◌, List, All, length, subst, sym, ◌∙◌}
 use Rattle.std.proofs.lemmas.List.{length-map}
 use Rattle.net_hier.specs.declared.nodes.Node.{Node}
 use Rattle.net_bits.specs.Classes.{AreClasses, ClassTable}

@@ -1,4 +1,4 @@
-use Rattle.std.proofs.Common.{rules, arith, ◌≡◌, ℕ, List, Option, Some, None, cond, length, map, nat_eq, subst, sym, ap, ◌∙◌}
+use Rattle.std.proofs.Common.{rules, ◌≡◌, Some, cond, length, nat_eq, sym, ap, ◌∙◌}
 use Rattle.indexmap.specs.IndexMap.{get}
 use Rattle.net_bits.specs.NameTables.{digest_of}
 use Rattle.net_bits.specs.declared.names.Entry.{Entry}

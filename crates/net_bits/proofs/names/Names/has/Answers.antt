@@ -1,6 +1,5 @@
-use Rattle.std.proofs.Common.{rules, arith, ◌≡◌, ℕ, ◌<◌, true, false, List, Option, Some, None, length, map, subst, sym, ap, ◌∙◌, get_or}
+use Rattle.std.proofs.Common.{rules, ◌≡◌, ◌<◌, true, false, Some, None, subst, sym, ap, ◌∙◌}
 use Rattle.net_bits.specs.Names.{NameSet, alike, has_name}
-use Rattle.net_bits.specs.declared.names.Entry.{Entry}
 use Rattle.net_bits.proofs.NameLaws.{IsSeeking, after, seek_found, seek_less, seek_on, seeking_end}
 use Rattle.net_bits.proofs.names.Names.has.Goals as goal
 
