@@ -1,9 +1,9 @@
 -- The search for the place in a number's list from which the number is reached.
-use Rattle.std.proofs.Common.{◌≡◌, ℕ, ◌+◌, ◌<◌, ◌≤◌, ◌⊎◌, inl, inr, Bool, true, false, List, length, replicate, get_or, slice_get, Some, refl, sym, ◌∙◌, subst, arith}
+use Rattle.std.proofs.Common.{◌≡◌, ℕ, ◌+◌, ◌<◌, ◌≤◌, ◌⊎◌, inl, inr, Bool, true, false, List, length, replicate, slice_get, Some, refl, subst, arith}
 use Rattle.std.specs.Prelude.{◌↔◌}
 use Rattle.std.proofs.lemmas.List.{length-replicate}
 use Rattle.std.proofs.lemmas.Option.{slice_get_within}
-use Rattle.net_graph.specs.Graph.{HasList, IsAbove, IsClosing, IsInRange, IsReached, ReachesItself}
+use Rattle.net_graph.specs.Graph.{HasList, IsAbove, IsClosing, IsReached, ReachesItself}
 use Rattle.net_graph.specs.Marks.{is_marked}
 use Rattle.net_graph.specs.WorkList.{AreClosed}
 use Rattle.net_graph.proofs.ListLaws.{same_element}
@@ -29,7 +29,7 @@ unmarked : (b : Bool) → ¬ (b ≡ true) → b ≡ false
 unmarked true h = absurd (h refl)
 unmarked false h = refl
 
-le_or_is : (a b : ℕ) → a < b + 1 → (a < b) ⊎ (a ≡ b)
+pub le_or_is : (a b : ℕ) → a < b + 1 → (a < b) ⊎ (a ≡ b)
 le_or_is a b h = grind arith
 
 module _ (graph : List (List ℕ)) (number : ℕ) (numbers : List ℕ) where

@@ -1,4 +1,5 @@
 pub mod Closing
+pub mod Levelling
 pub mod ListLaws
 pub mod MarkLaws
 pub mod OrderLaws

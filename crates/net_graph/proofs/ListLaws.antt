@@ -1,5 +1,7 @@
 -- Elements of lists.
 use Rattle.std.proofs.Common.{◌≡◌, ℕ, zero, suc, ◌<◌, List, [], ◌∷◌, refl, ◌∙◌, slice_get, get_or, Some, length, arith}
+use Rattle.std.specs.Prelude.{Option, None, IsSome, MatchOption}
+use Rattle.std.proofs.Common.{subst}
 use Rattle.std.proofs.lemmas.Option.{slice_get_read}
 
 -- an element that is read twice is one
@@ -23,3 +25,16 @@ read_there xs i d x lt is same = slice_get_read xs (length xs) i x refl lt (same
 pub empty_list : {A : Type 0} (xs : List A) → length xs ≡ 0 → xs ≡ []
 empty_list [] h = refl
 empty_list (x ∷ xs) h = absurd (omega arith)
+
+-- what is said of an option, where it is known which it is
+pub said_of_none : {A : Type 0} (o : Option A) (P : Type 0) (Q : A → Type 0) → o ≡ None → MatchOption o P Q → P
+said_of_none None P Q e h = h
+said_of_none (Some x) P Q e h = absurd (cc)
+
+pub said_of_some : {A : Type 0} (o : Option A) (P : Type 0) (Q : A → Type 0) (x : A) → o ≡ Some x → MatchOption o P Q → Q x
+said_of_some None P Q x e h = absurd (cc)
+said_of_some (Some y) P Q x e h = let f : y ≡ x = cc in subst Q f h
+
+pub some_is : {A : Type 0} (o : Option A) (x : A) → o ≡ Some x → IsSome o
+some_is None x e = absurd (cc)
+some_is (Some y) x e = refl

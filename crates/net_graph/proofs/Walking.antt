@@ -108,16 +108,16 @@ contains_of : {A : Type 0} (xs : List A) (x : A) → StandsIn xs x → Contains 
 contains_of xs x h = (h.place, slice_get_within xs h.place x h.is_there, get_or_from_slice_get xs h.place x x h.is_there)
 
 -- what holds of each visit
-abbrev Each : (Visit → Type 0) → List Visit → Type 0
+abbrev pub Each : (Visit → Type 0) → List Visit → Type 0
 Each P stack = (place : ℕ) (visit : Visit) → slice_get stack place ≡ Some visit → P visit
 
-each_front : (P : Visit → Type 0) (rest : List Visit) (v : Visit) → Each P (rest ++ v ∷ []) → Each P rest
+pub each_front : (P : Visit → Type 0) (rest : List Visit) (v : Visit) → Each P (rest ++ v ∷ []) → Each P rest
 each_front P rest v each place x e = each place x (get_front rest (v ∷ []) place x e)
 
-each_last : (P : Visit → Type 0) (rest : List Visit) (v : Visit) → Each P (rest ++ v ∷ []) → P v
+pub each_last : (P : Visit → Type 0) (rest : List Visit) (v : Visit) → Each P (rest ++ v ∷ []) → P v
 each_last P rest v each = each (length rest) v (get_last rest v)
 
-each_more : (P : Visit → Type 0) (rest : List Visit) (v : Visit) → Each P rest → P v → Each P (rest ++ v ∷ [])
+pub each_more : (P : Visit → Type 0) (rest : List Visit) (v : Visit) → Each P rest → P v → Each P (rest ++ v ∷ [])
 each_more P rest v each here place x e = elim (front_or_last rest v place x e) [ inl f ↦ each place x f | inr f ↦ subst P f.1 here ]
 
 -- each number's list is directly above the next one's

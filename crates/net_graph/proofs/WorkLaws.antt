@@ -1,17 +1,16 @@
 -- The turns of a work list.
-use Rattle.std.proofs.Common.{◌≡◌, ℕ, zero, suc, ◌+◌, ◌-◌, ◌<◌, ◌≤◌, ◌⊎◌, inl, inr, Bool, true, false, ◌||◌, List, [], ◌∷◌, ◌++◌, length, map, replicate, take, get_or, set, slice_get, Some, refl, sym, ap, ◌∙◌, subst, arith, length-append}
+use Rattle.std.proofs.Common.{◌≡◌, ℕ, zero, suc, ◌+◌, ◌-◌, ◌<◌, ◌⊎◌, inl, inr, Bool, true, false, ◌||◌, List, [], ◌∷◌, ◌++◌, length, replicate, take, get_or, set, slice_get, Some, refl, sym, ap, ◌∙◌, subst, arith, length-append}
 use Rattle.std.specs.Prelude.{◌==◌, ◌↔◌}
-use Rattle.std.specs.List.{list_any}
 use Rattle.std.proofs.lemmas.Bool.{false≢true}
 use Rattle.std.proofs.lemmas.Bool.Decides.{Decides-eqb}
-use Rattle.std.proofs.lemmas.List.{get_or-set_same, length-replicate, length-set, take_more}
+use Rattle.std.proofs.lemmas.List.{get_or-set_same, length-set, take_more}
 use Rattle.std.proofs.lemmas.List.Folds.{list_any-append}
 use Rattle.std.proofs.lemmas.Option.{get_or_from_slice_get, slice_get-get_or}
 use Rattle.net_graph.specs.Graph.{IsAbove, IsInRange, IsReached}
-use Rattle.net_graph.specs.Walks.{IsLinked, Leads}
-use Rattle.net_graph.specs.Marks.{IsReachable, itself, below, count, has_below, is_marked, marks_of, only_mark}
+use Rattle.net_graph.specs.Walks.{Leads}
+use Rattle.net_graph.specs.Marks.{IsReachable, itself, below, count, has_below, is_marked, marks_of}
 use Rattle.net_graph.specs.WorkList.{AreClosed, IsUnderWay, MarksNumbers, has}
-use Rattle.net_graph.proofs.MarkLaws.{or_left, or_right, or_cases, count_within, marked_within, marks_are, no_mark, only_mark_is}
+use Rattle.net_graph.proofs.MarkLaws.{or_left, or_right, or_cases, count_within, marked_within, marks_are, no_mark}
 use Rattle.net_graph.proofs.WalkLaws.{linked_along, linked_by, linked_itself}
 
 has_push : (xs : List ℕ) (n k : ℕ) → has (xs ++ n ∷ []) k ≡ true → (has xs k ≡ true) ⊎ (n ≡ k)

@@ -1,4 +1,5 @@
 pub mod Graph
+pub mod Levels
 pub mod Marks
 pub mod Walks
 pub mod WorkList

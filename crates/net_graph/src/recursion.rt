@@ -2,6 +2,7 @@
 ghost use Rattle.std.specs.Prelude.{ℕ, ◌<◌, ◌^◌, length, IfOk, MatchOption};
 ghost use Rattle.net_graph.specs.Graph.{IsClosing, IsFirstRecursion, IsInRange, ReachesItself};
 
+use crate::levels::{first_kept, levels_fall, levels_from};
 use crate::reach::mark_reached;
 use nl_base::{NoMemory, Seq};
 use std::alloc::Global;
@@ -30,9 +31,8 @@ fn closing_place(alloc: Global, graph: &[Seq<u32>], number: u32) -> Result<Optio
     Ok(None)
 }
 
-/// The least number of the graph that reaches itself, and the first place in its list from which it is reached; nothing exactly
-/// where no number reaches itself.
-pub fn first_recursion(alloc: Global, graph: &[Seq<u32>]) -> Result<Option<Recursion>, NoMemory>
+// The same as `first_recursion`, by a search from each number.
+fn search_recursion(alloc: Global, graph: &[Seq<u32>]) -> Result<Option<Recursion>, NoMemory>
     requires in_range { IsInRange graph.now }
     requires short { length graph.now < 2 ^ 32 }
     ensures { IfOk result (λ found. MatchOption found ((number : ℕ) → ¬ ReachesItself graph.now number) (λ recursion. IsFirstRecursion graph.now recursion.number recursion.place)) }
@@ -43,4 +43,30 @@ pub fn first_recursion(alloc: Global, graph: &[Seq<u32>]) -> Result<Option<Recur
         }
     }
     Ok(None)
+}
+
+/// The least number of the graph that reaches itself, and the first place in its list from which it is reached; nothing exactly
+/// where no number reaches itself. Where all numbers are reached from the start, this takes time in proportion to the graph: the
+/// levels are then those of its strongly connected components, and the search from each number is never needed.
+pub fn first_recursion(
+    alloc: Global,
+    graph: &[Seq<u32>],
+    start: u32,
+) -> Result<Option<Recursion>, NoMemory>
+    requires in_range { IsInRange graph.now }
+    requires within { start < length graph.now }
+    requires short { length graph.now < 2 ^ 32 }
+    ensures { IfOk result (λ found. MatchOption found ((number : ℕ) → ¬ ReachesItself graph.now number) (λ recursion. IsFirstRecursion graph.now recursion.number recursion.place)) }
+{
+    let levels = levels_from(alloc, graph, start)?;
+    if levels_fall(graph, levels.as_slice()) {
+        let Some(number) = first_kept(graph, levels.as_slice()) else {
+            return Ok(None);
+        };
+        if let Some(place) = closing_place(alloc, graph, number)? {
+            return Ok(Some(Recursion { number, place }));
+        }
+    }
+    let found = search_recursion(alloc, graph)?;
+    Ok(found)
 }

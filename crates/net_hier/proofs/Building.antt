@@ -1,6 +1,5 @@
 -- Cells as a graph.
-use Rattle.std.proofs.Common.{◌≡◌, ℕ, ◌<◌, ◌≤◌, List, length, map, slice_get, Option, Some, None, refl, sym, ◌∙◌, ap, subst, arith, option_map}
-use Rattle.std.specs.Prelude.{IsSome, MatchOption}
+use Rattle.std.proofs.Common.{◌≡◌, ℕ, ◌<◌, ◌≤◌, List, length, map, slice_get, Some, sym, ◌∙◌, ap, subst, arith, option_map}
 use Rattle.std.proofs.lemmas.List.{length-map}
 use Rattle.std.proofs.lemmas.Option.{slice_get-map, slice_get_within}
 use Rattle.net_graph.specs.Graph.{HasList, IsAbove, IsFirstRecursion, IsInRange, IsReached, ReachesItself}
@@ -94,16 +93,3 @@ hier_of cells top props order fit is_order = record {
   few_parts = fit.few_parts;
   few_units = is_order.few_units;
 }
-
--- what is said of an option, where it is known which it is
-pub said_of_none : {A : Type 0} (o : Option A) (P : Type 0) (Q : A → Type 0) → o ≡ None → MatchOption o P Q → P
-said_of_none None P Q e h = h
-said_of_none (Some x) P Q e h = absurd (cc)
-
-pub said_of_some : {A : Type 0} (o : Option A) (P : Type 0) (Q : A → Type 0) (x : A) → o ≡ Some x → MatchOption o P Q → Q x
-said_of_some None P Q x e h = absurd (cc)
-said_of_some (Some y) P Q x e h = let f : y ≡ x = cc in subst Q f h
-
-pub some_is : {A : Type 0} (o : Option A) (x : A) → o ≡ Some x → IsSome o
-some_is None x e = absurd (cc)
-some_is (Some y) x e = refl

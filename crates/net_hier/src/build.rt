@@ -36,14 +36,15 @@ impl From<nl_base::NoMemory> for BuildFault {
 }
 
 // The fault of a graph in which a number reaches itself.
-fn recursion_fault(alloc: Global, graph: &[Seq<u32>]) -> BuildFault
+fn recursion_fault(alloc: Global, graph: &[Seq<u32>], top: u32) -> BuildFault
     requires in_range { IsInRange graph.now }
+    requires within { top < length graph.now }
     requires short { length graph.now < 2 ^ 32 }
     requires few { (number : ℕ) (numbers : List ℕ) → HasList graph.now number numbers → length numbers ≤ count_limit }
     requires some { (number : ℕ) × ReachesItself graph.now number }
     ensures { IsRecursionFault graph.now result }
 {
-    match first_recursion(alloc, graph) {
+    match first_recursion(alloc, graph, top) {
         Ok(Some(recursion)) => BuildFault::Recursion {
             cell: recursion.number,
             instance: recursion.place as u32,
@@ -60,7 +61,7 @@ pub fn order_of(alloc: Global, cells: &[HCell], top: u32) -> Result<Seq<u32>, Bu
 {
     let graph = graph_of(alloc, cells)?;
     let Some(order) = postorder(alloc, graph.as_slice(), top)? else {
-        return Err(recursion_fault(alloc, graph.as_slice()));
+        return Err(recursion_fault(alloc, graph.as_slice(), top));
     };
     let units = units_of(cells);
     if units > UNIT_LIMIT {

@@ -1,4 +1,4 @@
-use Rattle.std.proofs.Common.{◌≡◌, ℕ, Bool, true, false, ◌<◌, ◌∙◌, ap, sym, arith, get_or, length, set, take}
+use Rattle.std.proofs.Common.{◌≡◌, false, ◌<◌, ◌∙◌, ap, sym, arith, get_or, length}
 use Rattle.std.proofs.lemmas.List.{get_or_read}
 use Rattle.net_graph.specs.Marks.{is_marked}
 use Rattle.net_graph.proofs.WorkLaws.{mark_turn_known, mark_turn_new, marks_along}

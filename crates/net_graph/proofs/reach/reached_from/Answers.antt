@@ -1,6 +1,4 @@
-use Rattle.std.proofs.Common.{◌≡◌, ℕ, false, length, replicate, true, ◌⊎◌, inl, inr, sym, ap, subst, ◌∙◌, arith}
-use Rattle.std.specs.Prelude.{◌↔◌}
-use Rattle.net_graph.specs.Graph.{IsReached}
+use Rattle.std.proofs.Common.{◌≡◌, false, length, replicate, true, inl, inr, subst, arith}
 use Rattle.net_graph.specs.Marks.{is_marked}
 use Rattle.net_graph.proofs.MarkLaws.{no_mark}
 use Rattle.net_graph.proofs.WorkLaws.{reached_marks}

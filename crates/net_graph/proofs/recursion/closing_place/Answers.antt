@@ -1,7 +1,7 @@
-use Rattle.std.proofs.Common.{◌≡◌, ℕ, ◌<◌, ◌≤◌, Bool, true, false, length, get_or, slice_get, Some, refl, sym, ◌∙◌, arith}
+use Rattle.std.proofs.Common.{◌≡◌, ◌<◌, false, length, get_or, slice_get, Some, sym, ◌∙◌, arith}
 use Rattle.std.proofs.lemmas.List.{get_or_read}
 use Rattle.std.proofs.lemmas.Option.{slice_get-get_or}
-use Rattle.net_graph.specs.Graph.{HasList, IsAbove}
+use Rattle.net_graph.specs.Graph.{HasList}
 use Rattle.net_graph.specs.Marks.{is_marked}
 use Rattle.net_graph.proofs.Closing.{search_found, search_more, search_none}
 use Rattle.net_graph.proofs.ListLaws.{read_there}

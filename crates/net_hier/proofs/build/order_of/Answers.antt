@@ -2,7 +2,8 @@ use Rattle.std.proofs.Common.{◌≡◌, ℕ, ◌<◌, ◌≤◌, List, length, 
 use Rattle.net_graph.specs.Graph.{HasList, IsInRange, IsPostorder, IsReached, ReachesItself}
 use Rattle.net_hier.specs.Design.{cells_below}
 use Rattle.net_hier.specs.Valid.{count_limit}
-use Rattle.net_hier.proofs.Building.{few, in_range, none_reaches, said_of_some, some_is}
+use Rattle.net_graph.proofs.ListLaws.{said_of_some, some_is}
+use Rattle.net_hier.proofs.Building.{few, in_range, none_reaches}
 use Rattle.net_hier.proofs.build.order_of.Goals as goal
 
 pub postorder-requires-clause-in_range : goal.postorder-requires-clause-in_range

@@ -1,4 +1,4 @@
-use Rattle.net_hier.proofs.Building.{said_of_none}
+use Rattle.net_graph.proofs.ListLaws.{said_of_none}
 use Rattle.net_hier.proofs.build.recursion_fault.Goals as goal
 
 pub unreachable-requires : goal.unreachable-requires
