@@ -16,7 +16,8 @@ use Rattle.std.proofs.lemmas.Slice.Eq.{bytes_eq-Decides}
 use Rattle.nl_base.specs.Case.{small}
 use Rattle.net_bits.specs.Names.{AreUsed, NameSet, alike, has_name, numbered}
 
-alike_laws : (c : Bool) → IsEquivalence (alike c)
+-- the test is an equivalence
+pub alike_laws : (c : Bool) → IsEquivalence (alike c)
 alike_laws false = on_texts_equal (λ name. name)
 alike_laws true = on_texts_equal (map small)
 

@@ -1,13 +1,12 @@
 -- leaves, by their classes
-use Rattle.std.proofs.Common.{◌≡◌, ℕ, ◌<◌, ◌≤◌, ◌==◌, ◌⊎◌, ◌↔◌, inl, inr, Bool, true, List, [], ◌∷◌, Option, Some, None, length, filter, slice_get, refl, sym, ◌∙◌, ap, subst, arith, Contains, get_or}
+use Rattle.std.proofs.Common.{◌≡◌, ℕ, ◌<◌, ◌≤◌, ◌==◌, ◌↔◌, inl, inr, Bool, true, List, [], ◌∷◌, Option, Some, length, filter, slice_get, refl, sym, ◌∙◌, ap, subst, arith, Contains, get_or}
 use Rattle.std.specs.Prelude.{count_by}
 use Rattle.std.specs.List.Sorted.{IsStrictlySortedBy}
-use Rattle.std.proofs.lemmas.Bool.{eqb-true, eq-eqb, cases_lt}
+use Rattle.std.proofs.lemmas.Bool.{eqb-true, cases_lt}
 use Rattle.std.proofs.lemmas.List.Kept.{IsStrictlySortedBy-filter}
 use Rattle.std.proofs.lemmas.List.Sums.{length-filter}
 use Rattle.std.proofs.lemmas.Option.{get_or_from_slice_get, slice_get-get_or, slice_get_within}
-use Rattle.net_graph.specs.Walks.{Leads}
-use Rattle.net_hier.specs.Cells.{HasLocalStep, IsConstantCell, IsLeaf, IsLocallyConnected, IsPortBitOrConstant}
+use Rattle.net_hier.specs.Cells.{IsConstantCell, IsLeaf, IsPortBitOrConstant}
 use Rattle.net_hier.specs.Constants.{ConstantNames, name_of_constant}
 use Rattle.net_hier.specs.Nodes.{node_cmp}
 use Rattle.net_hier.specs.Valid.{IsGoodCell, IsNode}
@@ -21,50 +20,8 @@ use Rattle.net_bits.specs.Classes.{AreClasses, ClassTable, class_of, is_number, 
 use Rattle.net_bits.specs.Leaves.{AreApart, HasForm, IsScalarOutput, is_outer}
 use Rattle.net_bits.specs.Neighbours.{ends}
 use Rattle.net_bits.proofs.Items.{Contains-cons_cases, Contains-filter, Contains-from_filter, Contains-from_flat_map, Contains-place, no_member, place_of}
+use Rattle.net_bits.proofs.CallerLaws.{connected_classes, member_of_class}
 use Rattle.net_bits.proofs.Nodes.{once}
-use Rattle.net_bits.proofs.Transport.{step_back, step_joined}
-
--- a node of a class is joined
-pub joined_member : (cell : HCell) (classes : ClassTable) → AreClasses cell classes → (x : Node) (class : ℕ) → class_of classes x ≡ Some class → Contains classes.nodes x
-joined_member cell classes are x class h = (are.nodes.joined x).1 ((are.joined x).1 (class, h))
-
-is_number-same : (class number : ℕ) → number ≡ class → is_number class (Some number) ≡ true
-is_number-same class number e = eq-eqb number class e
-
-class_from_test : (class : ℕ) (o : Option ℕ) → is_number class o ≡ true → o ≡ Some class
-class_from_test class None h = cc
-class_from_test class (Some number) h = ap Some (eqb-true number class h)
-
--- a node is among the members of its class alone
-pub member_of_class : (cell : HCell) (classes : ClassTable) → AreClasses cell classes → (x : Node) (class : ℕ) → (class_of classes x ≡ Some class) ↔ Contains (members_of classes class) x
-member_of_class cell classes are x class = (
-  λ h. Contains-filter (λ node. is_number class (class_of classes node)) classes.nodes x (joined_member cell classes are x class h) (ap (is_number class) h ∙ is_number-same class class refl),
-  λ m. class_from_test class (class_of classes x) (Contains-from_filter (λ node. is_number class (class_of classes node)) classes.nodes x m).1,
-)
-
--- two nodes are locally connected exactly where they are the same or have the same class
-pub connected_classes : (cell : HCell) (classes : ClassTable) → AreClasses cell classes → (x y : Node)
-    → IsLocallyConnected cell x y ↔ ((x ≡ y) ⊎ ((class : ℕ) × (class_of classes x ≡ Some class) × (class_of classes y ≡ Some class)))
-connected_classes cell classes are x y = (
-  λ c. by c.places c.lead,
-  λ h. elim h as (λ _. IsLocallyConnected cell x y) [
-    | inl e ↦ record { places = []; lead = e }
-    | inr k ↦ (are.same x y k.0 k.0 k.1 k.2).0 refl
-  ],
-)
-  where
-    last_joined : (z : Node) (places : List Node) → Leads (HasLocalStep cell) z places y → Contains (ends cell.joins) z → Contains (ends cell.joins) y
-    last_joined z [] e m = subst (Contains (ends cell.joins)) e m
-    last_joined z (next ∷ rest) l m = last_joined next rest l.1 (step_joined cell next z (step_back cell z next l.0))
-
-    by : (places : List Node) → Leads (HasLocalStep cell) x places y → (x ≡ y) ⊎ ((class : ℕ) × (class_of classes x ≡ Some class) × (class_of classes y ≡ Some class))
-    by [] e = inl e
-    by (next ∷ rest) l =
-        let here = step_joined cell x next l.0 in
-        let j = (are.joined x).0 here in
-        let k = (are.joined y).0 (last_joined x (next ∷ rest) l here) in
-        let same = (are.same x y j.0 k.0 j.1 k.1).1 (record { places = next ∷ rest; lead = l }) in
-        inr (j.0, j.1, k.1 ∙ ap Some (sym same))
 
 -- a node that may not be connected to another such node passes the test
 outer_passes : (cell : HCell) (x : Node) → IsPortBitOrConstant cell x → is_outer x ≡ true

@@ -1,3 +1,4 @@
+pub mod CallerLaws
 mod ClassTables
 mod Cost
 mod EndLists
