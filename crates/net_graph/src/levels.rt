@@ -1,9 +1,9 @@
 // Levels of the numbers of a graph. Numbers that are reached from one another have one level, and a step down never leads to a
 // greater one, so a number whose steps all lead to a lesser level does not reach itself. The levels are found by a walk that tells
 // strongly connected components, of which nothing is proved but that it ends: who uses the levels tests them first.
-ghost use Rattle.std.specs.Prelude.{ℕ, ◌≡◌, ◌<◌, ◌^◌, length, IsTrue, MatchOption};
+ghost use Rattle.std.specs.Prelude.{ℕ, ◌≡◌, ◌<◌, ◌↔◌, ◌^◌, length, IsTrue, MatchOption};
 ghost use Rattle.net_graph.specs.Graph.{IsInRange};
-ghost use Rattle.net_graph.specs.Levels.{AreBelow, AreUpTo, FallsAt, LevelsFall, level_at};
+ghost use Rattle.net_graph.specs.Levels.{AreBelow, AreUpTo, FallsAt, IsFirstKept, LevelsFall, level_at};
 
 use crate::order::Visit;
 use nl_base::{NoMemory, Seq};
@@ -98,7 +98,11 @@ fn level_of(levels: &[u32], number: u32) -> u32
 }
 
 /// Levels of the numbers that are reached from the start.
-pub fn levels_from(alloc: Global, graph: &[Seq<u32>], start: u32) -> Result<Vec<u32>, NoMemory>
+pub(crate) fn levels_from(
+    alloc: Global,
+    graph: &[Seq<u32>],
+    start: u32,
+) -> Result<Vec<u32>, NoMemory>
     requires in_range { IsInRange graph.now }
     requires within { start < length graph.now }
 {
@@ -139,7 +143,7 @@ pub fn levels_from(alloc: Global, graph: &[Seq<u32>], start: u32) -> Result<Vec<
 
 // Whether the numbers have at most this level.
 fn are_up_to(levels: &[u32], level: u32, numbers: &[u32]) -> bool
-    ensures { IsTrue result → AreUpTo levels.now level numbers.now }
+    ensures { IsTrue result ↔ AreUpTo levels.now level numbers.now }
 {
     for number in numbers {
         if level_of(levels, *number) > level {
@@ -151,7 +155,7 @@ fn are_up_to(levels: &[u32], level: u32, numbers: &[u32]) -> bool
 
 // Whether the numbers have a lesser level.
 fn are_below(levels: &[u32], level: u32, numbers: &[u32]) -> bool
-    ensures { IsTrue result → AreBelow levels.now level numbers.now }
+    ensures { IsTrue result ↔ AreBelow levels.now level numbers.now }
 {
     for number in numbers {
         if level_of(levels, *number) >= level {
@@ -162,9 +166,9 @@ fn are_below(levels: &[u32], level: u32, numbers: &[u32]) -> bool
 }
 
 /// Whether no step down leads to a greater level.
-pub fn levels_fall(graph: &[Seq<u32>], levels: &[u32]) -> bool
+pub(crate) fn levels_fall(graph: &[Seq<u32>], levels: &[u32]) -> bool
     requires { length graph.now < 2 ^ 32 }
-    ensures { IsTrue result → LevelsFall graph.now levels.now }
+    ensures { IsTrue result ↔ LevelsFall graph.now levels.now }
 {
     for number in 0..graph.len() as u32 {
         let level = level_of(levels, number);
@@ -175,10 +179,10 @@ pub fn levels_fall(graph: &[Seq<u32>], levels: &[u32]) -> bool
     true
 }
 
-/// The first number from which some step does not lead to a lesser level.
-pub fn first_kept(graph: &[Seq<u32>], levels: &[u32]) -> Option<u32>
+/// The first number from which some step does not lead to a lesser level; nothing exactly where there is none.
+pub(crate) fn first_kept(graph: &[Seq<u32>], levels: &[u32]) -> Option<u32>
     requires { length graph.now < 2 ^ 32 }
-    ensures { MatchOption result ((number : ℕ) → FallsAt graph.now levels.now number) (λ found. (found < length graph.now) × ((number : ℕ) → number < found → FallsAt graph.now levels.now number)) }
+    ensures { MatchOption result ((number : ℕ) → FallsAt graph.now levels.now number) (IsFirstKept graph.now levels.now) }
 {
     for number in 0..graph.len() as u32 {
         let level = level_of(levels, number);

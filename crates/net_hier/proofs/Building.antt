@@ -1,9 +1,8 @@
 -- Cells as a graph.
-use Rattle.std.proofs.Common.{◌≡◌, ℕ, ◌<◌, ◌≤◌, List, length, map, slice_get, Some, sym, ◌∙◌, ap, subst, arith, option_map}
+use Rattle.std.proofs.Common.{◌≡◌, ℕ, ◌<◌, ◌≤◌, List, length, slice_get, Some, sym, ◌∙◌, ap, subst, arith, option_map}
 use Rattle.std.proofs.lemmas.List.{length-map}
 use Rattle.std.proofs.lemmas.Option.{slice_get-map, slice_get_within}
-use Rattle.net_graph.specs.Graph.{HasList, IsAbove, IsFirstRecursion, IsInRange, IsReached, ReachesItself}
-use Rattle.net_graph.proofs.Closing.{closing_reaches}
+use Rattle.net_graph.specs.Graph.{HasList, IsFirstRecursion, IsInRange, IsReached, ReachesItself}
 use Rattle.net_graph.proofs.ListLaws.{element_there, same_element}
 use Rattle.net_hier.specs.Build.{IsOrderOf}
 use Rattle.net_hier.specs.Design.{IsCell, below_of, cells_below}

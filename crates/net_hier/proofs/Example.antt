@@ -1,12 +1,11 @@
 -- A cell whose port is joined to Zero, and the same cell of a target with an added instance of a zero cell: the two designs are the same, cell by cell.
 use Rattle.std.proofs.Common.{◌≡◌, ℕ, zero, suc, ◌<◌, ◌≤◌, ◌⊎◌, ◌↔◌, ◌≢◌, inl, inr, List, [], ◌∷◌, refl, sym, ◌∙◌, ap, subst, subst₂, slice_get, Some, None, Option, Bool, true, false, arith}
-use Rattle.nl_base.specs.declared.value.Dir.TheVariants.{Output}
 use Rattle.nl_base.specs.declared.value.PropValue.{PropValue}
 use Rattle.std.specs.Prelude.{Contains, slice_index_or, IsSome}
 use Rattle.net_hier.specs.Cells.{HasLocalStep, IsBitOrConstant, IsConstantCell, IsConstantInstance, IsLeaf, IsLocallyConnected, constant_node, width_of}
 use Rattle.net_hier.specs.Constants.{usual_names}
 use Rattle.net_hier.specs.Example.{output, tied_cell, tied_design, translated_cell, translated_design, untied_cell, untied_design, zero_cell}
-use Rattle.net_hier.specs.Design.{Design, IsCell}
+use Rattle.net_hier.specs.Design.{IsCell}
 use Rattle.net_hier.specs.Facts.{HasNetValue, HasProperty, SameValues}
 use Rattle.net_hier.specs.SameCells.{HasConstantCells, IsPartner, NeedsConstant, SameCell, SameCells, stand_in}
 use Rattle.std.proofs.lemmas.Option.{slice_get_within}

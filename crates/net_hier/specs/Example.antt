@@ -1,5 +1,5 @@
 -- Three small designs: a cell whose port is joined to the constant zero, its translation with an added instance of a zero cell, and one in which the join is dropped.
-use Rattle.std.specs.Prelude.{ℕ, List, [], ◌∷◌, None}
+use Rattle.std.specs.Prelude.{ℕ, [], ◌∷◌, None}
 use Rattle.nl_base.specs.declared.value.Dir.TheVariants.{Output}
 use Rattle.net_hier.specs.Design.{Design}
 use Rattle.net_hier.specs.declared.cells.HCell.{HCell}

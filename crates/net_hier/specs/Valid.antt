@@ -1,10 +1,9 @@
-use Rattle.std.specs.Prelude.{◌≡◌, ℕ, ◌<◌, ◌≤◌, List, length, slice_get, Some, Contains, All}
+use Rattle.std.specs.Prelude.{◌≡◌, ℕ, ◌<◌, ◌≤◌, List, length, slice_get, Some}
 use Rattle.net_hier.specs.Cells.{IsPortBit, IsPinBit, width_of}
 use Rattle.net_hier.specs.Design.{Design, IsCell, cells_below}
 use Rattle.net_hier.specs.Units.{units}
 use Rattle.net_graph.specs.Graph.{IsPostorder, IsReached, ReachesItself}
 use Rattle.net_hier.specs.declared.cells.HCell.{HCell}
-use Rattle.net_hier.specs.declared.cells.HInst.{HInst}
 use Rattle.net_hier.specs.declared.cells.HPort.{HPort}
 use Rattle.net_hier.specs.declared.nodes.Join.{Join}
 use Rattle.net_hier.specs.declared.nodes.Node.{Node}

@@ -6,16 +6,16 @@ use Rattle.net_graph.proofs.recursion.first_recursion.Goals as goal
 
 pub returns-in_default : goal.returns-in_default
 returns-in_default c number reaches =
-    let fall : LevelsFall c.args.graph.now c.in_ok-levels.levels.items = subst (LevelsFall c.args.graph.now) c.as_slice.ensures.value (c.levels_fall.ensures c.if-levels_fall.true) in
+    let fall : LevelsFall c.args.graph.now c.in_ok-levels.levels.items = subst (LevelsFall c.args.graph.now) c.as_slice.ensures.value (c.levels_fall.ensures.0 c.if-levels_fall.true) in
     let falls : FallsAt c.args.graph.now c.in_ok-levels.levels.items number = subst (λ levels. FallsAt c.args.graph.now levels number) c.as_slice-then-levels_fall.ensures.value (c.in_default.ensures number) in
     falls_free c.args.graph.now c.in_ok-levels.levels.items number fall falls reaches
 
 pub returns-in-Some-2 : goal.returns-in-Some-2
 returns-in-Some-2 c =
-    let fall : LevelsFall c.args.graph.now c.in_ok-levels.levels.items = subst (LevelsFall c.args.graph.now) c.as_slice.ensures.value (c.levels_fall.ensures c.if-levels_fall.true) in
+    let fall : LevelsFall c.args.graph.now c.in_ok-levels.levels.items = subst (LevelsFall c.args.graph.now) c.as_slice.ensures.value (c.levels_fall.ensures.0 c.if-levels_fall.true) in
     record {
       closing = said_of_some c.in_ok-place.field-0 _ _ c.in-Some-2.place c.in-Some-2.is c.in_ok-place.ensures;
       first_number = λ earlier lt reaches.
-          let falls : FallsAt c.args.graph.now c.in_ok-levels.levels.items earlier = subst (λ levels. FallsAt c.args.graph.now levels earlier) c.as_slice-then-levels_fall.ensures.value (c.in-Some.ensures.1 earlier lt) in
+          let falls : FallsAt c.args.graph.now c.in_ok-levels.levels.items earlier = subst (λ levels. FallsAt c.args.graph.now levels earlier) c.as_slice-then-levels_fall.ensures.value (c.in-Some.ensures.first earlier lt) in
           falls_free c.args.graph.now c.in_ok-levels.levels.items earlier fall falls reaches;
     }

@@ -1,4 +1,4 @@
-use Rattle.std.proofs.Common.{◌≡◌, ℕ, ◌<◌, ◌≤◌, List, length, sym, ◌∙◌, subst, arith}
+use Rattle.std.proofs.Common.{◌≡◌, ℕ, ◌≤◌, List, length, sym, ◌∙◌, subst, arith}
 use Rattle.net_graph.specs.Graph.{HasList, IsInRange, IsPostorder, IsReached, ReachesItself}
 use Rattle.net_hier.specs.Design.{cells_below}
 use Rattle.net_hier.specs.Valid.{count_limit}

@@ -1,7 +1,5 @@
-use Rattle.std.proofs.Common.{◌≡◌, ℕ, ◌<◌, ◌≤◌, true, length, sym, subst, arith}
-use Rattle.net_graph.specs.Graph.{IsReached}
-use Rattle.net_hier.specs.Design.{cells_below}
-use Rattle.net_hier.specs.Valid.{CellsFit, count_limit}
+use Rattle.std.proofs.Common.{sym, subst, arith}
+use Rattle.net_hier.specs.Valid.{CellsFit}
 use Rattle.net_hier.proofs.Building.{fit_of, good_in_range}
 use Rattle.net_hier.proofs.fit.cells_fit.Goals as goal
 

@@ -1,4 +1,4 @@
-use Rattle.std.proofs.Common.{◌≡◌, ◌≤◌, length, refl}
+use Rattle.std.proofs.Common.{◌≤◌, length, refl}
 use Rattle.net_hier.specs.Valid.{IsGoodCell, count_limit}
 use Rattle.net_hier.proofs.Fitting.{holds_all, holds_more}
 use Rattle.net_hier.proofs.fit.each_cell_fits.Goals as goal
