@@ -1,0 +1,6 @@
+pub mod Classes
+pub mod Flood
+pub mod Leaves
+pub mod NameTables
+pub mod Names
+pub mod Neighbours

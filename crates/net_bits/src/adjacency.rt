@@ -1,0 +1,89 @@
+ghost use Rattle.std.specs.Prelude.{◌≡◌, ℕ, ◌+◌, ◌*◌, ◌<◌, ◌≤◌, ◌^◌, List, [], map, length, slice_get, Some, slice_index, slice_index_or, sum_by, IfOk};
+
+use crate::joined::{joined_nodes, neighbour_lists};
+use crate::steps::Steps;
+use indexmap::IndexSet;
+use net_hier::{HCell, Node};
+use nl_base::NoMemory;
+use std::alloc::Global;
+use std::marker::Model;
+use std::sync::ledger::Ledger;
+
+/// The joined nodes of a cell, numbered in their order, and for each the numbers of the nodes at the other ends of its joins.
+#[derive(Drop)]
+pub struct Adjacency {
+    nodes: IndexSet<Node>,
+    lists: Vec<Vec<u32>>,
+}
+
+impl Model for Adjacency {
+    ghost use Rattle.std.specs.Prelude.{map};
+    ghost use Rattle.net_bits.specs.Neighbours.{Neighbours, AreFew};
+
+    ghost Value = { Neighbours };
+
+    ghost view = { λ a. record { nodes = a.nodes.keys; lists = map (λ list. list.items) a.lists.items } };
+
+    ghost invariant = { λ a. AreFew (record { nodes = a.nodes.keys; lists = map (λ list. list.items) a.lists.items }) };
+}
+
+impl Adjacency {
+    ghost use Rattle.net_bits.specs.Neighbours.{AreNeighbours, joined_count};
+
+    /// The joined nodes of the cell, and their neighbours. The cell has at most 33,554,432 joins.
+    pub fn of_cell(alloc: Global, cell: &HCell) -> Result<Adjacency, NoMemory>
+        requires { length cell.now.joins ≤ 33554432 }
+        ensures neighbours { IfOk result (AreNeighbours cell.now) }
+        ensures count { IfOk result (λ adjacency. length adjacency.nodes ≡ joined_count cell.now) }
+        ensures degrees { IfOk result (λ adjacency. sum_by length adjacency.lists ≡ 2 * length cell.now.joins) }
+    {
+        let joins = cell.joins.items();
+        let nodes = joined_nodes(alloc, joins)?;
+        let lists = neighbour_lists(alloc, &nodes, joins)?;
+        Ok(Adjacency { nodes, lists })
+    }
+
+    /// How many nodes there are.
+    pub fn count(&self) -> u32
+        ensures { result ≡ length self.now.nodes }
+    {
+        self.nodes.len() as u32
+    }
+
+    /// How many neighbours the node of this number has.
+    pub fn degree(&self, number: u32) -> u32
+        requires { number < length self.now.nodes }
+        ensures { result ≡ length (slice_index_or self.now.lists number []) }
+    {
+        self.lists[number as usize].len() as u32
+    }
+
+    /// The node of this number. It counts one step.
+    pub fn node<L: Ledger>(&self, number: u32, steps: &mut Steps<L>) -> Node
+        requires { number < length self.now.nodes }
+        ensures node { slice_get self.now.nodes number ≡ Some result }
+        ensures cost { steps.new ≡ steps.old + 1 }
+    {
+        steps.tick();
+        self.nodes.as_slice()[number as usize]
+    }
+
+    /// The number of the neighbour at this place in the list of the node of this number. It counts one step.
+    pub fn neighbour<L: Ledger>(&self, number: u32, place: u32, steps: &mut Steps<L>) -> u32
+        requires number { number < length self.now.nodes }
+        requires place { place < length (slice_index_or self.now.lists number []) }
+        ensures neighbour { result ≡ slice_index (slice_index_or self.now.lists number []) place }
+        ensures cost { steps.new ≡ steps.old + 1 }
+    {
+        steps.tick();
+        self.lists[number as usize][place as usize]
+    }
+
+    // The set of the nodes.
+    pub(crate) fn into_nodes(self) -> IndexSet<Node>
+        ensures { result.keys ≡ self.nodes }
+    {
+        let Adjacency { nodes, lists: _ } = self;
+        nodes
+    }
+}

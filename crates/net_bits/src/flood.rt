@@ -1,0 +1,97 @@
+ghost use Rattle.std.specs.Prelude.{◌≡◌, ℕ, ◌+◌, ◌*◌, ◌<◌, ◌≤◌, ◌^◌, List, [], ◌∷◌, None, Some, length, map, slice_index, slice_index_or, sum_by, IfOk, OnOk};
+ghost use Rattle.net_bits.specs.Flood.{AreNumbered, AreMutual, IsNext, IsNumbered, number, unspent};
+
+use crate::adjacency::Adjacency;
+use crate::steps::Steps;
+use nl_base::NoMemory;
+use std::alloc::Global;
+use std::sync::ledger::Ledger;
+
+/// Gives the number `class` to the root and to all nodes that are connected to it.
+fn flood<L: Ledger>(
+    alloc: Global,
+    adjacency: &Adjacency,
+    numbers: &mut [Option<u32>],
+    root: u32,
+    class: u32,
+    steps: &mut Steps<L>,
+) -> Result<(), NoMemory>
+    requires len { length numbers.old ≡ length adjacency.now.lists }
+    requires nodes { length adjacency.now.nodes ≡ length adjacency.now.lists }
+    requires lists { AreMutual adjacency.now.lists }
+    requires root { root < length adjacency.now.lists }
+    requires unnumbered { number numbers.old root ≡ None }
+    requires numbered { IsNumbered (IsNext adjacency.now.lists) numbers.old root class [] }
+    ensures numbered { OnOk result (IsNumbered (IsNext adjacency.now.lists) numbers.new (root + 1) (class + 1) []) }
+    ensures cost { steps.new + unspent numbers.new adjacency.now.lists ≤ steps.old + unspent numbers.old adjacency.now.lists }
+{
+    let mut work = Vec::new(alloc);
+    numbers[root as usize] = Some(class);
+    work.push(root)?;
+    while let Some(node) = work.pop() {
+        for place in 0..adjacency.degree(node) {
+            let other = adjacency.neighbour(node, place, steps);
+            if numbers[other as usize].is_none() {
+                numbers[other as usize] = Some(class);
+                work.push(other)?;
+            }
+        }
+    }
+    Ok(())
+}
+
+// The classes, where each number has one.
+fn all_of(alloc: Global, classes: &[Option<u32>]) -> Result<Vec<u32>, NoMemory>
+    requires { (v : ℕ) → v < length classes.now → (c : ℕ) × (number classes.now v ≡ Some c) }
+    ensures { IfOk result (λ numbers. map Some numbers.items ≡ classes.now) }
+{
+    let mut numbers = Vec::new(alloc);
+    for class in classes {
+        match class {
+            Some(class) => numbers.push(*class)?,
+            None => unreachable!(),
+        }
+    }
+    Ok(numbers)
+}
+
+/// The number of the class of each node, and how many classes there are. Classes are numbered in the order of their least nodes.
+pub fn number_classes<L: Ledger>(
+    alloc: Global,
+    adjacency: &Adjacency,
+    steps: &mut Steps<L>,
+) -> Result<(Vec<u32>, u32), NoMemory>
+    requires nodes { length adjacency.now.nodes ≡ length adjacency.now.lists }
+    requires lists { AreMutual adjacency.now.lists }
+    ensures len { IfOk result (λ r. length r.0.items ≡ length adjacency.now.lists) }
+    ensures numbers { IfOk result (λ r. AreNumbered (IsNext adjacency.now.lists) (map Some r.0.items) r.1) }
+    ensures cost { steps.new ≤ steps.old + sum_by length adjacency.now.lists }
+{
+    let (classes, count) = flood_all(alloc, adjacency, steps)?;
+    let numbers = all_of(alloc, classes.as_slice())?;
+    Ok((numbers, count))
+}
+
+// Floods from each node that has no class yet, in order.
+fn flood_all<L: Ledger>(
+    alloc: Global,
+    adjacency: &Adjacency,
+    steps: &mut Steps<L>,
+) -> Result<(Vec<Option<u32>>, u32), NoMemory>
+    requires nodes { length adjacency.now.nodes ≡ length adjacency.now.lists }
+    requires lists { AreMutual adjacency.now.lists }
+    ensures len { IfOk result (λ r. length r.0.items ≡ length adjacency.now.lists) }
+    ensures numbers { IfOk result (λ r. AreNumbered (IsNext adjacency.now.lists) r.0.items r.1) }
+    ensures cost { steps.new ≤ steps.old + sum_by length adjacency.now.lists }
+{
+    let count = adjacency.count();
+    let mut numbers = vec![in alloc; None; count as usize]?;
+    let mut class = 0;
+    for root in 0..count {
+        if numbers[root as usize].is_none() {
+            flood(alloc, adjacency, &mut numbers, root, class, steps)?;
+            class += 1;
+        }
+    }
+    Ok((numbers, class))
+}

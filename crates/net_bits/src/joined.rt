@@ -1,0 +1,63 @@
+ghost use Rattle.std.specs.Prelude.{◌≡◌, ◌≤◌, ◌<◌, ◌^◌, ◌*◌, ◌↔◌, List, [], Some, Contains, IfOk, length, map, slice_get, sum_by};
+ghost use Rattle.std.specs.List.Sorted.{IsStrictlySortedBy};
+ghost use Rattle.std.specs.Set.{distinct_count};
+ghost use Rattle.net_hier.specs.Nodes.{node_cmp};
+ghost use Rattle.net_hier.specs.declared.nodes.Node.{Node};
+ghost use Rattle.net_bits.specs.Neighbours.{AreOtherEnds, ends, same_node};
+
+use indexmap::IndexSet;
+use net_hier::{Join, Node};
+use nl_base::NoMemory;
+use std::alloc::Global;
+
+/// The nodes at the ends of the joins, each once and in order.
+pub fn joined_nodes(alloc: Global, joins: &[Join]) -> Result<IndexSet<Node>, NoMemory>
+    ensures in_order { IfOk result (λ nodes. IsStrictlySortedBy node_cmp nodes.keys) }
+    ensures joined { IfOk result (λ nodes. (node : Node) → Contains nodes.keys node ↔ Contains (ends joins.now) node) }
+    ensures count { IfOk result (λ nodes. length nodes.keys ≡ distinct_count same_node (ends joins.now)) }
+{
+    let mut nodes = IndexSet::new(alloc);
+    for join in joins {
+        nodes.insert(join.a)?;
+        nodes.insert(join.b)?;
+    }
+    nodes.sort()?;
+    Ok(nodes)
+}
+
+// The number of a node that is in the set.
+fn number_of(nodes: &IndexSet<Node>, node: &Node) -> u32
+    requires member { Contains nodes.now.keys node.now }
+    requires few { length nodes.now.keys < 2 ^ 32 }
+    ensures { slice_get nodes.now.keys result ≡ Some node.now }
+{
+    match nodes.get_index_of(node) {
+        Some(number) => number as u32,
+        None => unreachable!(),
+    }
+}
+
+/// For each node the numbers of the nodes at the other ends of its joins, in the order of the joins.
+pub fn neighbour_lists(
+    alloc: Global,
+    nodes: &IndexSet<Node>,
+    joins: &[Join],
+) -> Result<Vec<Vec<u32>>, NoMemory>
+    requires in_order { IsStrictlySortedBy node_cmp nodes.now.keys }
+    requires members { (node : Node) → Contains (ends joins.now) node → Contains nodes.now.keys node }
+    requires few { length nodes.now.keys < 2 ^ 32 }
+    ensures lists { IfOk result (λ lists. AreOtherEnds nodes.now.keys joins.now (map (λ list. list.items) lists.items)) }
+    ensures degrees { IfOk result (λ lists. sum_by length (map (λ list. list.items) lists.items) ≡ 2 * length joins.now) }
+{
+    let mut lists = Vec::new(alloc);
+    for _node in 0..nodes.len() {
+        lists.push(Vec::new(alloc))?;
+    }
+    for join in joins {
+        let a = number_of(nodes, &join.a);
+        let b = number_of(nodes, &join.b);
+        lists[a as usize].push(b)?;
+        lists[b as usize].push(a)?;
+    }
+    Ok(lists)
+}
