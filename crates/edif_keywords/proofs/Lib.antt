@@ -1,0 +1,5 @@
+pub mod Letters
+pub mod Same
+pub mod Spelled
+pub mod Slots
+pub mod Tables

@@ -1,0 +1,3 @@
+pub mod Aliases
+pub mod Keywords
+pub mod Slots

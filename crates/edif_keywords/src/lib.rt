@@ -1,0 +1,14 @@
+// The keywords of EDIF 2 0 0, the aliases that a text gives them, and which keyword a word means.
+//
+// The public contract in plain words: a word is a keyword exactly where it is the keyword's spelling up to case; it means that keyword,
+// or else the one of the alias that it is up to case. An alias is refused exactly where it means a keyword already or its known word means
+// none (EDIF 2 0 0, keywordMap).
+#![tactic(auto)]
+
+pub mod aliases;
+pub mod find;
+pub mod keyword;
+
+pub use aliases::{AliasFault, Aliases};
+pub use find::find_keyword;
+pub use keyword::{Keyword, spelling};
