@@ -1,0 +1,6 @@
+pub mod Part
+pub mod Texts
+pub mod Reading
+pub mod Clear
+pub mod Faults
+pub mod Whole

@@ -1,0 +1,4 @@
+pub mod Parts
+pub mod Sources
+pub mod Readers
+pub mod Texts

@@ -1,0 +1,114 @@
+-- The tokens that are still to come of a source, and what a reader of tokens answers.
+use Rattle.std.specs.Prelude.{◌≡◌, ℕ, ◌+◌, ◌-◌, ◌≤◌, ◌<◌, ◌↔◌, Bool, List, [], ◌∷◌, length, drop, Option, Some, None, option_map, Result, Ok, Err, is_err, IfOk, IfErr, OnOk, IsTrue, IsFalse}
+use Rattle.std.specs.Io.KnownBytes.{IsAtEnd}
+use Rattle.grammar.specs.Whole.{Terminal, proper, end, Finish, Done, Bad, Over, Stream}
+use Rattle.nl_base.specs.declared.place.Place.{Place}
+use Rattle.nl_base.specs.declared.fault.TextFault.{TextFault}
+use Rattle.nl_base.specs.declared.fault.ReadError.{ReadError}
+use Rattle.nl_base.specs.declared.fault.ReadError.TheVariants as errors
+use Rattle.nl_io.specs.Causes.{Rose}
+use Rattle.nl_bytes.specs.Bytes.{Window, input}
+use Rattle.nl_bytes.specs.declared.bytes.TheConstants.{LIMIT}
+
+-- what is seen of a source: the bytes that are left, where it tells them, and how often it has failed
+pub record Supply : Type 0 where
+  pub left : Option (List ℕ)
+  pub faults : ℕ
+
+-- the supply of a source, by the members of its trait
+abbrev pub supply : {S : Type 0} → (S → Option (List ℕ)) → (S → ℕ) → S → Supply
+supply left faults s = record { left = left s; faults = faults s }
+
+-- the tokens up to the end of the input, which is the last of them, or up to a fault, or as far as they are looked at
+abbrev pub Ahead : Type 0 → Type 0
+Ahead X = Stream (Terminal X Place) TextFault
+
+-- what is known of the tokens of a language: the place and the stop of each, and those of the bytes that stand at a place
+pub record Language (X : Type 0) : Type 0 where
+  pub place : X → Place
+  pub stop : X → ℕ
+  pub tokens : Place → List ℕ → Ahead X
+
+-- how many bytes were ever taken from the source
+abbrev pub taken_by : Window → ℕ
+taken_by w = w.place.offset + length w.held
+
+-- what is left of known bytes once `now` bytes are taken, where `before` bytes were taken when they were left
+unfoldable pub skip : ℕ → ℕ → Option (List ℕ) → Option (List ℕ)
+skip now before bs = option_map (drop (now - before)) bs
+
+-- Bytes are taken from the source, and some of the bytes that were taken are used; the count of faults never falls.
+pub record Moves (old new : Window) (i j : Supply) : Type 0 where
+  pub place : old.place.offset ≤ new.place.offset
+  pub taken : taken_by old ≤ taken_by new
+  pub left : j.left ≡ skip (taken_by new) (taken_by old) i.left
+  pub faults : i.faults ≤ j.faults
+
+-- all bytes that were ever taken end at most 4,096 bytes behind an offset
+abbrev pub IsNear : Window → ℕ → Type 0
+IsNear w stop = taken_by w ≤ stop + 4096
+
+-- what is known of how far bytes were taken at a fault
+unfoldable pub NearError : ReadError → Window → Type 0
+NearError (errors.Text f) w = IsNear w f.stop
+NearError e w = Unit {0}
+
+-- the tokens that are still to be read, where the source tells its bytes
+abbrev pub tokens_ahead : {X : Type 0} → Language X → Window → Supply → Option (Ahead X)
+tokens_ahead L w i = option_map (λ bs. L.tokens w.place bs) (input w i.left)
+
+-- a token, and what comes behind it
+abbrev pub follow : {X : Type 0} → X → Ahead X → Ahead X
+follow x s = record { tokens = proper x ∷ s.tokens; finish = s.finish }
+
+-- the end of the input
+abbrev pub only_end : (X : Type 0) → Place → Ahead X
+only_end X p = record { tokens = end p ∷ []; finish = Done }
+
+-- no token
+abbrev pub no_token : (X : Type 0) → Finish TextFault → Ahead X
+no_token X finish = record { tokens = []; finish = finish }
+
+-- the next token, or what comes in its place; after an Ok, what is ahead then
+abbrev pub Tells : {X : Type 0} → Ahead X → Result (Option X) ReadError → Window → Ahead X → Type 0
+Tells s (Ok (Some x)) now t = s ≡ follow x t
+Tells {X = X} s (Ok None) now t = (s ≡ only_end X now.place) × (t ≡ s)
+Tells {X = X} s (Err (errors.Text f)) now t = s ≡ no_token X (Bad f)
+Tells {X = X} s (Err errors.TooLong) now t = s ≡ no_token X Over
+Tells s (Err errors.ReadFault) now t = Unit {0}
+Tells s (Err errors.NoMemory) now t = Unit {0}
+Tells s (Err errors.Spent) now t = ⊥
+
+-- the same where the source tells its bytes; whether it does never changes
+abbrev pub TellsKnown : {X : Type 0} → Option (Ahead X) → Result (Option X) ReadError → Window → Option (Ahead X) → Type 0
+TellsKnown None r now t = t ≡ None
+TellsKnown (Some s) r now None = ⊥
+TellsKnown (Some s) r now (Some t) = Tells s r now t
+
+-- how far bytes were taken after a token, and at the end
+abbrev pub NearToken : {X : Type 0} → Language X → Option X → Window → Type 0
+NearToken L (Some x) w = IsNear w (L.stop x)
+NearToken L None w = IsNear w w.place.offset
+
+-- at the end no byte is left
+abbrev pub EndsInput : {X : Type 0} → Option X → Supply → Type 0
+EndsInput (Some x) i = Unit {0}
+EndsInput None i = IsAtEnd i.left
+
+-- a token has bytes, and no more than one byte past the limit is used
+abbrev pub Shortens : {X : Type 0} → Option X → Window → Window → Type 0
+Shortens (Some x) old new = (old.place.offset < new.place.offset) × (new.place.offset ≤ LIMIT + 1)
+Shortens None old new = Unit {0}
+
+-- The next token is read, by a reader that is spent where the second of old and new says so.
+pub record ReadsToken {X : Type 0} (L : Language X) (result : Result (Option X) ReadError) (old : Window) (was_spent : Bool) (new : Window) (is_spent : Bool) (i j : Supply) : Type 0 where
+  pub moves : Moves old new i j
+  pub told : IsFalse was_spent → TellsKnown (tokens_ahead L old i) result new (tokens_ahead L new j)
+  pub unspent : OnOk result (IsFalse was_spent)
+  pub spent : IfErr result (λ e. (e ≡ errors.Spent) ↔ IsTrue was_spent)
+  pub spends : is_spent ≡ is_err result
+  pub cause : IfErr result (λ e. e ≡ errors.ReadFault → Rose i.faults j.faults)
+  pub after_error : IfErr result (λ e. NearError e new)
+  pub shorter : IfOk result (λ x. Shortens x old new)
+  pub after_token : IfOk result (λ x. NearToken L x new)
+  pub ended : IfOk result (λ x. EndsInput x j)
