@@ -1,0 +1,7 @@
+pub mod Spans
+pub mod Answering
+pub mod Streams
+pub mod Strings
+pub mod Quoted
+pub mod Held
+pub mod Words

@@ -1,0 +1,17 @@
+use Rattle.std.proofs.Common.{ℕ, ◌-◌, List, ◌++◌, ◌≡◌, ◌≤◌, ◌+◌, length}
+use Rattle.nl_bytes.specs.Bytes.{Uses}
+use Rattle.nl_bytes.specs.declared.bytes.TheConstants.{LIMIT}
+use Rattle.edif_tokens.specs.Strings.{Digits}
+use Rattle.edif_tokens.proofs.string.code.Given as goal
+
+abbrev pub invariant-loop-next : goal.invariant-loop-next
+invariant-loop-next g l = record {
+  used : List ℕ;
+  uses : Uses l.fn.bytes l.bytes (g.S.Source.left l.fn.source) (g.S.Source.left l.source) used;
+  digits : Digits l.begun used l.code;
+  below : l.code ≤ 255;
+  count : g.S.Source.faults l.fn.source ≤ g.S.Source.faults l.source;
+}
+
+abbrev pub decreases-loop-next : goal.decreases-loop-next
+decreases-loop-next g l = LIMIT + 1 - l.bytes.place.offset

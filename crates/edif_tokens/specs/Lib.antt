@@ -1,0 +1,6 @@
+pub mod Flaws
+pub mod Strings
+pub mod Spelling
+pub mod Streams
+pub mod Stream
+pub mod Scan

@@ -1,0 +1,51 @@
+-- The tokens of an EDIF text (EDIF 2 0 0, basic syntax), and what a reader of them has ahead.
+use Rattle.std.specs.Prelude.{ℕ, zero, suc, ◌+◌, ◌-◌, if◌then◌else◌, List, [], ◌∷◌, take, Option, Result, Ok, Err}
+use Rattle.nl_base.specs.declared.place.Place.{Place}
+use Rattle.nl_base.specs.declared.fault.TextFault.{TextFault}
+use Rattle.nl_base.specs.Place.{place_after, place_past, place_at_start}
+use Rattle.nl_bytes.specs.Bytes.{is_space, Window}
+use Rattle.edif_tokens.specs.declared.token.Found.{Found}
+use Rattle.edif_tokens.specs.declared.token.Token.{Token}
+use Rattle.edif_tokens.specs.Spelling.{Piece, Flaw, token_at}
+pub use Rattle.edif_tokens.specs.Streams.{Finish, End, Bad, Over, Stream, ends, follow, limited, stream_ahead}
+
+-- a token that begins at a place
+abbrev pub found_at : Place → Piece Token → Found
+found_at p piece = record { place = p; stop = p.offset + piece.seen; token = piece.value }
+
+-- a fault of a token that begins at a place, where `bs` are the bytes
+abbrev pub fault_at : Place → List ℕ → Flaw → TextFault
+fault_at p bs f = record { place = place_past p (take f.before bs); stop = p.offset + f.seen; reason = f.reason }
+
+-- what the bytes at a place spell, and the tokens behind it; `after n` are those behind a token of n bytes
+abbrev pub then_tokens : Place → List ℕ → Result (Piece Token) Flaw → (ℕ → Stream Found) → Stream Found
+then_tokens p bs (Ok piece) after = follow (found_at p piece) (after piece.count)
+then_tokens p bs (Err f) after = ends (Bad (fault_at p bs f))
+
+-- the tokens of the bytes from a place on, of which the first `skipped` belong to a token before
+unfoldable pub tokens_from : ℕ → Place → List ℕ → Stream Found
+tokens_from skipped p [] = ends (End p.offset)
+tokens_from (suc skipped) p (b ∷ bs) = tokens_from skipped (place_after p b) bs
+tokens_from zero p (b ∷ bs) =
+    if is_space b then tokens_from zero (place_after p b) bs
+    else then_tokens p (b ∷ bs) (token_at b bs) (λ count. tokens_from (count - 1) (place_after p b) bs)
+
+-- how far a token is looked at
+abbrev pub stop_of : Found → ℕ
+stop_of f = f.stop
+
+-- the tokens of the bytes from a place on, as far as their stops lie within the limit of an input
+unfoldable pub stream_from : Place → List ℕ → Stream Found
+stream_from p bs = limited stop_of (tokens_from zero p bs)
+
+-- the tokens of a text, whatever its length
+abbrev pub all_tokens : List ℕ → Stream Found
+all_tokens text = tokens_from zero place_at_start text
+
+-- the tokens of a text, as far as their stops lie within the limit of an input
+abbrev pub tokens : List ℕ → Stream Found
+tokens text = stream_from place_at_start text
+
+-- the tokens that a reader has ahead, where the source tells the bytes that it has left
+abbrev pub tokens_ahead : Window → Option (List ℕ) → Option (Stream Found)
+tokens_ahead w left = stream_ahead stream_from w left

@@ -1,0 +1,37 @@
+ghost use Rattle.std.specs.Prelude.{◌≡◌, ◌≤◌, ◌<◌, ℕ, List, length, Option, IfOk, IsErrOf};
+ghost use Rattle.nl_io.specs.Causes.{Rose};
+ghost use Rattle.nl_base.specs.Faults.{OnText};
+ghost use Rattle.edif_tokens.specs.Scan.{Finds};
+
+use crate::lexeme::{held_token, token};
+use crate::token::Found;
+use nl_base::ReadError;
+use nl_bytes::bytes::{Bytes, Class, LIMIT};
+use nl_io::Source;
+use std::alloc::Global;
+
+/// Reads the next token.
+#[inline(always)]
+pub fn found<S: Source>(
+    bytes: &mut Bytes,
+    alloc: Global,
+    source: &mut S,
+) -> Result<Option<Found>, ReadError>
+    ensures finds { Finds bytes.old bytes.new (S.left source.old) (S.left source.new) result }
+    ensures never_spent { IsErrOf result ReadError.Spent → ⊥ }
+    ensures bounded { OnText result (λ t. bytes.new.place.offset ≤ t.stop) }
+    ensures count { S.faults source.old ≤ S.faults source.new }
+    ensures cause { IsErrOf result ReadError.ReadFault → Rose (S.faults source.old) (S.faults source.new) }
+{
+    let next = bytes.skip(Class::Space, source)?;
+    let Some(byte) = next else {
+        return Ok(None);
+    };
+    match held_token(bytes, alloc, byte, source) {
+        Some(found) => Ok(Some(found)),
+        None => {
+            let found = token(bytes, alloc, byte, source)?;
+            if LIMIT < found.stop { Err(ReadError::TooLong) } else { Ok(Some(found)) }
+        }
+    }
+}
