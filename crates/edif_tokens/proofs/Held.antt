@@ -6,9 +6,10 @@ use Rattle.nl_base.specs.declared.place.Place.{Place}
 use Rattle.nl_base.specs.declared.fault.ReadError.{ReadError}
 use Rattle.nl_base.specs.Place.{place_past}
 use Rattle.nl_base.proofs.Places.{place_past-offset}
-use Rattle.nl_bytes.specs.declared.bytes.Class.{Class}
-use Rattle.nl_bytes.specs.declared.bytes.Halt.{Halt}
-use Rattle.nl_bytes.specs.Bytes.{Window, Uses, Runs, AreIn, in_class, input}
+use Rattle.nl_bytes.specs.declared.class.Class.{Class}
+use Rattle.nl_bytes.specs.declared.halt.Halt.{Halt}
+use Rattle.nl_bytes.specs.Classes.{AreIn, in_class}
+use Rattle.nl_bytes.specs.Bytes.{Window, Uses, Runs, input}
 use Rattle.nl_bytes.proofs.Known.{Uses-known}
 use Rattle.edif_tokens.specs.declared.lexeme.Spanned.{Spanned}
 use Rattle.edif_tokens.specs.Flaws.{Piece, Flaw}

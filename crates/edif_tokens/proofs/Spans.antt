@@ -12,11 +12,12 @@ use Rattle.nl_base.specs.declared.fault.ReadError.{ReadError}
 use Rattle.nl_base.specs.declared.fault.ReadError.TheVariants.{Text, TooLong}
 use Rattle.nl_base.specs.Place.{place_after, place_past}
 use Rattle.nl_bytes.specs.declared.bytes.TheConstants.{LIMIT}
-use Rattle.nl_bytes.specs.declared.bytes.Class.{Class}
-use Rattle.nl_bytes.specs.declared.bytes.Halt.{Halt}
-use Rattle.nl_bytes.specs.declared.bytes.Halt.TheVariants as halts
+use Rattle.nl_bytes.specs.declared.class.Class.{Class}
+use Rattle.nl_bytes.specs.declared.halt.Halt.{Halt}
+use Rattle.nl_bytes.specs.declared.halt.Halt.TheVariants as halts
 use Rattle.nl_bytes.specs.Halts.{error_of}
-use Rattle.nl_bytes.specs.Bytes.{first, Window, Uses, Runs, input, in_class}
+use Rattle.nl_bytes.specs.Classes.{in_class}
+use Rattle.nl_bytes.specs.Bytes.{first, Window, Uses, Runs, input}
 use Rattle.nl_base.proofs.Places.{place_past-append}
 use Rattle.nl_bytes.proofs.Known.{Uses-known, IsAhead-known}
 use Rattle.edif_tokens.specs.Spelling.{Piece, Flaw, flaw, span_at, text_of, ended, may_follow}

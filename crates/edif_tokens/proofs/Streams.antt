@@ -6,12 +6,14 @@ use Rattle.nl_base.specs.declared.place.Place.{Place}
 use Rattle.nl_base.specs.Place.{place_after, place_past}
 use Rattle.nl_base.specs.declared.fault.ReadError.{ReadError}
 use Rattle.nl_base.specs.declared.fault.ReadError.TheVariants.{Text, ReadFault, TooLong, NoMemory, Spent}
-use Rattle.nl_bytes.specs.declared.bytes.Class.TheVariants.{Space}
-use Rattle.nl_bytes.specs.declared.bytes.Halt.{Halt}
-use Rattle.nl_bytes.specs.declared.bytes.Halt.TheVariants as halts
+use Rattle.nl_bytes.specs.declared.class.Class.TheVariants.{Space}
+use Rattle.nl_bytes.specs.declared.halt.Halt.{Halt}
+use Rattle.nl_bytes.specs.declared.halt.Halt.TheVariants as halts
 use Rattle.nl_bytes.specs.declared.bytes.TheConstants.{LIMIT}
 use Rattle.nl_bytes.specs.Halts.{error_of}
-use Rattle.nl_bytes.specs.Bytes.{Window, Uses, Skips, AreIn, IsAhead, input, first, is_space}
+use Rattle.nl_bytes.specs.Classes.{AreIn, is_space}
+use Rattle.nl_bytes.specs.Bytes.{Window, Uses, Skips, IsAhead, input, first, given}
+use Rattle.nl_io.specs.Sources.{left_past}
 use Rattle.nl_bytes.proofs.Uses.{Uses-trans}
 use Rattle.nl_bytes.proofs.Known.{Uses-known, IsAhead-known}
 use Rattle.edif_tokens.specs.declared.token.Found.{Found}
@@ -38,13 +40,13 @@ tokens-token : (p : Place) (b : ℕ) (bs : List ℕ) → is_space b ≡ false �
 unfolding tokens_from
 tokens-token p b bs e = rw e refl
 
-tokens-end : (p : Place) → tokens_from 0 p [] ≡ ends (End p.offset)
+tokens-end : (p : Place) → tokens_from 0 p [] ≡ ends (End p)
 unfolding tokens_from
 tokens-end p = refl
 
-limited-end : (n : ℕ) → n ≤ LIMIT → limited stop_of (ends (End n)) ≡ ends (End n)
+limited-end : (p : Place) → p.offset ≤ LIMIT → limited stop_of (ends (End p)) ≡ ends (End p)
 unfolding limited
-limited-end n le = rw (le-ltb LIMIT n le) refl
+limited-end p le = rw (le-ltb LIMIT p.offset le) refl
 
 after_token : (p q : Place) (b : ℕ) (tail used rest : List ℕ) → 0 < length used → b ∷ tail ≡ used ++ rest → q ≡ place_past p used
     → tokens_from 0 q rest ≡ tokens_from (length used - 1) (place_after p b) tail
@@ -64,8 +66,13 @@ none_of : (bs : List ℕ) → first bs ≡ None → bs ≡ []
 none_of [] e = refl
 none_of (c ∷ cs) e = absurd cc
 
+unknown : (old new : Window) (l l' : Option (List ℕ)) (n : ℕ) → l' ≡ left_past n l → input old l ≡ None → input new l' ≡ None
+unknown old new None l' n suffix e = ap (λ (o : Option (List ℕ)). input new o) suffix
+unknown old new (Some bs) l' n suffix e = absurd cc
+
+-- a source that does not tell its bytes goes on so
 Uses-unknown : {old new : Window} {l l' : Option (List ℕ)} {used : List ℕ} → Uses old new l l' used → input old l ≡ None → input new l' ≡ None
-Uses-unknown u e = ?
+Uses-unknown {old} {new} {l} {l'} u e = unknown old new l l' (given new - given old) u.suffix e
 
 -- what is told where the source tells its bytes
 tells_known : (a b : Option (List ℕ)) (F G : List ℕ → Stream Found) (r : Result (Option Found) ReadError) (now : Window) → (a ≡ None → b ≡ None)
@@ -142,7 +149,7 @@ finds_end {old} {new} {l} {l'} s = record {
   told = tells_known (input old l) (input new l') (within old.place) (within new.place) (Ok None) new (Uses-unknown s.uses) (λ bs known.
     let k = Uses-known old new l l' s.used bs s.uses known in
     let e = none_of k.0 (IsAhead-known new l' None k.0 s.ahead k.1) in
-    let end : within new.place k.0 ≡ ends (End new.place.offset) = ap (within new.place) e ∙ ap (λ (s : Stream Found). limited stop_of s) (tokens-end new.place) ∙ limited-end new.place.offset s.within in
+    let end : within new.place k.0 ≡ ends (End new.place) = ap (within new.place) e ∙ ap (λ (s : Stream Found). limited stop_of s) (tokens-end new.place) ∙ limited-end new.place s.within in
     let tokens : within old.place bs ≡ within new.place k.0 =
       ap (within old.place) k.2 ∙ ap (λ (s : Stream Found). limited stop_of s) (tokens-space old.place s.used k.0 s.each ∙ ap (λ (q : Place). tokens_from 0 q k.0) (sym s.uses.place)) in
     (k.0, k.1, (tokens ∙ end, sym tokens)));

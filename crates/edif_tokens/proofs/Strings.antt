@@ -9,15 +9,15 @@ use Rattle.nl_base.specs.declared.fault.Reason.{Reason}
 use Rattle.nl_base.specs.declared.fault.Reason.TheVariants.{EndOfInput, BadByte, BadEscape, TokenTooLong}
 use Rattle.nl_base.specs.declared.fault.ReadError.{ReadError}
 use Rattle.nl_base.specs.Place.{place_after, place_past}
-use Rattle.nl_bytes.specs.declared.bytes.Class.TheVariants.{Space, Plain}
-use Rattle.nl_bytes.specs.declared.bytes.Halt.{Halt}
-use Rattle.nl_bytes.specs.declared.bytes.Halt.TheVariants as halts
+use Rattle.nl_bytes.specs.declared.class.Class.TheVariants.{Space, StringByte}
+use Rattle.nl_bytes.specs.declared.halt.Halt.{Halt}
+use Rattle.nl_bytes.specs.declared.halt.Halt.TheVariants as halts
 use Rattle.nl_bytes.specs.declared.bytes.TheConstants.{LIMIT}
 use Rattle.nl_bytes.specs.Halts.{error_of}
-use Rattle.nl_bytes.specs.Bytes.{Window, Uses, Skips, Runs, AreIn, IsAhead, input, first, is_space, is_plain}
-use Rattle.std.proofs.KnownBytes.{Consumes-nil}
+use Rattle.nl_bytes.specs.Classes.{AreIn, is_space, is_string_byte}
+use Rattle.nl_bytes.specs.Bytes.{Window, Uses, Skips, Runs, IsAhead, input, first}
 use Rattle.nl_base.proofs.Places.{place_past-append}
-use Rattle.nl_bytes.proofs.Uses.{Uses-byte, Uses-trans}
+use Rattle.nl_bytes.proofs.Uses.{Uses-byte, Uses-none, Uses-trans}
 use Rattle.nl_bytes.proofs.Known.{Uses-known, IsAhead-known}
 use Rattle.edif_tokens.specs.Scan.{refusal, Answers, seen_of, Continues, ReadsPart}
 use Rattle.edif_tokens.specs.Strings.{is_full, Codes, EndsCode}
@@ -205,7 +205,7 @@ code_added {begun} {old} {new} {l} {l'} {a} c p start v x room added = record {
 pub part_none : (from : ℕ → Within) (p start : Place) (w : Window) (l : Option (List ℕ)) (v : List ℕ) → ReadsPart from from p start w w l l v v (Ok tt)
 part_none from p start w l v = record {
   used = [];
-  uses = record { bytes = Consumes-nil (input w l); place = refl };
+  uses = Uses-none w l;
   spelled = λ front bs rest s le st place known new_known parts. ap (string_at (from s) v (length front)) parts ∙ ap (λ (k : ℕ). string_at (from s) v k rest) (sym (add-zero (length front)));
 }
 
@@ -286,13 +286,13 @@ offset_grows {old} {new} {l} {l'} {used} u = ap (λ (q : Place). q.offset) u.pla
 
 -- ---- parts
 
-plain_not : (b : ℕ) → is_plain b ≡ true → (eqb b 34 ≡ false) × (eqb b 37 ≡ false)
+plain_not : (b : ℕ) → is_string_byte b ≡ true → (eqb b 34 ≡ false) × (eqb b 37 ≡ false)
 plain_not b plain = (
-  ne_eqb b 34 (λ e. let h : is_plain 34 ≡ true = subst (λ (x : ℕ). is_plain x ≡ true) e plain in absurd cc),
-  ne_eqb b 37 (λ e. let h : is_plain 37 ≡ true = subst (λ (x : ℕ). is_plain x ≡ true) e plain in absurd cc),
+  ne_eqb b 34 (λ e. let h : is_string_byte 34 ≡ true = subst (λ (x : ℕ). is_string_byte x ≡ true) e plain in absurd cc),
+  ne_eqb b 37 (λ e. let h : is_string_byte 37 ≡ true = subst (λ (x : ℕ). is_string_byte x ≡ true) e plain in absurd cc),
 )
 
-plain_run : (v used rest : List ℕ) (n : ℕ) → AreIn Plain used → length used ≤ 1048576 - length v → string_at Parts v n (used ++ rest) ≡ string_at Parts (v ++ used) (n + length used) rest
+plain_run : (v used rest : List ℕ) (n : ℕ) → AreIn StringByte used → length used ≤ 1048576 - length v → string_at Parts v n (used ++ rest) ≡ string_at Parts (v ++ used) (n + length used) rest
 unfolding string_at
 plain_run v [] rest n all most = ap (λ (xs : List ℕ). string_at Parts xs n rest) (sym (append-nil v)) ∙ ap (λ (k : ℕ). string_at Parts (v ++ []) k rest) (sym (add-zero n))
 plain_run v (b ∷ bs) rest n all most =
@@ -304,7 +304,7 @@ plain_run v (b ∷ bs) rest n all most =
     rw (plain, quote, percent, full) (plain_run (v ++ b ∷ []) bs rest (n + 1) all.1 (omega (arith, length-append v (b ∷ [])))
       ∙ ap (λ (xs : List ℕ). string_at Parts xs (n + 1 + length bs) rest) (append_assoc v (b ∷ []) bs) ∙ ap (λ (k : ℕ). string_at Parts (v ++ b ∷ bs) k rest) (omega arith))
 
-pub plain_part : {m : ℕ} {old new : Window} {l l' : Option (List ℕ)} {v w : List ℕ} {r : Result (Option ℕ) Halt} → Runs Plain m old new l l' v w r → m ≡ 1048576 - length v → (p start : Place)
+pub plain_part : {m : ℕ} {old new : Window} {l l' : Option (List ℕ)} {v w : List ℕ} {r : Result (Option ℕ) Halt} → Runs StringByte m old new l l' v w r → m ≡ 1048576 - length v → (p start : Place)
     → ReadsPart (λ s. Parts) (λ s. Parts) p start old new l l' v w (Ok tt)
 plain_part {m} {old} {new} {l} {l'} {v} {w} {r} k m-is p start = record {
   used = k.used;
@@ -319,7 +319,7 @@ parts_end v s n = refl
 
 -- a plain byte too many
 pub parts_full : {from : ℕ → Within} {p start : Place} {old new : Window} {l l' : Option (List ℕ)} {v w : List ℕ} {u : Unit {0}}
-    → ReadsPart from (λ s. Parts) p start old new l l' v w (Ok u) → (to : ℕ → Within) (x : List ℕ) (b : ℕ) → IsAhead new l' (Some b) → is_plain b ≡ true → 1048576 ≤ length w
+    → ReadsPart from (λ s. Parts) p start old new l l' v w (Ok u) → (to : ℕ → Within) (x : List ℕ) (b : ℕ) → IsAhead new l' (Some b) → is_string_byte b ≡ true → 1048576 ≤ length w
     → ReadsPart from to p start old new l l' v x (Err (refusal p (new.place.offset + 1) TokenTooLong))
 unfolding string_at
 parts_full {from} {p} {start} {old} {new} {l} {l'} {v} {w} f to x b is_ahead plain most = part_refused f to x p (new.place.offset + 1) TokenTooLong (λ front rest s le st at known.
@@ -333,7 +333,7 @@ parts_full {from} {p} {start} {old} {new} {l} {l'} {v} {w} f to x b is_ahead pla
 
 -- a byte that may not stand in a string
 pub parts_bad : {from : ℕ → Within} {p start : Place} {old new : Window} {l l' : Option (List ℕ)} {v w : List ℕ} {u : Unit {0}}
-    → ReadsPart from (λ s. Parts) p start old new l l' v w (Ok u) → (to : ℕ → Within) (x : List ℕ) (b : ℕ) → IsAhead new l' (Some b) → eqb b 34 ≡ false → eqb b 37 ≡ false → is_plain b ≡ false
+    → ReadsPart from (λ s. Parts) p start old new l l' v w (Ok u) → (to : ℕ → Within) (x : List ℕ) (b : ℕ) → IsAhead new l' (Some b) → eqb b 34 ≡ false → eqb b 37 ≡ false → is_string_byte b ≡ false
     → ReadsPart from to p start old new l l' v x (Err (refusal new.place (new.place.offset + 1) BadByte))
 unfolding string_at
 parts_bad {from} {p} {start} {old} {new} {l} {l'} {v} {w} f to x b is_ahead quote percent plain = part_refused f to x new.place (new.place.offset + 1) BadByte (λ front rest s le st at known.

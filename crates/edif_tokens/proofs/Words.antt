@@ -3,8 +3,8 @@ use Rattle.std.proofs.Common.{◌≡◌, ℕ, ◌<◌, ◌≤◌, Bool, true, fa
 use Rattle.std.specs.Char.{is_ascii_alphabetic, is_ascii_digit}
 use Rattle.std.specs.List.{AllByRecursion, list_all}
 use Rattle.nl_base.specs.Identifiers as base
-use Rattle.nl_bytes.specs.declared.bytes.Class.TheVariants.{WordByte}
-use Rattle.nl_bytes.specs.Bytes.{AreIn}
+use Rattle.nl_bytes.specs.declared.class.Class.TheVariants.{WordByte}
+use Rattle.nl_bytes.specs.Classes.{AreIn}
 use Rattle.edif_tokens.specs.declared.scan.Start.{Start}
 use Rattle.edif_tokens.specs.declared.scan.Start.TheVariants.{Open, Close, Quote, Letter, Ampersand, Digit, Sign, Other}
 use Rattle.edif_tokens.specs.Spelling.{begins_word, start_of}

@@ -5,9 +5,10 @@ use Rattle.nl_base.specs.declared.fault.Reason.{Reason}
 use Rattle.nl_base.specs.declared.fault.TextFault.{TextFault}
 use Rattle.nl_base.specs.declared.fault.ReadError.{ReadError}
 use Rattle.nl_base.specs.declared.fault.ReadError.TheVariants.{Text, ReadFault, TooLong, NoMemory, Spent}
-use Rattle.nl_bytes.specs.declared.bytes.Class.{Class}
+use Rattle.nl_bytes.specs.declared.class.Class.{Class}
 use Rattle.nl_bytes.specs.declared.bytes.TheConstants.{LIMIT}
-use Rattle.nl_bytes.specs.Bytes.{Window, Uses, AreIn, input, in_class, first}
+use Rattle.nl_bytes.specs.Classes.{AreIn, in_class}
+use Rattle.nl_bytes.specs.Bytes.{Window, Uses, input, first}
 use Rattle.nl_base.specs.declared.fault.Reason.TheVariants.{BadByte, TokenTooLong, NumberRange}
 use Rattle.nl_base.specs.Place.{place_past}
 use Rattle.edif_tokens.specs.Strings.{Within, string_at}

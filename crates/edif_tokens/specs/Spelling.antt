@@ -5,7 +5,8 @@ use Rattle.std.specs.List.{prefix_len}
 use Rattle.nl_base.specs.declared.place.Place.{Place}
 use Rattle.nl_base.specs.declared.fault.Reason.{Reason}
 use Rattle.nl_base.specs.declared.fault.Reason.TheVariants.{EndOfInput, BadByte, BadEscape, TokenTooLong, NumberRange}
-use Rattle.nl_bytes.specs.Bytes.{is_space, is_word_byte, first}
+use Rattle.nl_bytes.specs.Classes.{is_space, is_word_byte}
+use Rattle.nl_bytes.specs.Bytes.{first}
 pub use Rattle.edif_tokens.specs.Flaws.{Piece, Flaw, ◌>>=◌, flaw}
 use Rattle.edif_tokens.specs.Strings.{Parts, string_at}
 use Rattle.edif_tokens.specs.declared.token.Token.{Token}

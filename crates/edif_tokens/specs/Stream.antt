@@ -3,11 +3,13 @@ use Rattle.std.specs.Prelude.{ℕ, zero, suc, ◌+◌, ◌-◌, if◌then◌else
 use Rattle.nl_base.specs.declared.place.Place.{Place}
 use Rattle.nl_base.specs.declared.fault.TextFault.{TextFault}
 use Rattle.nl_base.specs.Place.{place_after, place_past, place_at_start}
-use Rattle.nl_bytes.specs.Bytes.{is_space, Window}
+use Rattle.nl_bytes.specs.Classes.{is_space}
+use Rattle.nl_bytes.specs.Bytes.{Window}
 use Rattle.edif_tokens.specs.declared.token.Found.{Found}
 use Rattle.edif_tokens.specs.declared.token.Token.{Token}
 use Rattle.edif_tokens.specs.Spelling.{Piece, Flaw, token_at}
-pub use Rattle.edif_tokens.specs.Streams.{Finish, End, Bad, Over, Stream, ends, follow, limited, stream_ahead}
+use Rattle.nl_base.specs.declared.fault.ReadError.{ReadError}
+use Rattle.edif_tokens.specs.Streams.{End, Bad, Stream, State, Reads, ends, follow, limited, stream_ahead}
 
 -- a token that begins at a place
 abbrev pub found_at : Place → Piece Token → Found
@@ -24,7 +26,7 @@ then_tokens p bs (Err f) after = ends (Bad (fault_at p bs f))
 
 -- the tokens of the bytes from a place on, of which the first `skipped` belong to a token before
 unfoldable pub tokens_from : ℕ → Place → List ℕ → Stream Found
-tokens_from skipped p [] = ends (End p.offset)
+tokens_from skipped p [] = ends (End p)
 tokens_from (suc skipped) p (b ∷ bs) = tokens_from skipped (place_after p b) bs
 tokens_from zero p (b ∷ bs) =
     if is_space b then tokens_from zero (place_after p b) bs
@@ -49,3 +51,7 @@ tokens text = stream_from place_at_start text
 -- the tokens that a reader has ahead, where the source tells the bytes that it has left
 abbrev pub tokens_ahead : Window → Option (List ℕ) → Option (Stream Found)
 tokens_ahead w left = stream_ahead stream_from w left
+
+-- A reader of EDIF tokens was asked for the next one.
+abbrev pub ReadsToken : Result (Option Found) ReadError → State → State → Option (List ℕ) → Option (List ℕ) → ℕ → ℕ → Type 0
+ReadsToken result old new left left' faults faults' = Reads stream_from stop_of result old new left left' faults faults'

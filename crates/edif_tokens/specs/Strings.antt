@@ -5,9 +5,10 @@ use Rattle.nl_base.specs.declared.place.Place.{Place}
 use Rattle.nl_base.specs.declared.fault.Reason.TheVariants.{EndOfInput, BadByte, BadEscape, TokenTooLong}
 use Rattle.nl_base.specs.declared.fault.ReadError.{ReadError}
 use Rattle.nl_base.specs.Place.{place_past}
-use Rattle.nl_bytes.specs.Bytes.{is_space, is_plain, Window, Uses, IsAhead, input}
-use Rattle.nl_bytes.specs.declared.bytes.Halt.{Halt}
-use Rattle.nl_bytes.specs.declared.bytes.Halt.TheVariants.{TooLong}
+use Rattle.nl_bytes.specs.Classes.{is_space, is_string_byte}
+use Rattle.nl_bytes.specs.Bytes.{Window, Uses, IsAhead, input}
+use Rattle.nl_bytes.specs.declared.halt.Halt.{Halt}
+use Rattle.nl_bytes.specs.declared.halt.Halt.TheVariants.{TooLong}
 use Rattle.nl_bytes.specs.declared.bytes.TheConstants.{LIMIT}
 use Rattle.edif_tokens.specs.Flaws.{Piece, Flaw, flaw}
 
@@ -30,7 +31,7 @@ string_at (Code start code) value n [] = if is_full value then flaw TokenTooLong
 string_at Parts value n (b ∷ bs) =
     if b == 34 then Ok (record { value = value; count = n + 1; seen = n + 1 })
     else (if b == 37 then string_at (Escape n false) value (n + 1) bs
-    else (if is_plain b then (if is_full value then flaw TokenTooLong 0 (n + 1) else string_at Parts (value ++ b ∷ []) (n + 1) bs)
+    else (if is_string_byte b then (if is_full value then flaw TokenTooLong 0 (n + 1) else string_at Parts (value ++ b ∷ []) (n + 1) bs)
     else flaw BadByte n (n + 1)))
 string_at (Escape start coded) value n (b ∷ bs) =
     if is_space b then string_at (Escape start coded) value (n + 1) bs

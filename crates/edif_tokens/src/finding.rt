@@ -6,7 +6,8 @@ ghost use Rattle.edif_tokens.specs.Scan.{Finds};
 use crate::lexeme::{held_token, token};
 use crate::token::Found;
 use nl_base::ReadError;
-use nl_bytes::bytes::{Bytes, Class, LIMIT};
+use nl_bytes::{Bytes, Class};
+use nl_bytes::bytes::LIMIT;
 use nl_io::Source;
 use std::alloc::Global;
 

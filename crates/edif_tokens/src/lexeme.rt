@@ -1,7 +1,8 @@
 ghost use Rattle.std.specs.Prelude.{◌≡◌, ◌+◌, ◌<◌, ◌≤◌, ◌^◌, ◌∷◌, [], ℕ, true, List, length, Some, None, Option, IfOk, IfSome, IsNone, false, IsErrOf, Ok, Err};
 ghost use Rattle.nl_io.specs.Causes.{Rose};
 ghost use Rattle.nl_base.specs.Faults.{OnText};
-ghost use Rattle.nl_bytes.specs.Bytes.{in_class, Uses};
+ghost use Rattle.nl_bytes.specs.Classes.{in_class};
+ghost use Rattle.nl_bytes.specs.Bytes.{Uses};
 ghost use Rattle.nl_base.specs.Place.{place_past};
 ghost use Rattle.edif_tokens.specs.Scan.{Begins, ReadsText, Reads};
 ghost use Rattle.edif_tokens.specs.Spelling.{word_spelled, number_spelled, token_by, start_of, begins_word};
@@ -12,7 +13,8 @@ use crate::scan::{integer_of, may_follow, refuse, span, start_of, Start};
 use crate::string::string;
 use crate::token::{Found, Token};
 use nl_base::{Ident, Place, ReadError, Reason, Text};
-use nl_bytes::bytes::{Bytes, Class, LIMIT};
+use nl_bytes::{Bytes, Class};
+use nl_bytes::bytes::LIMIT;
 use nl_io::Source;
 use std::alloc::Global;
 

@@ -1,13 +1,14 @@
 ghost use Rattle.std.specs.Prelude.{◌≡◌, ◌+◌, ◌<◌, ◌≤◌, ◌^◌, ℕ, List, length, Some, None, Option, IfOk, IsErrOf, option_map};
 ghost use Rattle.nl_io.specs.Causes.{Rose};
 ghost use Rattle.nl_base.specs.Faults.{OnText};
-ghost use Rattle.nl_bytes.specs.Bytes.{in_class};
+ghost use Rattle.nl_bytes.specs.Classes.{in_class};
 ghost use Rattle.nl_base.specs.Place.{place_past};
 ghost use Rattle.edif_tokens.specs.Spelling.{start_of, may_follow, integer_of};
 ghost use Rattle.edif_tokens.specs.Scan.{refusal, ending, Spans};
 
 use nl_base::{Int, Place, ReadError, Reason, TextFault};
-use nl_bytes::bytes::{Bytes, Class, Halt, LIMIT};
+use nl_bytes::{Bytes, Class, Halt};
+use nl_bytes::bytes::LIMIT;
 use nl_io::Source;
 
 /// What a byte begins.

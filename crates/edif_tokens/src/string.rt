@@ -9,7 +9,8 @@ ghost use Rattle.edif_tokens.specs.Spelling.{string_spelled};
 use crate::scan::refuse;
 use crate::token::{Found, Token};
 use nl_base::{Place, ReadError, Reason, Text};
-use nl_bytes::bytes::{Bytes, Class, Halt, LIMIT};
+use nl_bytes::{Bytes, Class, Halt};
+use nl_bytes::bytes::LIMIT;
 use nl_io::Source;
 use std::alloc::Global;
 
@@ -118,7 +119,7 @@ fn parts<S: Source>(
 {
     'parts: loop {
         let most = MOST.saturating_sub(value.len());
-        let next = bytes.run(Class::Plain, most, value, source)?;
+        let next = bytes.run(Class::StringByte, most, value, source)?;
         let here = bytes.place();
         let Some(b) = next else {
             return Err(refuse(here, here.offset, Reason::EndOfInput));
@@ -127,7 +128,7 @@ fn parts<S: Source>(
             return Ok(());
         }
         if b != b'%' {
-            if Class::Plain.contains(b) {
+            if Class::StringByte.contains(b) {
                 return Err(refuse(place, here.offset + 1, Reason::TokenTooLong));
             }
             return Err(refuse(here, here.offset + 1, Reason::BadByte));

@@ -4,7 +4,7 @@ ghost use Rattle.nl_io.specs.Causes.{Rose};
 use crate::finding::found;
 use crate::token::Found;
 use nl_base::{Place, ReadError};
-use nl_bytes::bytes::Bytes;
+use nl_bytes::Bytes;
 use nl_io::Source;
 use std::alloc::{AllocError, Global};
 use std::marker::Model;

@@ -2,7 +2,7 @@ use Rattle.std.proofs.Common.{◌≡◌, ℕ, List, [], ◌++◌, take, length, 
 use Rattle.nl_base.specs.declared.place.Place.{Place}
 use Rattle.nl_base.proofs.Places.{place_past-offset}
 use Rattle.std.specs.List.{prefix_len}
-use Rattle.nl_bytes.specs.Bytes.{in_class}
+use Rattle.nl_bytes.specs.Classes.{in_class}
 use Rattle.nl_bytes.proofs.Fronts.{front-all, held_run}
 use Rattle.edif_tokens.specs.Spelling.{may_follow}
 use Rattle.edif_tokens.proofs.Held.{held_reads}

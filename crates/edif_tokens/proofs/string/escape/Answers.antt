@@ -4,7 +4,7 @@ use Rattle.std.specs.Char.{is_ascii_digit}
 use Rattle.std.proofs.lemmas.Bool.{ne_eqb}
 use Rattle.std.proofs.lemmas.Result.{err_from_is_err_and}
 use Rattle.nl_bytes.specs.Bytes.{Skips}
-use Rattle.nl_bytes.specs.declared.bytes.Class.TheVariants.{Space}
+use Rattle.nl_bytes.specs.declared.class.Class.TheVariants.{Space}
 use Rattle.edif_tokens.specs.Strings.{Escape, Code, Parts}
 use Rattle.edif_tokens.proofs.Spans.{at_err}
 use Rattle.edif_tokens.proofs.Strings.{part_none, part_byte, part_space, part_ends, escape_end, escape_digit, escape_closes, escape_refused, part_trans, part_err, offset_grows, part_halted, part_refused}

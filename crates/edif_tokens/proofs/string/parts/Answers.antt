@@ -2,7 +2,7 @@ use Rattle.std.proofs.Common.{◌≡◌, refl, ℕ, List, ◌∷◌, Bool, true,
 use Rattle.std.proofs.lemmas.Bool.{ne_eqb}
 use Rattle.std.proofs.lemmas.Result.{err_from_is_err_and}
 use Rattle.nl_base.specs.declared.place.Place.{Place}
-use Rattle.nl_bytes.specs.Bytes.{is_plain}
+use Rattle.nl_bytes.specs.Classes.{is_string_byte}
 use Rattle.edif_tokens.specs.Strings.{Parts}
 use Rattle.edif_tokens.proofs.Spans.{at_err}
 use Rattle.edif_tokens.proofs.Strings.{plain_part, parts_end, parts_full, parts_bad, parts_escape, part_ends, part_trans, part_err, part_halted, offset_grows}
@@ -28,7 +28,7 @@ pub returns-then-contains-clause-reads : goal.returns-then-contains-clause-reads
 returns-then-contains-clause-reads g c =
     let runs = rw c.in-Some.is at c.in_ok-next.ensures.runs in
     let b = c.in-Some.b in
-    let plain : is_plain b ≡ true = search (rules, c.if-contains.ensures, c.if-contains.true) in
+    let plain : is_string_byte b ≡ true = search (rules, c.if-contains.ensures, c.if-contains.true) in
     let whole = runs.longest plain in
     rw (c.refuse-then-contains.ensures, c.place-here.ensures.place)
       (parts_full (part_trans c.parts.invariant.part (plain_part runs (omega (arith, c.len.ensures, c.saturating_sub-most.ensures)) _ _)) _ _ b runs.ahead plain
@@ -38,7 +38,7 @@ pub returns-then-b-ne37-clause-reads : goal.returns-then-b-ne37-clause-reads
 returns-then-b-ne37-clause-reads g c =
     let runs = rw c.in-Some.is at c.in_ok-next.ensures.runs in
     let b = c.in-Some.b in
-    let plain : is_plain b ≡ false = search (rules, c.if-contains.ensures, c.if-contains.false) in
+    let plain : is_string_byte b ≡ false = search (rules, c.if-contains.ensures, c.if-contains.false) in
     rw (c.refuse-then-b-ne37.ensures, c.place-here.ensures.place)
       (parts_bad (part_trans c.parts.invariant.part (plain_part runs (omega (arith, c.len.ensures, c.saturating_sub-most.ensures)) _ _)) _ _ b runs.ahead (ne_eqb b 34 c.if-b-eq34.false) (ne_eqb b 37 c.if-b-ne37.true) plain)
 
