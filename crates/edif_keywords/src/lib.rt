@@ -6,9 +6,11 @@
 #![tactic(auto)]
 
 pub mod aliases;
+pub mod cursor;
 pub mod find;
 pub mod keyword;
 
 pub use aliases::{AliasFault, Aliases};
+pub use cursor::Cursor;
 pub use find::find_keyword;
-pub use keyword::{Keyword, spelling};
+pub use keyword::{is_among, spelling, Keyword};
