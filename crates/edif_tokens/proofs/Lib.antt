@@ -5,3 +5,4 @@ pub mod Strings
 pub mod Quoted
 pub mod Held
 pub mod Words
+pub mod Readers

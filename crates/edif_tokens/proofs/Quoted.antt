@@ -15,7 +15,7 @@ use Rattle.edif_tokens.specs.Spelling.{string_spelled, str_of}
 use Rattle.edif_tokens.specs.Stream.{found_at}
 use Rattle.edif_tokens.specs.Scan.{Answers, seen_of, ReadsPart, Reads}
 use Rattle.edif_tokens.proofs.Answering.{Answers-err-then}
-use Rattle.edif_tokens.proofs.Strings.{offset_grows}
+use Rattle.edif_tokens.proofs.Spans.{offset_grows}
 
 -- the byte at which a reader stands was used
 pub record Steps (a b : Window) (byte : ℕ) : Type 0 where

@@ -27,6 +27,10 @@ pub offset_past : (p : Place) (bs : List ℕ) → (place_past p bs).offset ≡ p
 offset_past p [] = omega arith
 offset_past p (b ∷ bs) = omega (arith, offset_past (place_after p b) bs)
 
+-- the bytes that are used take the reader on
+pub offset_grows : {old new : Window} {l l' : Option (List ℕ)} {used : List ℕ} → Uses old new l l' used → new.place.offset ≡ old.place.offset + length used
+offset_grows {old} {new} {l} {l'} {used} u = ap (λ (q : Place). q.offset) u.place ∙ offset_past old.place used
+
 -- a refusal answers for the flaw at its place
 pub refusal_answers : {A B : Type 0} (p : Place) (bs : List ℕ) (Gives : Piece A → B → Type 0) (reason : Reason) (before seen : ℕ) (here : Place) (stop : ℕ)
     → here ≡ place_past p (take before bs) → stop ≡ p.offset + seen → Answers {A = A} {B = B} p bs Gives (flaw {A = Piece A} reason before seen) (Err (refusal here stop reason))

@@ -21,8 +21,9 @@ use Rattle.edif_tokens.specs.declared.token.Token.{Token}
 use Rattle.edif_tokens.specs.Spelling.{Piece, Flaw, token_at, token_by, start_of}
 use Rattle.edif_tokens.specs.Streams.{Tells, TellsKnown}
 use Rattle.edif_tokens.specs.Streams.{Stream, End, Bad, Over, ends, follow, limited}
-use Rattle.edif_tokens.specs.Stream.{stop_of, stream_from, tokens_from, then_tokens, found_at, fault_at}
+use Rattle.edif_tokens.specs.Stream.{stop_of, tokens_ahead, stream_from, tokens_from, then_tokens, found_at, fault_at}
 use Rattle.edif_tokens.specs.Scan.{Answers, Reads, Finds}
+use Rattle.edif_tokens.proofs.Spans.{offset_grows}
 
 -- white space is passed over
 tokens-space : (p : Place) (used rest : List ℕ) → AreIn Space used → tokens_from 0 p (used ++ rest) ≡ tokens_from 0 (place_past p used) rest
@@ -116,16 +117,17 @@ on_ok (Err e) f h = tt
 abbrev within : Place → List ℕ → Stream Found
 within p bs = limited stop_of (tokens_from 0 p bs)
 
+-- what was told of the tokens ahead
+abbrev Told : Window → Window → Option (List ℕ) → Option (List ℕ) → Result (Option Found) ReadError → Type 0
+Told old new l l' r = TellsKnown (tokens_ahead old l) r new (tokens_ahead new l')
+
 -- white space, and then a token
-pub finds_token : {old mid new : Window} {l m l' : Option (List ℕ)} {b : ℕ} {r : Result Found ReadError}
-    → Skips Space old mid l m (Ok (Some b)) → Reads (token_by (start_of b)) mid.place mid new m l' r → Finds old new l l' (finish r)
+told_token : {old mid new : Window} {l m l' : Option (List ℕ)} {b : ℕ} {r : Result Found ReadError}
+    → Skips Space old mid l m (Ok (Some b)) → Reads (token_by (start_of b)) mid.place mid new m l' r → Told old new l l' (finish r)
 unfolding token_at stream_from
-finds_token {old} {mid} {new} {l} {m} {l'} {b} {r} s t = 
-  let uses = Uses-trans old mid new l m l' s.used t.used s.uses t.uses in
-  record {
-  used = s.used ++ t.used;
-  uses = uses;
-  told = tells_known (input old l) (input new l') (within old.place) (within new.place) (finish r) new (Uses-unknown uses) (λ bs known.
+told_token {old} {mid} {new} {l} {m} {l'} {b} {r} s t =
+    let uses = Uses-trans old mid new l m l' s.used t.used s.uses t.uses in
+    tells_known (input old l) (input new l') (within old.place) (within new.place) (finish r) new (Uses-unknown uses) (λ bs known.
     let k = Uses-known old mid l m s.used bs s.uses known in
     let j = Uses-known mid new m l' t.used k.0 t.uses k.1 in
     let f = front_of k.0 b (IsAhead-known mid m (Some b) k.0 s.ahead k.1) in
@@ -137,7 +139,18 @@ finds_token {old} {mid} {new} {l} {m} {l'} {b} {r} s t =
     let new_is : OnOk r (within new.place j.0 ≡ limited stop_of (after (length t.used))) =
       on_ok r (λ some. ap (λ (s : Stream Found). limited stop_of s) (after_token mid.place new.place b f.0 t.used j.0 some (sym f.1 ∙ j.2) t.uses.place)) t.some in
     (j.0, j.1, subst (λ (x : Stream Found). Tells (limited stop_of x) (finish r) new (within new.place j.0)) (sym tokens)
-      (token_told mid.place (b ∷ f.0) t.used (token_at b f.0) r after new (within new.place j.0) answer new_is)));
+      (token_told mid.place (b ∷ f.0) t.used (token_at b f.0) r after new (within new.place j.0) answer new_is)))
+
+-- white space, and then what is no token
+pub finds_refused : {old mid new : Window} {l m l' : Option (List ℕ)} {b : ℕ} {e : ReadError}
+    → Skips Space old mid l m (Ok (Some b)) → Reads (token_by (start_of b)) mid.place mid new m l' (Err e) → Finds old new l l' (Err e)
+finds_refused {old} {mid} {new} {l} {m} {l'} s t = record {
+  used = s.used ++ t.used;
+  uses = Uses-trans old mid new l m l' s.used t.used s.uses t.uses;
+  told = told_token s t;
+  shorter = tt;
+  used_to = tt;
+  ended = tt;
 }
 
 -- white space, and then the end
@@ -153,17 +166,32 @@ finds_end {old} {new} {l} {l'} s = record {
     let tokens : within old.place bs ≡ within new.place k.0 =
       ap (within old.place) k.2 ∙ ap (λ (s : Stream Found). limited stop_of s) (tokens-space old.place s.used k.0 s.each ∙ ap (λ (q : Place). tokens_from 0 q k.0) (sym s.uses.place)) in
     (k.0, k.1, (tokens ∙ end, sym tokens)));
+  shorter = tt;
+  used_to = tt;
+  ended = s.ahead.1;
 }
 
 pub finds_over : {old mid new : Window} {l m l' : Option (List ℕ)} {b : ℕ} {f : Found}
     → Skips Space old mid l m (Ok (Some b)) → Reads (token_by (start_of b)) mid.place mid new m l' (Ok f) → LIMIT < f.stop → Finds old new l l' (Err TooLong)
-finds_over {old} {mid} {new} {l} {m} {l'} {b} {f} s t lt =
-    subst (λ (r : Result (Option Found) ReadError). Finds old new l l' r) (rw (lt-ltb LIMIT f.stop lt) refl) (finds_token s t)
+finds_over {old} {mid} {new} {l} {m} {l'} {b} {f} s t lt = record {
+  used = s.used ++ t.used;
+  uses = Uses-trans old mid new l m l' s.used t.used s.uses t.uses;
+  told = subst (λ (r : Result (Option Found) ReadError). Told old new l l' r) (rw (lt-ltb LIMIT f.stop lt) refl) (told_token s t);
+  shorter = tt;
+  used_to = tt;
+  ended = tt;
+}
 
 pub finds_found : {old mid new : Window} {l m l' : Option (List ℕ)} {b : ℕ} {f : Found}
-    → Skips Space old mid l m (Ok (Some b)) → Reads (token_by (start_of b)) mid.place mid new m l' (Ok f) → f.stop ≤ LIMIT → Finds old new l l' (Ok (Some f))
-finds_found {old} {mid} {new} {l} {m} {l'} {b} {f} s t le =
-    subst (λ (r : Result (Option Found) ReadError). Finds old new l l' r) (rw (le-ltb LIMIT f.stop le) refl) (finds_token s t)
+    → Skips Space old mid l m (Ok (Some b)) → Reads (token_by (start_of b)) mid.place mid new m l' (Ok f) → f.stop ≤ LIMIT → new.place.offset ≤ f.stop → Finds old new l l' (Ok (Some f))
+finds_found {old} {mid} {new} {l} {m} {l'} {b} {f} s t le to = record {
+  used = s.used ++ t.used;
+  uses = Uses-trans old mid new l m l' s.used t.used s.uses t.uses;
+  told = subst (λ (r : Result (Option Found) ReadError). Told old new l l' r) (rw (le-ltb LIMIT f.stop le) refl) (told_token s t);
+  shorter = (omega (arith, offset_grows s.uses, offset_grows t.uses, t.some), omega (arith, to, le));
+  used_to = to;
+  ended = tt;
+}
 
 -- past the limit nothing has its stop within it
 tokens-late : (p : Place) (bs : List ℕ) → LIMIT < p.offset → within p bs ≡ ends Over
@@ -197,6 +225,9 @@ finds_halted {old} {new} {l} {l'} {h} s = record {
     let tokens : within old.place bs ≡ within new.place k.0 =
       ap (within old.place) k.2 ∙ ap (λ (s : Stream Found). limited stop_of s) (tokens-space old.place s.used k.0 s.each ∙ ap (λ (q : Place). tokens_from 0 q k.0) (sym s.uses.place)) in
     (k.0, k.1, halt_told h (within old.place bs) new (within new.place k.0) (λ is. tokens ∙ tokens-late new.place k.0 (s.too_long (ap at_err is)))));
+  shorter = tt;
+  used_to = tt;
+  ended = tt;
 }
 
 -- the same window

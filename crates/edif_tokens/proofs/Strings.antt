@@ -21,7 +21,7 @@ use Rattle.nl_bytes.proofs.Uses.{Uses-byte, Uses-none, Uses-trans}
 use Rattle.nl_bytes.proofs.Known.{Uses-known, IsAhead-known}
 use Rattle.edif_tokens.specs.Scan.{refusal, Answers, seen_of, Continues, ReadsPart}
 use Rattle.edif_tokens.specs.Strings.{is_full, Codes, EndsCode}
-use Rattle.edif_tokens.proofs.Spans.{offset_past, refusal_answers, at_place, halted}
+use Rattle.edif_tokens.proofs.Spans.{offset_past, offset_grows, refusal_answers, at_place, halted}
 use Rattle.edif_tokens.specs.Flaws.{Piece, Flaw, flaw}
 use Rattle.edif_tokens.specs.Strings.{Within, Parts, Escape, Code, string_at, Digits}
 
@@ -279,10 +279,6 @@ part_err f other y = record {
   uses = f.uses;
   spelled = λ front bs rest s le st place known new_known parts. f.spelled front bs rest s le st place known new_known parts;
 }
-
--- a part takes the reader no way back
-pub offset_grows : {old new : Window} {l l' : Option (List ℕ)} {used : List ℕ} → Uses old new l l' used → new.place.offset ≡ old.place.offset + length used
-offset_grows {old} {new} {l} {l'} {used} u = ap (λ (q : Place). q.offset) u.place ∙ offset_past old.place used
 
 -- ---- parts
 

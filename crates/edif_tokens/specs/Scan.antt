@@ -13,7 +13,7 @@ use Rattle.nl_base.specs.declared.fault.Reason.TheVariants.{BadByte, TokenTooLon
 use Rattle.nl_base.specs.Place.{place_past}
 use Rattle.edif_tokens.specs.Strings.{Within, string_at}
 use Rattle.edif_tokens.specs.Spelling.{Piece, Flaw, span_at, may_follow, led, text_at, integer_of}
-use Rattle.edif_tokens.specs.Streams.{TellsKnown}
+use Rattle.edif_tokens.specs.Streams.{TellsKnown, Shortens, EndsInput}
 use Rattle.edif_tokens.specs.Stream.{fault_at, found_at, tokens_ahead}
 use Rattle.edif_tokens.specs.declared.token.Found.{Found}
 use Rattle.edif_tokens.specs.declared.token.Token.{Token}
@@ -118,8 +118,16 @@ pub record ReadsPart (from to : ℕ → Within) (p start : Place) (old new : Win
     → input old left ≡ Some bs → input new left' ≡ Some rest → bs ≡ used ++ rest
     → Continues p (front ++ bs) (string_at (from s) before (length front) bs) result (string_at (to s) after (length front + length used) rest)
 
+-- no byte past a token's stop was used
+abbrev pub UsesTo : Option Found → Window → Type 0
+UsesTo (Some f) w = w.place.offset ≤ f.stop
+UsesTo None w = ⊤
+
 -- the next token was read
 pub record Finds (old new : Window) (left left' : Option (List ℕ)) (result : Result (Option Found) ReadError) : Type 0 where
   pub used : List ℕ
   pub uses : Uses old new left left' used
   pub told : TellsKnown (tokens_ahead old left) result new (tokens_ahead new left')
+  pub shorter : IfOk result (λ x. Shortens x old new)
+  pub used_to : IfOk result (λ x. UsesTo x new)
+  pub ended : IfOk result (λ x. EndsInput x left')

@@ -1,5 +1,5 @@
 -- The tokens of an EDIF text (EDIF 2 0 0, basic syntax), and what a reader of them has ahead.
-use Rattle.std.specs.Prelude.{ℕ, zero, suc, ◌+◌, ◌-◌, if◌then◌else◌, List, [], ◌∷◌, take, Option, Result, Ok, Err}
+use Rattle.std.specs.Prelude.{ℕ, zero, false, suc, ◌+◌, ◌-◌, if◌then◌else◌, List, [], ◌∷◌, take, Option, Result, Ok, Err}
 use Rattle.nl_base.specs.declared.place.Place.{Place}
 use Rattle.nl_base.specs.declared.fault.TextFault.{TextFault}
 use Rattle.nl_base.specs.Place.{place_after, place_past, place_at_start}
@@ -51,6 +51,10 @@ tokens text = stream_from place_at_start text
 -- the tokens that a reader has ahead, where the source tells the bytes that it has left
 abbrev pub tokens_ahead : Window → Option (List ℕ) → Option (Stream Found)
 tokens_ahead w left = stream_ahead stream_from w left
+
+-- a reader at the start of a text
+abbrev pub fresh : State
+fresh = record { window = record { held = []; place = place_at_start }; spent = false }
 
 -- A reader of EDIF tokens was asked for the next one.
 abbrev pub ReadsToken : Result (Option Found) ReadError → State → State → Option (List ℕ) → Option (List ℕ) → ℕ → ℕ → Type 0

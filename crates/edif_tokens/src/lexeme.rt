@@ -189,6 +189,7 @@ fn pieced_word<S: Source>(
     ensures cause { IsErrOf result ReadError.ReadFault → Rose (S.faults source.old) (S.faults source.new) }
     ensures never_spent { IsErrOf result ReadError.Spent → ⊥ }
     ensures bounded { OnText result (λ t. bytes.new.place.offset ≤ t.stop) }
+    ensures ended { IfOk result (λ f. bytes.new.place.offset ≤ f.stop) }
 {
     let place = bytes.place();
     let Spanned { text, stop } = pieced_text(bytes, alloc, Class::WordByte, lead, byte, place, source)?;
@@ -206,6 +207,7 @@ fn held_word<S: Source>(bytes: &mut Bytes, alloc: Global, source: &S) -> Option<
     requires within { bytes.old.place.offset ≤ LIMIT }
     ensures reads { IfSome result (λ f. Reads (word_spelled false) bytes.old.place bytes.old bytes.new (S.left source.now) (S.left source.now) (Ok f)) }
     ensures limit { IfSome result (λ f. f.stop ≤ LIMIT) }
+    ensures ended { IfSome result (λ f. bytes.new.place.offset ≤ f.stop) }
     ensures none { IsNone result → bytes.new ≡ bytes.old }
 {
     let place = bytes.place();
@@ -249,6 +251,7 @@ fn number<S: Source>(
     ensures cause { IsErrOf result ReadError.ReadFault → Rose (S.faults source.old) (S.faults source.new) }
     ensures never_spent { IsErrOf result ReadError.Spent → ⊥ }
     ensures bounded { OnText result (λ t. bytes.new.place.offset ≤ t.stop) }
+    ensures ended { IfOk result (λ f. bytes.new.place.offset ≤ f.stop) }
 {
     let Spanned { text, stop } = text(bytes, alloc, Class::Digit, lead, byte, place, source)?;
     number_found(place, stop, text.as_slice())
@@ -278,6 +281,7 @@ pub fn held_token<S: Source>(bytes: &mut Bytes, alloc: Global, byte: u8, source:
     requires within { bytes.old.place.offset ≤ LIMIT }
     ensures reads { IfSome result (λ f. Reads (token_by (start_of byte)) bytes.old.place bytes.old bytes.new (S.left source.now) (S.left source.now) (Ok f)) }
     ensures limit { IfSome result (λ f. f.stop ≤ LIMIT) }
+    ensures ended { IfSome result (λ f. bytes.new.place.offset ≤ f.stop) }
     ensures none { IsNone result → bytes.new ≡ bytes.old }
 {
     if bytes.place().offset == LIMIT {
@@ -306,6 +310,7 @@ pub fn token<S: Source>(
     ensures cause { IsErrOf result ReadError.ReadFault → Rose (S.faults source.old) (S.faults source.new) }
     ensures never_spent { IsErrOf result ReadError.Spent → ⊥ }
     ensures bounded { OnText result (λ t. bytes.new.place.offset ≤ t.stop) }
+    ensures ended { IfOk result (λ f. bytes.new.place.offset ≤ f.stop) }
 {
     match start_of(byte) {
         Start::Open => Ok(mark(bytes, byte, Token::LeftParen, source)),

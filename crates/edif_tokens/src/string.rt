@@ -154,6 +154,7 @@ pub fn string<S: Source>(
     ensures cause { IsErrOf result ReadError.ReadFault → Rose (S.faults source.old) (S.faults source.new) }
     ensures never_spent { IsErrOf result ReadError.Spent → ⊥ }
     ensures bounded { OnText result (λ t. bytes.new.place.offset ≤ t.stop) }
+    ensures ended { IfOk result (λ f. bytes.new.place.offset ≤ f.stop) }
 {
     bytes.advance();
     let mut value = Vec::new(alloc);

@@ -1,15 +1,17 @@
-ghost use Rattle.std.specs.Prelude.{◌≡◌, ◌≤◌, ◌<◌, ◌+◌, ◌↔◌, ℕ, List, length, Option, false, is_err, IfOk, IsErrOf, IsTrue, IsFalse};
-ghost use Rattle.nl_io.specs.Causes.{Rose};
+ghost use Rattle.std.specs.Prelude.{◌≡◌, ◌≤◌, length, IfOk};
 
 use crate::finding::found;
 use crate::token::Found;
-use nl_base::{Place, ReadError};
+use nl_base::{NoMemory, Place, ReadError};
 use nl_bytes::Bytes;
 use nl_io::Source;
-use std::alloc::{AllocError, Global};
+use std::alloc::Global;
 use std::marker::Model;
 
-/// Reads the tokens of a source, one after another.
+/// Reads the tokens of a source, one after another, through a buffer of 4,096 bytes.
+///
+/// It is used with one source. Contracts see it as the bytes that it holds, the place of the first, and whether an error has
+/// spent it.
 #[derive(Drop)]
 pub struct Tokens {
     bytes: Bytes,
@@ -25,21 +27,23 @@ impl Model for Tokens {
 }
 
 impl Tokens {
-    ghost use Rattle.nl_bytes.specs.Bytes.{Uses, TookAtMost};
-    ghost use Rattle.nl_base.specs.Faults.{OnText};
-    ghost use Rattle.nl_base.specs.Place.{place_at_start};
-    ghost use Rattle.edif_tokens.specs.Scan.{Finds};
-    ghost use Rattle.std.specs.Prelude.{[]};
+    ghost use Rattle.edif_tokens.specs.Stream.{ReadsToken, fresh};
 
-    pub fn new(alloc: Global) -> Result<Self, AllocError>
-        ensures { IfOk result (λ t. t ≡ record { window = record { held = []; place = place_at_start }; spent = false }) }
+    /// A reader at the start of a text.
+    ///
+    /// Refused only for want of memory.
+    pub fn new(alloc: Global) -> Result<Self, NoMemory>
+        ensures { IfOk result (λ t. t ≡ fresh) }
     {
+        let bytes = Bytes::new(alloc)?;
         Ok(Tokens {
-            bytes: Bytes::new(alloc)?,
+            bytes,
             spent: false,
         })
     }
 
+    /// The place after the last byte used.
+    #[inline]
     pub fn here(&self) -> Place
         ensures place { result ≡ self.now.window.place }
         ensures held { length self.now.window.held ≤ 4096 }
@@ -47,26 +51,38 @@ impl Tokens {
         self.bytes.place()
     }
 
-    /// Reads the next token, or `None` at the end.
+    /// Whether an error has spent it.
+    #[inline]
+    pub fn is_spent(&self) -> bool
+        ensures { result ≡ self.now.spent }
+    {
+        self.spent
+    }
+
+    /// Reads the next token, or `None` at the end of the input.
+    ///
+    /// The answer is what the whole bytes of the source have there, whatever pieces it gives them in:
+    ///
+    /// - a token, with its place and stop; `None` exactly at the end, after the last token;
+    /// - `Text` exactly where the bytes spell no token; at most 4,096 bytes behind its stop are taken then;
+    /// - `TooLong` exactly where more than 268,435,456 bytes are given and the next token or fault has no stop within them;
+    /// - `ReadFault` only where the source's count of faults rose in this call;
+    /// - `Spent` exactly where the reader was spent.
+    ///
+    /// Any error spends it for good, and an `Ok` does not.
     pub fn next<S: Source>(
         &mut self,
         alloc: Global,
         source: &mut S,
     ) -> Result<Option<Found>, ReadError>
-        ensures spent { IsErrOf result ReadError.Spent ↔ IsTrue self.old.spent }
-        ensures spends { self.new.spent ≡ is_err result }
-        ensures told { IsFalse self.old.spent → Finds self.old.window self.new.window (S.left source.old) (S.left source.new) result }
-        ensures untouched { IsTrue self.old.spent → Uses self.old.window self.new.window (S.left source.old) (S.left source.new) [] }
-        ensures count { S.faults source.old ≤ S.faults source.new }
-        ensures cause { IsErrOf result ReadError.ReadFault → Rose (S.faults source.old) (S.faults source.new) }
-        ensures bounded { OnText result (λ t. self.new.window.place.offset ≤ t.stop) }
-        ensures taken { OnText result (λ t. TookAtMost (S.left source.old) (S.left source.new) (t.stop + 4096)) }
+        ensures { ReadsToken result self.old self.new (S.left source.old) (S.left source.new) (S.faults source.old) (S.faults source.new) }
     {
         if self.spent {
             return Err(ReadError::Spent);
         }
         self.spent = true;
         let result = found(&mut self.bytes, alloc, source);
+        // The buffer holds at most 4,096 bytes, as its call says.
         let _here = self.bytes.place();
         let found = result?;
         self.spent = false;

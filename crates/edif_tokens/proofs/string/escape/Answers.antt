@@ -7,7 +7,8 @@ use Rattle.nl_bytes.specs.Bytes.{Skips}
 use Rattle.nl_bytes.specs.declared.class.Class.TheVariants.{Space}
 use Rattle.edif_tokens.specs.Strings.{Escape, Code, Parts}
 use Rattle.edif_tokens.proofs.Spans.{at_err}
-use Rattle.edif_tokens.proofs.Strings.{part_none, part_byte, part_space, part_ends, escape_end, escape_digit, escape_closes, escape_refused, part_trans, part_err, offset_grows, part_halted, part_refused}
+use Rattle.edif_tokens.proofs.Strings.{part_none, part_byte, part_space, part_ends, escape_end, escape_digit, escape_closes, escape_refused, part_trans, part_err, part_halted, part_refused}
+use Rattle.edif_tokens.proofs.Spans.{offset_grows}
 use Rattle.edif_tokens.proofs.string.escape.Goals as goal
 use Rattle.edif_tokens.proofs.string.escape.Goals.{else-coded-via-then-coded+else-b-eq37, else-coded-via-else-coded}
 

@@ -1,0 +1,83 @@
+-- What the reader of tokens answers, from what was found.
+use Rattle.std.proofs.Common.{◌≡◌, ℕ, ◌+◌, ◌<◌, ◌≤◌, Bool, true, false, List, [], length, Option, Some, None, Result, Ok, Err, IsTrue, refl, sym, ap, ◌∙◌, arith}
+use Rattle.std.specs.Prelude.{◌↔◌, IfOk, IfErr, OnOk, IsErrOf, IsFalse, is_err}
+use Rattle.nl_base.specs.declared.place.Place.{Place}
+use Rattle.nl_base.specs.declared.fault.ReadError.{ReadError}
+use Rattle.nl_base.specs.declared.fault.ReadError.TheVariants.{Text, ReadFault, TooLong, NoMemory, Spent}
+use Rattle.nl_base.specs.Faults.{OnText}
+use Rattle.nl_io.specs.Causes.{Rose}
+use Rattle.nl_bytes.specs.Bytes.{Window, Uses}
+use Rattle.nl_bytes.proofs.Uses.{Uses-none}
+use Rattle.edif_tokens.specs.declared.token.Found.{Found}
+use Rattle.edif_tokens.specs.Streams.{Moves, NearError, NearToken, State}
+use Rattle.edif_tokens.specs.Stream.{ReadsToken, stop_of}
+use Rattle.edif_tokens.specs.Scan.{Finds, UsesTo}
+use Rattle.edif_tokens.proofs.Spans.{offset_grows}
+
+uses_moves : {old new : Window} {l l' : Option (List ℕ)} {used : List ℕ} → Uses old new l l' used → (f f' : ℕ) → f ≤ f' → Moves old new l l' f f'
+uses_moves u f f' count = record { place = omega (arith, offset_grows u); taken = u.taken; suffix = u.suffix; count = count }
+
+near_fault : (r : Result (Option Found) ReadError) (w : Window) → OnText r (λ t. w.place.offset ≤ t.stop) → length w.held ≤ 4096 → IfErr r (λ e. NearError e w)
+near_fault (Ok x) w to held = tt
+near_fault (Err (Text t)) w to held = omega (arith, to, held)
+near_fault (Err ReadFault) w to held = tt
+near_fault (Err TooLong) w to held = tt
+near_fault (Err NoMemory) w to held = tt
+near_fault (Err Spent) w to held = tt
+
+near_token : (r : Result (Option Found) ReadError) (w : Window) → IfOk r (λ x. UsesTo x w) → length w.held ≤ 4096 → IfOk r (λ x. NearToken stop_of x w)
+near_token (Ok (Some f)) w to held = omega (arith, to, held)
+near_token (Ok None) w to held = omega (arith, held)
+near_token (Err e) w to held = tt
+
+at_error : (r : Result (Option Found) ReadError) (e : ReadError) (P : Type 0) → (IsErrOf r e → P) → IfErr r (λ x. x ≡ e → P)
+at_error (Ok x) e P f = tt
+at_error (Err x) e P f = λ is. f (ap (λ (y : ReadError). at_err y) is)
+  where
+    at_err : ReadError → Result (Option Found) ReadError
+    at_err y = Err y
+
+spent_not : (r : Result (Option Found) ReadError) → (IsErrOf r Spent → ⊥) → IfErr r (λ e. (e ≡ Spent) ↔ IsTrue false)
+spent_not (Ok x) free = tt
+spent_not (Err e) free = (λ h. absurd (free (ap (λ (y : ReadError). at_err y) h)), λ h. absurd cc)
+  where
+    at_err : ReadError → Result (Option Found) ReadError
+    at_err y = Err y
+
+unspent_ok : (r : Result (Option Found) ReadError) → OnOk r (IsFalse false)
+unspent_ok (Ok x) = refl
+unspent_ok (Err e) = tt
+
+abbrev pub state : Window → Bool → State
+state w spent = record { window = w; spent = spent }
+
+-- the reader that was not spent
+pub reads_found : {old new : Window} {l l' : Option (List ℕ)} {r : Result (Option Found) ReadError} {f f' : ℕ} → Finds old new l l' r → (IsErrOf r Spent → ⊥)
+    → OnText r (λ t. new.place.offset ≤ t.stop) → f ≤ f' → (IsErrOf r ReadFault → Rose f f') → length new.held ≤ 4096 → ReadsToken r (state old false) (state new (is_err r)) l l' f f'
+reads_found {old} {new} {l} {l'} {r} {f} {f'} finds free to count cause held = record {
+  moves = uses_moves finds.uses f f' count;
+  told = λ _. finds.told;
+  unspent = unspent_ok r;
+  spent = spent_not r free;
+  spends = refl;
+  cause = at_error r ReadFault (Rose f f') cause;
+  after_error = near_fault r new to held;
+  shorter = finds.shorter;
+  after_token = near_token r new finds.used_to held;
+  ended = finds.ended;
+}
+
+-- the reader that was spent
+pub reads_spent : (w : Window) (l : Option (List ℕ)) (f : ℕ) → ReadsToken (Err Spent) (state w true) (state w true) l l f f
+reads_spent w l f = record {
+  moves = uses_moves (Uses-none w l) f f (omega arith);
+  told = λ h. absurd cc;
+  unspent = tt;
+  spent = (λ _. refl, λ _. refl);
+  spends = refl;
+  cause = λ h. absurd cc;
+  after_error = tt;
+  shorter = tt;
+  after_token = tt;
+  ended = tt;
+}
