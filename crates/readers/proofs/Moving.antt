@@ -1,11 +1,13 @@
 -- What several calls left of the bytes of a source, and how much may still be read.
-use Rattle.std.proofs.Common.{◌≡◌, ℕ, ◌+◌, ◌-◌, ◌≤◌, ◌<◌, Bool, List, Option, Some, None, drop, refl, sym, ap, ◌∙◌, arith}
+use Rattle.std.proofs.Common.{◌≡◌, ℕ, ◌+◌, ◌-◌, ◌≤◌, ◌<◌, Bool, List, Option, Some, None, drop, length, refl, sym, ap, ◌∙◌, arith}
 use Rattle.std.proofs.lemmas.List.{drop-drop}
+use Rattle.nl_base.specs.declared.place.Place.{Place}
+use Rattle.nl_base.proofs.Places.{place_past-offset}
 use Rattle.nl_base.specs.declared.fault.TextFault.{TextFault}
 use Rattle.nl_base.specs.declared.fault.ReadError.TheVariants as errors
-use Rattle.nl_bytes.specs.Bytes.{Window}
+use Rattle.nl_bytes.specs.Bytes.{Window, Uses, given}
 use Rattle.nl_bytes.specs.declared.bytes.TheConstants.{LIMIT}
-use Rattle.readers.specs.Sources.{Supply, Moves, taken_by, skip, IsNear, NearError}
+use Rattle.readers.specs.Sources.{Supply, Moves, skip, IsNear, NearError}
 use Rattle.readers.specs.Readers.{Reader, room}
 
 pub skip_skip : (a b c : ℕ) (bs : Option (List ℕ)) → a ≤ b → b ≤ c → skip c b (skip b a bs) ≡ skip c a bs
@@ -22,7 +24,14 @@ skip_none n (Some bs) = let e : n - n ≡ 0 = omega arith in rw e refl
 
 -- nothing is taken and nothing is used
 pub still : (w : Window) (i : Supply) → Moves w w i i
-still w i = record { place = omega arith; taken = omega arith; left = sym (skip_none (taken_by w) i.left); faults = omega arith }
+still w i = record { place = omega arith; taken = omega arith; left = sym (skip_none (given w) i.left); faults = omega arith }
+
+-- a reader of bytes that used some moved so
+pub uses_move : (old new : Window) (i j : Supply) (used : List ℕ) → Uses old new i.left j.left used → i.faults ≤ j.faults → Moves old new i j
+unfolding skip
+uses_move old new i j used u f =
+    let p : new.place.offset ≡ old.place.offset + length used = ap (λ (z : Place). z.offset) u.place ∙ place_past-offset old.place used in
+    record { place = omega arith; taken = u.taken; left = u.suffix; faults = f }
 
 -- ---- how far bytes were taken
 

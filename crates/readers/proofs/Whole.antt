@@ -11,9 +11,9 @@ use Rattle.nl_base.specs.declared.fault.TextFault.{TextFault}
 use Rattle.nl_base.specs.declared.fault.Reason.{Reason}
 use Rattle.nl_base.specs.declared.fault.ReadError.{ReadError}
 use Rattle.nl_base.specs.declared.fault.ReadError.TheVariants as errors
-use Rattle.nl_bytes.specs.Bytes.{Window}
+use Rattle.nl_bytes.specs.Bytes.{Window, given}
 use Rattle.readers.specs.Parts.{PartOf}
-use Rattle.readers.specs.Sources.{Supply, Ahead, Language, NearError, taken_by, skip, only_end}
+use Rattle.readers.specs.Sources.{Supply, Ahead, Language, NearError, skip, only_end}
 use Rattle.readers.specs.Readers.{Reader, ReadsWhole, Ends, stream, stream_of, reading, then_left, on, result_of, finish_error, fault_at, emptied, IsEnd, IsCause}
 use Rattle.readers.specs.Texts.{tokens_of, Comes, TakesTo, ReadsText}
 use Rattle.readers.proofs.Moving.{skip_skip}
@@ -23,7 +23,7 @@ use Rattle.readers.proofs.Reading.{reading_then, reading_gives, on_left, cause_o
 abbrev pub fresh : {K : Type 0} (X : Type 0) → K → Reader K X
 fresh X k = record { window = record { held = []; place = place_at_start }; ahead = None; context = k; spent = false }
 
-takes_to : (e : ReadError) (w : Window) → NearError e w → TakesTo e (taken_by w)
+takes_to : (e : ReadError) (w : Window) → NearError e w → TakesTo e (given w)
 unfolding NearError
 takes_to (errors.Text f) w h = h
 takes_to errors.TooLong w h = tt
@@ -120,7 +120,7 @@ module _ {K X A : Type 0} (L : Language X) (trailing : X → Reason) (k : K) (pa
       never_spent = λ s. let t = h.spent.0 s in absurd cc;
       cause = h.cause;
       faults = h.moves.faults;
-      taken = taken_by b.window;
+      taken = given b.window;
       left = h.moves.left;
       near = takes_to e b.window h.near;
     }
@@ -134,8 +134,8 @@ module _ {K X A : Type 0} (L : Language X) (trailing : X → Reason) (k : K) (pa
       never_spent = λ s. let t : true ≡ false = sym (n.spent.0 s) ∙ h.spends in absurd cc;
       cause = λ s. let r = n.cause s in omega (arith, h.moves.faults, r);
       faults = omega (arith, h.moves.faults, n.moves.faults);
-      taken = taken_by c.window;
-      left = n.moves.left ∙ ap (skip (taken_by c.window) (taken_by b.window)) h.moves.left ∙ skip_skip 0 (taken_by b.window) (taken_by c.window) i.left (omega arith) n.moves.taken;
+      taken = given c.window;
+      left = n.moves.left ∙ ap (skip (given c.window) (given b.window)) h.moves.left ∙ skip_skip 0 (given b.window) (given c.window) i.left (omega arith) n.moves.taken;
       near = takes_to e c.window n.near;
     }
 
@@ -149,8 +149,8 @@ module _ {K X A : Type 0} (L : Language X) (trailing : X → Reason) (k : K) (pa
       never_spent = tt;
       cause = tt;
       faults = omega (arith, h.moves.faults, n.moves.faults);
-      taken = taken_by c.window;
-      left = n.moves.left ∙ ap (skip (taken_by c.window) (taken_by b.window)) h.moves.left ∙ skip_skip 0 (taken_by b.window) (taken_by c.window) i.left (omega arith) n.moves.taken;
+      taken = given c.window;
+      left = n.moves.left ∙ ap (skip (given c.window) (given b.window)) h.moves.left ∙ skip_skip 0 (given b.window) (given c.window) i.left (omega arith) n.moves.taken;
       near = tt;
     }
 

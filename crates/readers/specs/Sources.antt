@@ -7,7 +7,8 @@ use Rattle.nl_base.specs.declared.fault.TextFault.{TextFault}
 use Rattle.nl_base.specs.declared.fault.ReadError.{ReadError}
 use Rattle.nl_base.specs.declared.fault.ReadError.TheVariants as errors
 use Rattle.nl_io.specs.Causes.{Rose}
-use Rattle.nl_bytes.specs.Bytes.{Window, input}
+use Rattle.nl_io.specs.Sources.{left_past}
+use Rattle.nl_bytes.specs.Bytes.{Window, input, given}
 use Rattle.nl_bytes.specs.declared.bytes.TheConstants.{LIMIT}
 
 -- what is seen of a source: the bytes that are left, where it tells them, and how often it has failed
@@ -29,24 +30,20 @@ pub record Language (X : Type 0) : Type 0 where
   pub stop : X → ℕ
   pub tokens : Place → List ℕ → Ahead X
 
--- how many bytes were ever taken from the source
-abbrev pub taken_by : Window → ℕ
-taken_by w = w.place.offset + length w.held
-
--- what is left of known bytes once `now` bytes are taken, where `before` bytes were taken when they were left
+-- what is left of a source once `now` bytes are taken, where `before` bytes were taken when these were left
 unfoldable pub skip : ℕ → ℕ → Option (List ℕ) → Option (List ℕ)
-skip now before bs = option_map (drop (now - before)) bs
+skip now before left = left_past (now - before) left
 
 -- Bytes are taken from the source, and some of the bytes that were taken are used; the count of faults never falls.
 pub record Moves (old new : Window) (i j : Supply) : Type 0 where
   pub place : old.place.offset ≤ new.place.offset
-  pub taken : taken_by old ≤ taken_by new
-  pub left : j.left ≡ skip (taken_by new) (taken_by old) i.left
+  pub taken : given old ≤ given new
+  pub left : j.left ≡ skip (given new) (given old) i.left
   pub faults : i.faults ≤ j.faults
 
 -- all bytes that were ever taken end at most 4,096 bytes behind an offset
 abbrev pub IsNear : Window → ℕ → Type 0
-IsNear w stop = taken_by w ≤ stop + 4096
+IsNear w stop = given w ≤ stop + 4096
 
 -- what is known of how far bytes were taken at a fault
 unfoldable pub NearError : ReadError → Window → Type 0
