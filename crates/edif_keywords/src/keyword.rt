@@ -175,7 +175,8 @@ pub fn is_among(allowed: &[Keyword], keyword: Keyword) -> bool
     false
 }
 
-fn same_keyword(a: Keyword, b: Keyword) -> bool
+/// Whether two keywords are one.
+pub fn same_keyword(a: Keyword, b: Keyword) -> bool
     ensures { result ≡ same_keyword a b }
 {
     a == b

@@ -9,6 +9,7 @@ pub mod aliases;
 pub mod cursor;
 pub mod find;
 pub mod keyword;
+mod reasons;
 
 pub use aliases::{AliasFault, Aliases};
 pub use cursor::Cursor;
