@@ -1,6 +1,9 @@
+pub mod Forms
 pub mod Letters
 pub mod Looks
+pub mod Maps
 pub mod NextToken
+pub mod OneToken
 pub mod Same
 pub mod Slots
 pub mod Spelled

@@ -56,13 +56,17 @@ begin allowed = do
 unfoldable pub forms : {S A : Type 0} → (S → Edif S) → (S → Edif A) → S → Edif A
 forms round rest = while_next (λ _ _ x. say.at_opening x.token) (λ s _. round s) rest
 
--- a form, or another part
-unfoldable pub form_or : {A : Type 0} → Edif A → Edif A → Edif A
-form_or form other = if_next (λ _ x. say.at_opening x.token) (λ _. form) other
+-- ( keyword rest, or another part that does not begin with `(`
+unfoldable pub form_or : {A : Type 0} → List Keyword → (Keyword → Edif A) → Edif A → Edif A
+form_or allowed rest other = if_next (λ _ x. say.at_opening x.token) (λ _. sequence (keyword allowed) rest) other
 
--- {( item } ): the items up to the end of the form around them; those so far may say which may come
-unfoldable pub items : {I : Type 0} → (List I → Edif I) → List I → Edif (List I)
-items item = forms (λ so_far. sequence (item so_far) (λ i. gives (so_far ++ i ∷ []))) (λ so_far. sequence closing (λ _. gives so_far))
+-- a form with one of some keywords, from its `(` on
+abbrev pub item : {I : Type 0} → List Keyword → (Keyword → Edif I) → Edif I
+item allowed rest = sequence (begin allowed) rest
+
+-- {( keyword rest} ): the items up to the end of the form around them, after some; those before say which keywords may come
+unfoldable pub items : {I : Type 0} → (List I → List Keyword) → (Keyword → Edif I) → List I → Edif (List I)
+items allowed rest = forms (λ so_far. sequence (sequence (keyword (allowed so_far)) rest) (λ i. gives (so_far ++ i ∷ []))) (λ so_far. sequence closing (λ _. gives so_far))
 
 -- {STR} ), after some strings
 unfoldable pub strings : List (List ℕ) → Edif (List (List ℕ))

@@ -1,4 +1,5 @@
 pub mod Aliases
+pub mod Calls
 pub mod Grammar
 pub mod Keywords
 pub mod Language

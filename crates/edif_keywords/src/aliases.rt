@@ -1,4 +1,4 @@
-ghost use Rattle.std.specs.Prelude.{◌≡◌, ◌==◌, [], ◌≤◌, ◌↔◌, map, zip, length, take, IfOk, OnOk, OnErr, IfNone, IfSome, IsSome, IsNone};
+ghost use Rattle.std.specs.Prelude.{◌≡◌, None, ◌==◌, [], ◌≤◌, ◌↔◌, map, zip, length, take, IfOk, OnOk, OnErr, IfNone, IfSome, IsSome, IsNone};
 ghost use Rattle.std.specs.List.{list_all};
 ghost use Rattle.nl_base.specs.Case.{same_bytes, small};
 ghost use Rattle.edif_keywords.specs.declared.aliases.AliasFault.TheVariants.{NoMemory};
@@ -139,11 +139,19 @@ impl Aliases {
         let Some(keyword) = self.look(known) else {
             return Err(AliasFault::Unknown);
         };
-        let letters = small_bytes(self.alloc, alias.bytes())?;
-        match self.keywords.insert(letters, keyword) {
-            Ok(_) => Ok(()),
-            Err(_) => Err(AliasFault::NoMemory),
-        }
+        self.insert(alias.bytes(), keyword)?;
+        Ok(())
+    }
+
+    /// Makes a word that means nothing mean a keyword. Where memory runs out the table is unchanged.
+    pub(crate) fn insert(&mut self, alias: &[u8], keyword: Keyword) -> Result<(), NoMemory>
+        requires { means self.old alias.now ≡ None }
+        ensures added { OnOk result (self.new ≡ one_more self.old alias.now keyword) }
+        ensures unchanged { OnErr result (self.new ≡ self.old) }
+    {
+        let letters = small_bytes(self.alloc, alias)?;
+        self.keywords.insert(letters, keyword)?;
+        Ok(())
     }
 
     /// The keyword of the alias that is spelled so, up to case.

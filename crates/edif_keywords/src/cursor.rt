@@ -3,6 +3,7 @@ ghost use Rattle.readers.specs.Parts.{any};
 ghost use Rattle.readers.specs.Sources.{supply, IsNear};
 ghost use Rattle.readers.specs.Readers.{same, fault_at, end_fault, spoilt, Reads, Looks, LooksAt, LooksFor, Ends, Adds};
 ghost use Rattle.grammar.specs.Whole.{proper};
+ghost use Rattle.edif_keywords.specs.Calls.{answer, left_after};
 ghost use Rattle.edif_keywords.specs.Language.{edif};
 ghost use Rattle.edif_keywords.specs.Reasons.{opens, has_string, trailing};
 
@@ -85,6 +86,17 @@ impl Cursor {
         self.spent = true;
         self.ahead = None;
         ReadError::Text(TextFault { place, stop, reason })
+    }
+
+    /// Answers what a token of this place and stop says that was just taken, or refuses it.
+    pub(crate) fn judged<T: Drop>(&mut self, place: Place, stop: u64, said: Result<T, Reason>) -> Result<T, ReadError>
+        ensures answer { result ≡ answer place stop said }
+        ensures left { self.new ≡ left_after said self.old }
+    {
+        match said {
+            Ok(value) => Ok(value),
+            Err(reason) => Err(self.refuse_at(place, stop, reason)),
+        }
     }
 
     /// Makes the next token the one ahead, and answers whether there is one. It takes nothing.

@@ -6,12 +6,16 @@
 #![tactic(auto)]
 
 pub mod aliases;
+pub mod comment;
 pub mod cursor;
 pub mod find;
+pub mod header;
 pub mod keyword;
+pub mod parts;
 mod reasons;
 
 pub use aliases::{AliasFault, Aliases};
+pub use comment::read_comment;
 pub use cursor::Cursor;
 pub use find::find_keyword;
 pub use keyword::{is_among, spelling, Keyword};

@@ -1,5 +1,5 @@
 // What a token says at its place, or the reason for which it may not stand there, in the order of the definitions in specs/Reasons.antt.
-ghost use Rattle.std.specs.Prelude.{◌≡◌};
+ghost use Rattle.std.specs.Prelude.{◌≡◌, pos};
 ghost use Rattle.edif_keywords.specs.Reasons as say;
 
 use crate::aliases::Aliases;
@@ -8,13 +8,13 @@ use edif_tokens::Token;
 use nl_base::{fold_eq, Ident, Int, Reason, Text};
 
 /// In `edifVersion`, the number that is due.
-pub(crate) fn version_of(due: i64, token: Token) -> Result<(), Reason>
-    ensures { result ≡ say.version_of due token }
+pub(crate) fn version_of(due: u8, token: Token) -> Result<(), Reason>
+    ensures { result ≡ say.version_of (pos due) token }
 {
     let Token::Number(number) = token else {
         return Err(Reason::Unexpected);
     };
-    if number.value() == due {
+    if number.value() == i64::from(due) {
         return Ok(());
     }
     Err(Reason::Version)
