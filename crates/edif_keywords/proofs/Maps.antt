@@ -1,5 +1,5 @@
 -- The loop over the forms of a keyword map, whose state is the aliases under which it is read.
-use Rattle.std.proofs.Common.{◌≡◌, ◌∙◌, sym, ap, subst, refl, Bool, true, false, List, [], Option, Some, None, Result, Ok, Err}
+use Rattle.std.proofs.Common.{arith, ℕ, ◌≤◌, IsErrAnd, ◌≡◌, ◌∙◌, sym, ap, subst, refl, Bool, true, false, List, [], Option, Some, None, Result, Ok, Err}
 use Rattle.grammar.specs.Part.{gives, sequence}
 use Rattle.grammar.specs.Reading.{read, and_then, Found as Answer}
 use Rattle.grammar.specs.Whole.{Terminal}
@@ -8,9 +8,14 @@ use Rattle.nl_base.specs.declared.fault.Reason.{Reason}
 use Rattle.nl_base.specs.declared.fault.ReadError.{ReadError}
 use Rattle.edif_tokens.specs.declared.token.Found.{Found}
 use Rattle.readers.specs.Parts.{one, any}
-use Rattle.readers.specs.Sources.{Ahead}
-use Rattle.readers.specs.Readers.{reading, then_left, on, on_result, result_of, IsToken, IsCause}
+use Rattle.std.proofs.lemmas.Result.{err_from_is_err_and}
+use Rattle.nl_io.specs.Causes.{Rose}
+use Rattle.nl_bytes.specs.Bytes.{Window, given}
+use Rattle.readers.specs.Sources.{Ahead, Supply, Moves, skip}
+use Rattle.readers.specs.Readers.{Reader, ReadsContext, LooksAt, stream, reading, then_left, on, on_result, result_of, IsToken, IsCause}
 use Rattle.readers.proofs.Choices.{reads_alike, due_one, due_then}
+use Rattle.readers.proofs.Loops.{GoesContext}
+use Rattle.readers.proofs.Moving.{skip_skip}
 use Rattle.readers.proofs.Reading.{reading_then, sequences, cause_on}
 use Rattle.edif_keywords.specs.Aliases.{Alias}
 use Rattle.edif_keywords.specs.Language.{edif, Edif}
@@ -72,3 +77,41 @@ module _ (with_aliases : Bool) (t k : List Alias) (s : Option (Ahead Found)) whe
 
 -- for the loop over the forms of a keyword map
 pub ruleset map_loops = (map_more, map_item_fault, map_end, map_fault, any_under, closing_under, sequences)
+
+moves_then : (a b c : Window) (i j m : Supply) → Moves a b i j → Moves b c j m → Moves a c i m
+moves_then a b c i j m h n = record {
+  place = omega (arith, h.place, n.place);
+  taken = omega (arith, h.taken, n.taken);
+  left = n.left ∙ ap (skip (given c) (given b)) h.left ∙ skip_skip (given a) (given b) (given c) i.left h.taken n.taken;
+  faults = omega (arith, h.faults, n.faults);
+}
+
+rose_since : (a b c : ℕ) → a ≤ b → Rose b c → Rose a c
+rose_since a b c h r = omega (arith, h, r)
+
+-- the loop's exit where a form is refused
+module _ (with_aliases : Bool) (now start mid new : Reader (List Alias) Found) (i j m n : Supply) (goes : GoesContext edif (map_items with_aliases) now start j i)
+    (b : Bool) (looks : LooksAt edif opens (Ok b) now mid j m) (is : b ≡ true) (e : ReadError) (fails : ReadsContext edif (sequence opening (λ _. map_item with_aliases mid.context)) (Err e) mid new m n) where
+  cause : IsCause e (reading edif (map_items with_aliases start.context) start.context (stream edif start i))
+  cause =
+      let seen = subst (λ d. IsToken opens d (stream edif mid m)) is looks.value.0 in
+      let refused = map_item_fault with_aliases mid.context start.context (stream edif mid m) e seen fails.error in
+      subst (IsCause e)
+        (ap (λ s. reading edif (map_items with_aliases mid.context) start.context s) looks.value.1.0
+        ∙ ap (λ t. reading edif (map_items with_aliases t) start.context (stream edif now j)) looks.value.1.1 ∙ goes.same)
+        refused
+
+  exit : ReadsContext edif (map_items with_aliases start.context) (Err e) start new i n
+  exit = record {
+    value = tt;
+    error = cause;
+    moves = moves_then start.window now.window new.window i j n goes.moves (moves_then now.window mid.window new.window j m n looks.moves fails.moves);
+    unspent = tt;
+    spent = (λ s. let f = sym (fails.spent.0 s) ∙ looks.spends in absurd cc, λ s. let f = sym s ∙ sym goes.spent ∙ looks.unspent in absurd cc);
+    spends = fails.spends;
+    cause = λ s. rose_since i.faults m.faults n.faults (omega (arith, goes.moves.faults, looks.moves.faults)) (fails.cause s);
+    near = fails.near;
+  }
+
+  pub refused_exit : (r : Result (Unit {0}) ReadError) → IsErrAnd r (λ d. d ≡ e) → ReadsContext edif (map_items with_aliases start.context) r start new i n
+  refused_exit r h = let p = err_from_is_err_and r h in rw (p.1, p.2) exit
