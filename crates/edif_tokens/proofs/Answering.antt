@@ -1,21 +1,20 @@
 -- What a call answers, from what the calls in it answer.
-use Rattle.std.proofs.Common.{◌≡◌, ℕ, ◌+◌, ◌<◌, ◌≤◌, Bool, true, false, List, [], ◌∷◌, ◌++◌, length, drop, Option, Some, None, Result, Ok, Err, refl, sym, ap, ◌∙◌, subst, arith, length-append}
+use Rattle.std.proofs.Common.{◌≡◌, ℕ, ◌+◌, ◌<◌, ◌≤◌, Bool, true, false, List, ◌∷◌, ◌++◌, length, Option, Some, Result, Ok, Err, refl, sym, ap, ◌∙◌, subst, arith, length-append}
 use Rattle.std.specs.List.{prefix_len}
 use Rattle.nl_base.specs.declared.place.Place.{Place}
 use Rattle.nl_base.specs.declared.fault.ReadError.{ReadError}
 use Rattle.nl_base.specs.declared.fault.ReadError.TheVariants.{Text, ReadFault, TooLong, NoMemory, Spent}
 use Rattle.nl_bytes.specs.declared.class.Class.{Class}
-use Rattle.nl_bytes.specs.declared.bytes.TheConstants.{LIMIT}
 use Rattle.nl_bytes.specs.Classes.{AreIn, in_class}
-use Rattle.nl_bytes.specs.Bytes.{Window, Uses, input, first}
+use Rattle.nl_bytes.specs.Bytes.{Window, input}
 use Rattle.nl_bytes.proofs.Uses.{Uses-trans}
 use Rattle.nl_bytes.proofs.Known.{Uses-known}
 use Rattle.edif_tokens.specs.declared.lexeme.Spanned.{Spanned}
 use Rattle.edif_tokens.specs.declared.token.Found.{Found}
 use Rattle.edif_tokens.specs.declared.token.Token.{Token}
-use Rattle.edif_tokens.specs.Spelling.{Piece, Flaw, ◌>>=◌, span_at, text_of, text_at, goes_on}
-use Rattle.edif_tokens.specs.Stream.{fault_at, found_at}
-use Rattle.edif_tokens.specs.Scan.{Answers, seen_of, IsLed, Leads, Spans, Begins, ReadsText, Reads}
+use Rattle.edif_tokens.specs.Spelling.{Piece, Flaw, ◌>>=◌, span_at, text_of, text_at}
+use Rattle.edif_tokens.specs.Stream.{found_at}
+use Rattle.edif_tokens.specs.Scan.{Answers, seen_of, IsLed, Leads, Spans, Begins, ReadsText}
 use Rattle.edif_tokens.proofs.Spans.{GivesText, seen-text_of}
 
 -- an error answers, whatever would have been given
@@ -123,10 +122,10 @@ led_given {class} {lead} {byte} {p} {old} {mid} {new} {l} {m} {l'} {t} {after} {
   uses = Uses-trans old mid new l m l' b.used s.used b.uses s.uses;
   some = omega (arith, length-append b.used s.used, ap length b.ok.0, leads_some class lead byte t b.ok.1);
   shape = λ c rest held.
-    let same : byte ≡ c = cc in
-    subst (λ (first : ℕ). IsLed class lead first y.text.items) same (subst (λ (xs : List ℕ). IsLed class lead byte xs) (sym text) (led_shape class lead byte t s.used after b.ok.1 s.each s.added s.short));
+      let same : byte ≡ c = cc in
+      subst (λ (first : ℕ). IsLed class lead first y.text.items) same (subst (λ (xs : List ℕ). IsLed class lead byte xs) (sym text) (led_shape class lead byte t s.used after b.ok.1 s.each s.added s.short));
   answer = λ bs known. Answers-ok p bs (GivesText p after) (GivesSpanned p (b.used ++ s.used)) (text_at (in_class class) lead bs) stop y
-    (gives_spanned p after (b.used ++ s.used) y stop text stop-is (ap length (s.added ∙ ap (λ (x : List ℕ). x ++ s.used) (sym b.ok.0)))) (led_spells b s bs known);
+      (gives_spanned p after (b.used ++ s.used) y stop text stop-is (ap length (s.added ∙ ap (λ (x : List ℕ). x ++ s.used) (sym b.ok.0)))) (led_spells b s bs known);
 }
 
 pub led_halted : {class : Class} {lead : Bool} {byte : ℕ} {p : Place} {old mid new : Window} {l m l' : Option (List ℕ)} {t after : List ℕ} {e : ReadError} {u : Unit {0}}

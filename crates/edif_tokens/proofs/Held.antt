@@ -1,20 +1,19 @@
 -- A word or an integer that is held whole.
-use Rattle.std.proofs.Common.{◌≡◌, ℕ, zero, suc, ◌+◌, ◌<◌, ◌≤◌, Bool, true, false, cond, List, [], ◌∷◌, ◌++◌, length, take, drop, Option, Some, None, Ok, Err, Result, IsTrue, refl, sym, ap, ◌∙◌, subst, arith}
+use Rattle.std.proofs.Common.{◌≡◌, ℕ, zero, suc, ◌+◌, ◌<◌, ◌≤◌, Bool, true, false, List, [], ◌∷◌, ◌++◌, length, take, Option, Some, Ok, Result, refl, sym, ap, ◌∙◌, subst, arith}
 use Rattle.std.proofs.lemmas.Bool.{le-ltb}
-use Rattle.std.specs.List.{AllByRecursion, prefix_len}
+use Rattle.std.specs.List.{prefix_len}
 use Rattle.nl_base.specs.declared.place.Place.{Place}
 use Rattle.nl_base.specs.declared.fault.ReadError.{ReadError}
 use Rattle.nl_base.specs.Place.{place_past}
 use Rattle.nl_base.proofs.Places.{place_past-offset}
 use Rattle.nl_bytes.specs.declared.class.Class.{Class}
-use Rattle.nl_bytes.specs.declared.halt.Halt.{Halt}
 use Rattle.nl_bytes.specs.Classes.{AreIn, in_class}
-use Rattle.nl_bytes.specs.Bytes.{Window, Uses, Runs, input}
+use Rattle.nl_bytes.specs.Bytes.{Window, Runs}
 use Rattle.nl_bytes.proofs.Known.{Uses-known}
 use Rattle.edif_tokens.specs.declared.lexeme.Spanned.{Spanned}
 use Rattle.edif_tokens.specs.Flaws.{Piece, Flaw}
-use Rattle.edif_tokens.specs.Scan.{Answers, IsLed, Spans, ReadsText, ending}
-use Rattle.edif_tokens.specs.Spelling.{span_at, text_at, text_of, may_follow}
+use Rattle.edif_tokens.specs.Scan.{Answers, IsLed, ReadsText, ending}
+use Rattle.edif_tokens.specs.Spelling.{span_at, text_of, may_follow}
 use Rattle.edif_tokens.proofs.Spans.{AllPass, GivesText, Spans-ending}
 use Rattle.edif_tokens.proofs.Answering.{GivesSpanned, gives_spanned, Answers-ok}
 
@@ -51,9 +50,9 @@ held_reads {class} {old} {new} {l} {text} {next} runs p begins follows {n} front
       some = omega (arith, same);
       shape = λ b rest is. subst (λ (xs : List ℕ). IsLed class false b xs) (sym text-is) (held_shape class old.held text n front (subst (λ (xs : List ℕ). AreIn class xs) (sym runs.added) runs.each) some_n most b rest is);
       answer = λ bs known.
-        let k = Uses-known old new l l runs.used bs runs.uses known in
-        let one : span_at (in_class class) 0 bs ≡ span_at (in_class class) 1 bs = rw k.2 (span-first (in_class class) runs.used k.0 (omega (arith, same)) runs.each) in
-        let given = subst (λ (x : Result (Piece (List ℕ)) Flaw). Answers p bs (GivesText p text) x result) one (spans.answer bs known) in
-        Answers-ok p bs (GivesText p text) (GivesSpanned p runs.used) (span_at (in_class class) 1 bs) (new.place.offset + 1) y
+          let k = Uses-known old new l l runs.used bs runs.uses known in
+          let one : span_at (in_class class) 0 bs ≡ span_at (in_class class) 1 bs = rw k.2 (span-first (in_class class) runs.used k.0 (omega (arith, same)) runs.each) in
+          let given = subst (λ (x : Result (Piece (List ℕ)) Flaw). Answers p bs (GivesText p text) x result) one (spans.answer bs known) in
+          Answers-ok p bs (GivesText p text) (GivesSpanned p runs.used) (span_at (in_class class) 1 bs) (new.place.offset + 1) y
           (gives_spanned p text runs.used y (new.place.offset + 1) text-is (omega (arith, stop-is, offset, same)) same) given;
     }

@@ -6,3 +6,5 @@ pub mod Quoted
 pub mod Held
 pub mod Words
 pub mod Readers
+pub mod Limits
+pub mod Proper

@@ -1,9 +1,9 @@
 -- A whole string: its quotes, and the parts between them.
-use Rattle.std.proofs.Common.{◌≡◌, ℕ, ◌+◌, ◌<◌, ◌≤◌, List, [], ◌∷◌, ◌++◌, length, get_or, take, drop, Option, Some, None, Result, Ok, Err, refl, sym, ap, ◌∙◌, subst, arith, length-append}
+use Rattle.std.proofs.Common.{◌≡◌, ℕ, ◌+◌, List, [], ◌∷◌, ◌++◌, length, get_or, drop, Option, Result, Ok, Err, refl, sym, ap, ◌∙◌, subst, arith, length-append}
 use Rattle.nl_base.specs.declared.place.Place.{Place}
 use Rattle.nl_base.specs.declared.fault.ReadError.{ReadError}
 use Rattle.nl_base.specs.Place.{place_after, place_past}
-use Rattle.nl_bytes.specs.Bytes.{Window, Uses, input}
+use Rattle.nl_bytes.specs.Bytes.{Window, Uses}
 use Rattle.nl_bytes.proofs.Uses.{Uses-byte, Uses-trans}
 use Rattle.nl_bytes.proofs.Known.{Uses-known}
 use Rattle.edif_tokens.specs.declared.token.Found.{Found}
@@ -13,7 +13,7 @@ use Rattle.edif_tokens.specs.Flaws.{Piece, Flaw, ◌>>=◌}
 use Rattle.edif_tokens.specs.Strings.{Parts, string_at}
 use Rattle.edif_tokens.specs.Spelling.{string_spelled, str_of}
 use Rattle.edif_tokens.specs.Stream.{found_at}
-use Rattle.edif_tokens.specs.Scan.{Answers, seen_of, ReadsPart, Reads}
+use Rattle.edif_tokens.specs.Scan.{Answers, ReadsPart, Reads}
 use Rattle.edif_tokens.proofs.Answering.{Answers-err-then}
 use Rattle.edif_tokens.proofs.Spans.{offset_grows}
 
@@ -43,12 +43,12 @@ string_refused {a} {b} {c} {m} {n} {v} {w} {e} p s empty begins t = record {
   uses = Uses-trans a b c m m n (34 ∷ []) t.used (steps_use s m) t.uses;
   some = tt;
   answer = λ bs known.
-    let k = Uses-known a b m m (34 ∷ []) bs (steps_use s m) known in
-    let j = Uses-known b c m n t.used k.0 t.uses k.1 in
-    let h = t.spelled (34 ∷ []) k.0 j.0 0 (omega arith) refl (opened p m s begins) k.1 j.1 j.2 in
-    let h2 = subst (λ (x : List ℕ). Answers {A = List ℕ} {B = ℕ} p (34 ∷ [] ++ k.0) (λ _ _. ⊥) (string_at Parts x 1 k.0) (Err e)) empty h in
-    let h3 = Answers-err-then {A = List ℕ} {B = ℕ} p (34 ∷ [] ++ k.0) (λ _ _. ⊥) (GivesFound p (34 ∷ [] ++ t.used)) str_of (string_at Parts [] 1 k.0) e (λ piece. refl) h2 in
-    subst (λ (x : List ℕ). Answers p x (GivesFound p (34 ∷ [] ++ t.used)) (string_spelled x) (Err e)) (sym k.2) h3;
+      let k = Uses-known a b m m (34 ∷ []) bs (steps_use s m) known in
+      let j = Uses-known b c m n t.used k.0 t.uses k.1 in
+      let h = t.spelled (34 ∷ []) k.0 j.0 0 (omega arith) refl (opened p m s begins) k.1 j.1 j.2 in
+      let h2 = subst (λ (x : List ℕ). Answers {A = List ℕ} {B = ℕ} p (34 ∷ [] ++ k.0) (λ _ _. ⊥) (string_at Parts x 1 k.0) (Err e)) empty h in
+      let h3 = Answers-err-then {A = List ℕ} {B = ℕ} p (34 ∷ [] ++ k.0) (λ _ _. ⊥) (GivesFound p (34 ∷ [] ++ t.used)) str_of (string_at Parts [] 1 k.0) e (λ piece. refl) h2 in
+      subst (λ (x : List ℕ). Answers p x (GivesFound p (34 ∷ [] ++ t.used)) (string_spelled x) (Err e)) (sym k.2) h3;
 }
 
 pub string_given : {a b c d : Window} {m n : Option (List ℕ)} {v w : List ℕ} (p : Place) (s : Steps a b 34) (empty : v ≡ []) (begins : p ≡ a.place) → ReadsPart (λ s. Parts) (λ s. Parts) p p b c m n v w (Ok tt) → Steps c d 34 → (f : Found) → f ≡ record { place = p; stop = c.place.offset + 1; token = Str w }
@@ -58,18 +58,18 @@ string_given {a} {b} {c} {d} {m} {n} {v} {w} p s empty begins t z f f-is = recor
   uses = Uses-trans a c d m n n (34 ∷ [] ++ t.used) (34 ∷ []) (Uses-trans a b c m m n (34 ∷ []) t.used (steps_use s m) t.uses) (steps_use z n);
   some = omega arith;
   answer = λ bs known.
-    let k = Uses-known a b m m (34 ∷ []) bs (steps_use s m) known in
-    let j = Uses-known b c m n t.used k.0 t.uses k.1 in
-    let i = Uses-known c d n n (34 ∷ []) j.0 (steps_use z n) j.1 in
-    let h = t.spelled (34 ∷ []) k.0 j.0 0 (omega arith) refl (opened p m s begins) k.1 j.1 j.2 in
-    let spelled : string_at Parts [] 1 k.0 ≡ Ok (record { value = w; count = 1 + length t.used + 1; seen = 1 + length t.used + 1 }) =
+      let k = Uses-known a b m m (34 ∷ []) bs (steps_use s m) known in
+      let j = Uses-known b c m n t.used k.0 t.uses k.1 in
+      let i = Uses-known c d n n (34 ∷ []) j.0 (steps_use z n) j.1 in
+      let h = t.spelled (34 ∷ []) k.0 j.0 0 (omega arith) refl (opened p m s begins) k.1 j.1 j.2 in
+      let spelled : string_at Parts [] 1 k.0 ≡ Ok (record { value = w; count = 1 + length t.used + 1; seen = 1 + length t.used + 1 }) =
       ap (λ (x : List ℕ). string_at Parts x 1 k.0) (sym empty) ∙ h ∙ ap (string_at Parts w (1 + length t.used)) i.2 ∙ closing w i.0 (1 + length t.used) in
-    let piece : Piece Token = record { value = Str w; count = 1 + length t.used + 1; seen = 1 + length t.used + 1 } in
-    let stop : c.place.offset + 1 ≡ p.offset + (1 + length t.used + 1) = omega (arith, offset_grows t.uses, ap (λ (q : Place). q.offset) (opened p m s begins)) in
-    let whole : string_spelled bs ≡ Ok piece = ap string_spelled k.2 ∙ ap (λ (x : Result (Piece (List ℕ)) Flaw). x >>= str_of) spelled in
-    let gives : GivesFound p ((34 ∷ [] ++ t.used) ++ 34 ∷ []) piece f =
+      let piece : Piece Token = record { value = Str w; count = 1 + length t.used + 1; seen = 1 + length t.used + 1 } in
+      let stop : c.place.offset + 1 ≡ p.offset + (1 + length t.used + 1) = omega (arith, offset_grows t.uses, ap (λ (q : Place). q.offset) (opened p m s begins)) in
+      let whole : string_spelled bs ≡ Ok piece = ap string_spelled k.2 ∙ ap (λ (x : Result (Piece (List ℕ)) Flaw). x >>= str_of) spelled in
+      let gives : GivesFound p ((34 ∷ [] ++ t.used) ++ 34 ∷ []) piece f =
       (f-is ∙ ap (λ (x : ℕ). at_stop x) stop, omega (arith, length-append (34 ∷ [] ++ t.used) (34 ∷ []))) in
-    subst (λ (x : Result (Piece Token) Flaw). Answers p bs (GivesFound p ((34 ∷ [] ++ t.used) ++ 34 ∷ [])) x (Ok f)) (sym whole) gives;
+      subst (λ (x : Result (Piece Token) Flaw). Answers p bs (GivesFound p ((34 ∷ [] ++ t.used) ++ 34 ∷ [])) x (Ok f)) (sym whole) gives;
 }
   where
     at_stop : ℕ → Found

@@ -1,7 +1,6 @@
 -- What the reader of tokens answers, from what was found.
-use Rattle.std.proofs.Common.{◌≡◌, ℕ, ◌+◌, ◌<◌, ◌≤◌, Bool, true, false, List, [], length, Option, Some, None, Result, Ok, Err, IsTrue, refl, sym, ap, ◌∙◌, arith}
+use Rattle.std.proofs.Common.{◌≡◌, ℕ, ◌≤◌, Bool, true, false, List, length, Option, Some, None, Result, Ok, Err, IsTrue, refl, ap, arith}
 use Rattle.std.specs.Prelude.{◌↔◌, IfOk, IfErr, OnOk, IsErrOf, IsFalse, is_err}
-use Rattle.nl_base.specs.declared.place.Place.{Place}
 use Rattle.nl_base.specs.declared.fault.ReadError.{ReadError}
 use Rattle.nl_base.specs.declared.fault.ReadError.TheVariants.{Text, ReadFault, TooLong, NoMemory, Spent}
 use Rattle.nl_base.specs.Faults.{OnText}

@@ -1,5 +1,5 @@
 -- Words and integers: a run of a class, and what follows it.
-use Rattle.std.proofs.Common.{◌≡◌, ℕ, zero, suc, ◌+◌, ◌-◌, ◌<◌, ◌≤◌, Bool, true, false, cond, ltb, List, [], ◌∷◌, ◌++◌, length, take, drop, Option, Some, None, Result, Ok, Err, IsTrue, refl, sym, ap, ◌∙◌, subst, inl, inr, arith, length-append, append_assoc, add-zero}
+use Rattle.std.proofs.Common.{◌≡◌, ℕ, ◌+◌, ◌-◌, ◌<◌, ◌≤◌, Bool, true, false, cond, ltb, List, [], ◌∷◌, ◌++◌, length, take, drop, Option, Some, None, Result, Ok, Err, IsTrue, refl, sym, ap, ◌∙◌, subst, inl, inr, arith, length-append, append_assoc}
 use Rattle.std.specs.Prelude.{IfSome, IfOk, OnOk}
 use Rattle.nl_base.specs.Faults.{OnText}
 use Rattle.std.specs.List.{AllByRecursion, prefix_len}
@@ -17,7 +17,7 @@ use Rattle.nl_bytes.specs.declared.halt.Halt.{Halt}
 use Rattle.nl_bytes.specs.declared.halt.Halt.TheVariants as halts
 use Rattle.nl_bytes.specs.Halts.{error_of}
 use Rattle.nl_bytes.specs.Classes.{in_class}
-use Rattle.nl_bytes.specs.Bytes.{first, Window, Uses, Runs, input}
+use Rattle.nl_bytes.specs.Bytes.{first, Window, Uses, Runs}
 use Rattle.nl_base.proofs.Places.{place_past-append}
 use Rattle.nl_bytes.proofs.Known.{Uses-known, IsAhead-known}
 use Rattle.edif_tokens.specs.Spelling.{Piece, Flaw, flaw, span_at, text_of, ended, may_follow}
@@ -79,10 +79,10 @@ span_run class lead used rest next all most ahead longest =
     elim (cases_lt 1024 (length text)) [
       | inl lt ↦ rw (lt-ltb 1024 (length text) lt, n, lt-ltb 1024 (length text + prefix_len class rest) (omega arith)) refl
       | inr le ↦
-        let stops = prefix_len-stops class rest next ahead (passes_not class next (IfSome-weaker next (λ b. IsTrue (class b) → length lead + length used ≡ 1025) (λ b. IsTrue (class b) → ⊥) (λ b h t. let k = h t in omega (arith, k)) longest)) in
-        let whole : length lead + prefix_len class (drop (length lead) bs) ≡ length text = omega arith in
-        let parts : bs ≡ text ++ rest = sym (append_assoc lead used rest) in
-        ap (λ (k : ℕ). text_of k bs) whole ∙ ap (λ (xs : List ℕ). text_of (length text) xs) parts
+          let stops = prefix_len-stops class rest next ahead (passes_not class next (IfSome-weaker next (λ b. IsTrue (class b) → length lead + length used ≡ 1025) (λ b. IsTrue (class b) → ⊥) (λ b h t. let k = h t in omega (arith, k)) longest)) in
+          let whole : length lead + prefix_len class (drop (length lead) bs) ≡ length text = omega arith in
+          let parts : bs ≡ text ++ rest = sym (append_assoc lead used rest) in
+          ap (λ (k : ℕ). text_of k bs) whole ∙ ap (λ (xs : List ℕ). text_of (length text) xs) parts
           ∙ (rw (take_at text rest (length text) refl, drop_at text rest (length text) refl, ahead) refl)
     ]
 
@@ -163,16 +163,16 @@ Spans-ending {class} {m} {old} {new} {l} {l'} {before} {after} {next} runs p lea
   added = runs.added;
   short = subst (λ (r : Result ℕ ReadError). OnOk r (length after ≤ 1024)) (sym result-is) (subst (λ (k : ℕ). OnOk (ending p here n next) (k ≤ 1024)) n-is (ending_short p here n next));
   answer = λ rest known.
-    let t = before ++ runs.used in
-    let k = Uses-known old new l l' runs.used rest runs.uses known in
-    let whole = ending_answers p here t k.0 next (here-is ∙ at_place p old new l l' before runs.used runs.uses begins) in
-    let spelled = span_run (in_class class) before runs.used k.0 next runs.each (omega (arith, runs.bounded)) (IsAhead-known new l' next k.0 runs.ahead k.1)
+      let t = before ++ runs.used in
+      let k = Uses-known old new l l' runs.used rest runs.uses known in
+      let whole = ending_answers p here t k.0 next (here-is ∙ at_place p old new l l' before runs.used runs.uses begins) in
+      let spelled = span_run (in_class class) before runs.used k.0 next runs.each (omega (arith, runs.bounded)) (IsAhead-known new l' next k.0 runs.ahead k.1)
       (IfSome-weaker next (λ b. IsTrue (in_class class b) → length runs.used ≡ m) (λ b. IsTrue (in_class class b) → length before + length runs.used ≡ 1025) (λ b h t. let e = h t in omega arith) runs.longest) in
-    let step1 = subst (λ (x : Result (Piece (List ℕ)) Flaw). Answers p (t ++ k.0) (GivesText p t) x (ending p here (length t) next)) (sym spelled) whole in
-    let step2 = subst (λ (bs : List ℕ). Answers p bs (GivesText p t) (span_at (in_class class) (length before) (before ++ (runs.used ++ k.0))) (ending p here (length t) next)) (append_assoc before runs.used k.0) step1 in
-    let step3 = subst (λ (r : List ℕ). Answers p (before ++ r) (GivesText p t) (span_at (in_class class) (length before) (before ++ r)) (ending p here (length t) next)) (sym k.2) step2 in
-    let step4 = subst (λ (x : List ℕ). Answers p (before ++ rest) (GivesText p x) (span_at (in_class class) (length before) (before ++ rest)) (ending p here (length x) next)) (sym runs.added) step3 in
-    subst (λ (r : Result ℕ ReadError). Answers p (before ++ rest) (GivesText p after) (span_at (in_class class) (length before) (before ++ rest)) r) (ap (λ (i : ℕ). ending p here i next) (sym n-is) ∙ sym result-is) step4;
+      let step1 = subst (λ (x : Result (Piece (List ℕ)) Flaw). Answers p (t ++ k.0) (GivesText p t) x (ending p here (length t) next)) (sym spelled) whole in
+      let step2 = subst (λ (bs : List ℕ). Answers p bs (GivesText p t) (span_at (in_class class) (length before) (before ++ (runs.used ++ k.0))) (ending p here (length t) next)) (append_assoc before runs.used k.0) step1 in
+      let step3 = subst (λ (r : List ℕ). Answers p (before ++ r) (GivesText p t) (span_at (in_class class) (length before) (before ++ r)) (ending p here (length t) next)) (sym k.2) step2 in
+      let step4 = subst (λ (x : List ℕ). Answers p (before ++ rest) (GivesText p x) (span_at (in_class class) (length before) (before ++ rest)) (ending p here (length x) next)) (sym runs.added) step3 in
+      subst (λ (r : Result ℕ ReadError). Answers p (before ++ rest) (GivesText p after) (span_at (in_class class) (length before) (before ++ rest)) r) (ap (λ (i : ℕ). ending p here i next) (sym n-is) ∙ sym result-is) step4;
 }
 
 abbrev pub at_err : Halt → Result (Option ℕ) Halt
@@ -196,12 +196,12 @@ Spans-halted {class} {m} {old} {new} {l} {l'} {before} {after} {h} runs p lead b
   added = runs.added;
   short = tt;
   answer = λ rest known.
-    let k = Uses-known old new l l' runs.used rest runs.uses known in
-    let seen = span_seen (in_class class) before runs.used k.0 runs.each (omega (arith, runs.bounded)) in
-    let place = ap (λ (q : Place). q.offset) (at_place p old new l l' before runs.used runs.uses begins) ∙ offset_past p (before ++ runs.used) in
-    subst (λ (r : List ℕ). Answers p (before ++ r) (GivesText p after) (span_at (in_class class) (length before) (before ++ r)) (Err (error_of h))) (sym k.2)
+      let k = Uses-known old new l l' runs.used rest runs.uses known in
+      let seen = span_seen (in_class class) before runs.used k.0 runs.each (omega (arith, runs.bounded)) in
+      let place = ap (λ (q : Place). q.offset) (at_place p old new l l' before runs.used runs.uses begins) ∙ offset_past p (before ++ runs.used) in
+      subst (λ (r : List ℕ). Answers p (before ++ r) (GivesText p after) (span_at (in_class class) (length before) (before ++ r)) (Err (error_of h))) (sym k.2)
       (halted p (before ++ (runs.used ++ k.0)) (GivesText p after) (span_at (in_class class) (length before) (before ++ (runs.used ++ k.0))) h
-        (λ is. let late = runs.too_long (ap at_err is) in omega (arith, late, seen, place, length-append before runs.used)));
+      (λ is. let late = runs.too_long (ap at_err is) in omega (arith, late, seen, place, length-append before runs.used)));
 }
 
 -- ---- no further than the stop

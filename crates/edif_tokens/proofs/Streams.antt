@@ -1,7 +1,7 @@
 -- The stream of tokens, one token after another.
-use Rattle.std.proofs.Common.{◌≡◌, ℕ, zero, suc, ◌+◌, ◌-◌, ◌<◌, ◌≤◌, Bool, true, false, cond, ltb, List, [], ◌∷◌, ◌++◌, length, Option, Some, None, Result, Ok, Err, refl, sym, ap, ◌∙◌, subst, arith, length-append}
+use Rattle.std.proofs.Common.{◌≡◌, ℕ, suc, ◌+◌, ◌-◌, ◌<◌, ◌≤◌, Bool, true, false, cond, ltb, List, [], ◌∷◌, ◌++◌, length, Option, Some, None, Result, Ok, Err, refl, sym, ap, ◌∙◌, subst, arith}
 use Rattle.std.specs.Prelude.{option_map, OnOk}
-use Rattle.std.proofs.lemmas.Bool.{ltb-true, ltb-false, lt-ltb, le-ltb}
+use Rattle.std.proofs.lemmas.Bool.{lt-ltb, le-ltb}
 use Rattle.nl_base.specs.declared.place.Place.{Place}
 use Rattle.nl_base.specs.Place.{place_after, place_past}
 use Rattle.nl_base.specs.declared.fault.ReadError.{ReadError}
@@ -12,7 +12,7 @@ use Rattle.nl_bytes.specs.declared.halt.Halt.TheVariants as halts
 use Rattle.nl_bytes.specs.declared.bytes.TheConstants.{LIMIT}
 use Rattle.nl_bytes.specs.Halts.{error_of}
 use Rattle.nl_bytes.specs.Classes.{AreIn, is_space}
-use Rattle.nl_bytes.specs.Bytes.{Window, Uses, Skips, IsAhead, input, first, given}
+use Rattle.nl_bytes.specs.Bytes.{Window, Uses, Skips, input, first, given}
 use Rattle.nl_io.specs.Sources.{left_past}
 use Rattle.nl_bytes.proofs.Uses.{Uses-trans}
 use Rattle.nl_bytes.proofs.Known.{Uses-known, IsAhead-known}
@@ -20,8 +20,8 @@ use Rattle.edif_tokens.specs.declared.token.Found.{Found}
 use Rattle.edif_tokens.specs.declared.token.Token.{Token}
 use Rattle.edif_tokens.specs.Spelling.{Piece, Flaw, token_at, token_by, start_of}
 use Rattle.edif_tokens.specs.Streams.{Tells, TellsKnown}
-use Rattle.edif_tokens.specs.Streams.{Stream, End, Bad, Over, ends, follow, limited}
-use Rattle.edif_tokens.specs.Stream.{stop_of, tokens_ahead, stream_from, tokens_from, then_tokens, found_at, fault_at}
+use Rattle.edif_tokens.specs.Streams.{Stream, End, Over, ends, follow, limited}
+use Rattle.edif_tokens.specs.Stream.{stop_of, tokens_ahead, stream_from, tokens_from, then_tokens, found_at}
 use Rattle.edif_tokens.specs.Scan.{Answers, Reads, Finds}
 use Rattle.edif_tokens.proofs.Spans.{offset_grows}
 
@@ -57,7 +57,7 @@ after_token p q b tail (c ∷ u) rest some e at =
     let same : tail ≡ u ++ rest = cc in
     let less : suc (length u) - 1 ≡ length u = omega arith in
     ap (λ (r : Place). tokens_from 0 r rest) (at ∙ ap (λ (x : ℕ). place_past (place_after p x) u) (sym head)) ∙ sym (tokens-skip (place_after p b) u rest)
-      ∙ ap (λ (xs : List ℕ). tokens_from (length u) (place_after p b) xs) (sym same) ∙ ap (λ (n : ℕ). tokens_from n (place_after p b) tail) (sym less)
+    ∙ ap (λ (xs : List ℕ). tokens_from (length u) (place_after p b) xs) (sym same) ∙ ap (λ (n : ℕ). tokens_from n (place_after p b) tail) (sym less)
 
 front_of : (bs : List ℕ) (b : ℕ) → first bs ≡ Some b → (tail : List ℕ) × (bs ≡ b ∷ tail)
 front_of [] b e = absurd cc
@@ -133,13 +133,16 @@ told_token {old} {mid} {new} {l} {m} {l'} {b} {r} s t =
     let f = front_of k.0 b (IsAhead-known mid m (Some b) k.0 s.ahead k.1) in
     let after = λ (count : ℕ). tokens_from (count - 1) (place_after mid.place b) f.0 in
     let tokens : tokens_from 0 old.place bs ≡ then_tokens mid.place (b ∷ f.0) (token_at b f.0) after =
-      ap (tokens_from 0 old.place) k.2 ∙ tokens-space old.place s.used k.0 s.each ∙ ap (λ (q : Place). tokens_from 0 q k.0) (sym s.uses.place)
-        ∙ ap (tokens_from 0 mid.place) f.1 ∙ tokens-token mid.place b f.0 s.longest in
+    ap (tokens_from 0 old.place) k.2 ∙ tokens-space old.place s.used k.0 s.each ∙ ap (λ (q : Place). tokens_from 0 q k.0) (sym s.uses.place)
+    ∙ ap (tokens_from 0 mid.place) f.1 ∙ tokens-token mid.place b f.0 s.longest in
     let answer = subst (λ (xs : List ℕ). Answers mid.place xs (GivesFound mid.place t.used) (token_by (start_of b) xs) r) f.1 (t.answer k.0 k.1) in
     let new_is : OnOk r (within new.place j.0 ≡ limited stop_of (after (length t.used))) =
-      on_ok r (λ some. ap (λ (s : Stream Found). limited stop_of s) (after_token mid.place new.place b f.0 t.used j.0 some (sym f.1 ∙ j.2) t.uses.place)) t.some in
-    (j.0, j.1, subst (λ (x : Stream Found). Tells (limited stop_of x) (finish r) new (within new.place j.0)) (sym tokens)
-      (token_told mid.place (b ∷ f.0) t.used (token_at b f.0) r after new (within new.place j.0) answer new_is)))
+    on_ok r (λ some. ap (λ (s : Stream Found). limited stop_of s) (after_token mid.place new.place b f.0 t.used j.0 some (sym f.1 ∙ j.2) t.uses.place)) t.some in (
+      j.0,
+      j.1,
+      subst (λ (x : Stream Found). Tells (limited stop_of x) (finish r) new (within new.place j.0)) (sym tokens)
+          (token_told mid.place (b ∷ f.0) t.used (token_at b f.0) r after new (within new.place j.0) answer new_is),
+    ))
 
 -- white space, and then what is no token
 pub finds_refused : {old mid new : Window} {l m l' : Option (List ℕ)} {b : ℕ} {e : ReadError}
@@ -160,12 +163,12 @@ finds_end {old} {new} {l} {l'} s = record {
   used = s.used;
   uses = s.uses;
   told = tells_known (input old l) (input new l') (within old.place) (within new.place) (Ok None) new (Uses-unknown s.uses) (λ bs known.
-    let k = Uses-known old new l l' s.used bs s.uses known in
-    let e = none_of k.0 (IsAhead-known new l' None k.0 s.ahead k.1) in
-    let end : within new.place k.0 ≡ ends (End new.place) = ap (within new.place) e ∙ ap (λ (s : Stream Found). limited stop_of s) (tokens-end new.place) ∙ limited-end new.place s.within in
-    let tokens : within old.place bs ≡ within new.place k.0 =
+      let k = Uses-known old new l l' s.used bs s.uses known in
+      let e = none_of k.0 (IsAhead-known new l' None k.0 s.ahead k.1) in
+      let end : within new.place k.0 ≡ ends (End new.place) = ap (within new.place) e ∙ ap (λ (s : Stream Found). limited stop_of s) (tokens-end new.place) ∙ limited-end new.place s.within in
+      let tokens : within old.place bs ≡ within new.place k.0 =
       ap (within old.place) k.2 ∙ ap (λ (s : Stream Found). limited stop_of s) (tokens-space old.place s.used k.0 s.each ∙ ap (λ (q : Place). tokens_from 0 q k.0) (sym s.uses.place)) in
-    (k.0, k.1, (tokens ∙ end, sym tokens)));
+      (k.0, k.1, (tokens ∙ end, sym tokens)));
   shorter = tt;
   used_to = tt;
   ended = s.ahead.1;
@@ -221,10 +224,10 @@ finds_halted {old} {new} {l} {l'} {h} s = record {
   used = s.used;
   uses = s.uses;
   told = tells_known (input old l) (input new l') (within old.place) (within new.place) (Err (error_of h)) new (Uses-unknown s.uses) (λ bs known.
-    let k = Uses-known old new l l' s.used bs s.uses known in
-    let tokens : within old.place bs ≡ within new.place k.0 =
+      let k = Uses-known old new l l' s.used bs s.uses known in
+      let tokens : within old.place bs ≡ within new.place k.0 =
       ap (within old.place) k.2 ∙ ap (λ (s : Stream Found). limited stop_of s) (tokens-space old.place s.used k.0 s.each ∙ ap (λ (q : Place). tokens_from 0 q k.0) (sym s.uses.place)) in
-    (k.0, k.1, halt_told h (within old.place bs) new (within new.place k.0) (λ is. tokens ∙ tokens-late new.place k.0 (s.too_long (ap at_err is)))));
+      (k.0, k.1, halt_told h (within old.place bs) new (within new.place k.0) (λ is. tokens ∙ tokens-late new.place k.0 (s.too_long (ap at_err is)))));
   shorter = tt;
   used_to = tt;
   ended = tt;

@@ -1,9 +1,9 @@
 -- Strings, part by part.
-use Rattle.std.proofs.Common.{◌≡◌, ℕ, zero, suc, ◌+◌, ◌-◌, ◌*◌, ◌<◌, ◌≤◌, Bool, true, false, cond, ltb, List, [], ◌∷◌, ◌++◌, length, Option, Some, None, Result, Ok, Err, refl, sym, ap, ◌∙◌, subst, arith, rules, take, length-append, append_assoc, append-nil, add-zero, eqb, ◌&&◌, drop, get_or}
+use Rattle.std.proofs.Common.{◌≡◌, ℕ, ◌+◌, ◌-◌, ◌*◌, ◌<◌, ◌≤◌, Bool, true, false, cond, List, [], ◌∷◌, ◌++◌, length, Option, Some, None, Result, Ok, Err, refl, sym, ap, ◌∙◌, subst, arith, rules, take, length-append, append_assoc, append-nil, add-zero, eqb, ◌&&◌, drop, get_or}
 use Rattle.std.specs.Char.{is_ascii_digit}
-use Rattle.std.proofs.lemmas.Bool.{ltb-true, ltb-false, lt-ltb, le-ltb, le-leb, lt-leb, ne_eqb}
+use Rattle.std.proofs.lemmas.Bool.{lt-ltb, le-ltb, le-leb, lt-leb, ne_eqb}
 use Rattle.std.proofs.lemmas.List.{take-append-le, take_at}
-use Rattle.std.specs.Prelude.{OnOk, IfSome}
+use Rattle.std.specs.Prelude.{IfSome}
 use Rattle.nl_base.specs.declared.place.Place.{Place}
 use Rattle.nl_base.specs.declared.fault.Reason.{Reason}
 use Rattle.nl_base.specs.declared.fault.Reason.TheVariants.{EndOfInput, BadByte, BadEscape, TokenTooLong}
@@ -16,12 +16,11 @@ use Rattle.nl_bytes.specs.declared.bytes.TheConstants.{LIMIT}
 use Rattle.nl_bytes.specs.Halts.{error_of}
 use Rattle.nl_bytes.specs.Classes.{AreIn, is_space, is_string_byte}
 use Rattle.nl_bytes.specs.Bytes.{Window, Uses, Skips, Runs, IsAhead, input, first}
-use Rattle.nl_base.proofs.Places.{place_past-append}
 use Rattle.nl_bytes.proofs.Uses.{Uses-byte, Uses-none, Uses-trans}
 use Rattle.nl_bytes.proofs.Known.{Uses-known, IsAhead-known}
 use Rattle.edif_tokens.specs.Scan.{refusal, Answers, seen_of, Continues, ReadsPart}
 use Rattle.edif_tokens.specs.Strings.{is_full, Codes, EndsCode}
-use Rattle.edif_tokens.proofs.Spans.{offset_past, offset_grows, refusal_answers, at_place, halted}
+use Rattle.edif_tokens.proofs.Spans.{offset_past, refusal_answers, at_place, halted}
 use Rattle.edif_tokens.specs.Flaws.{Piece, Flaw, flaw}
 use Rattle.edif_tokens.specs.Strings.{Within, Parts, Escape, Code, string_at, Digits}
 
@@ -36,9 +35,9 @@ code-digit start code n b value rest digit le = rw (digit, le-ltb 255 (10 * code
 pub Digits-push : (begun : ℕ) (used : List ℕ) (code b next : ℕ) → Digits begun used code → is_ascii_digit b ≡ true → 10 * code + (b - 48) ≤ 255 → next ≡ 10 * code + (b - 48) → Digits begun (used ++ b ∷ []) next
 Digits-push begun used code b next digits digit le is start n value rest =
     ap (string_at (Code start begun) value n) (append_assoc used (b ∷ []) rest) ∙ digits start n value (b ∷ rest)
-      ∙ code-digit start code (n + length used) b value rest digit le
-      ∙ ap (λ (c : ℕ). string_at (Code start c) value (n + length used + 1) rest) (sym is)
-      ∙ ap (λ (k : ℕ). string_at (Code start next) value k rest) (omega (arith, length-append used (b ∷ [])))
+    ∙ code-digit start code (n + length used) b value rest digit le
+    ∙ ap (λ (c : ℕ). string_at (Code start c) value (n + length used + 1) rest) (sym is)
+    ∙ ap (λ (k : ℕ). string_at (Code start next) value k rest) (omega (arith, length-append used (b ∷ [])))
 
 -- ---- the algebra of parts
 
@@ -56,24 +55,24 @@ part_trans {from} {mid} {to} {p} {start} {a} {b} {c} {l} {m} {n} {v} {w} {x} {u}
   used = f.used ++ t.used;
   uses = Uses-trans a b c l m n f.used t.used f.uses t.uses;
   spelled = λ front bs rest s le st place known new_known parts.
-    let k = Uses-known a b l m f.used bs f.uses known in
-    let j = Uses-known b c m n t.used k.0 t.uses k.1 in
-    let one = f.spelled front bs k.0 s le st place known k.1 k.2 in
-    let same : j.0 ≡ rest = some_is j.0 rest (sym j.1 ∙ new_known) in
-    let two = t.spelled (front ++ f.used) k.0 rest s (omega (arith, length-append front f.used)) (st ∙ ap (λ (xs : List ℕ). place_past p xs) (sym (take-append-le s front f.used le)))
+      let k = Uses-known a b l m f.used bs f.uses known in
+      let j = Uses-known b c m n t.used k.0 t.uses k.1 in
+      let one = f.spelled front bs k.0 s le st place known k.1 k.2 in
+      let same : j.0 ≡ rest = some_is j.0 rest (sym j.1 ∙ new_known) in
+      let two = t.spelled (front ++ f.used) k.0 rest s (omega (arith, length-append front f.used)) (st ∙ ap (λ (xs : List ℕ). place_past p xs) (sym (take-append-le s front f.used le)))
       (here_at p a b l m front f.used f.uses place) k.1 new_known (j.2 ∙ ap (λ (xs : List ℕ). t.used ++ xs) same) in
-    join front bs k.0 rest (ap (λ (xs : List ℕ). front ++ xs) k.2 ∙ sym (append_assoc front f.used k.0)) s one two;
+      join front bs k.0 rest (ap (λ (xs : List ℕ). front ++ xs) k.2 ∙ sym (append_assoc front f.used k.0)) s one two;
 }
   where
     some_is : (y z : List ℕ) → Some y ≡ Some z → y ≡ z
     some_is y z e = cc
 
     join : (front bs rest1 rest : List ℕ) → front ++ bs ≡ (front ++ f.used) ++ rest1 → (s : ℕ)
-      → string_at (from s) v (length front) bs ≡ string_at (mid s) w (length front + length f.used) rest1
-      → Continues p ((front ++ f.used) ++ rest1) (string_at (mid s) w (length (front ++ f.used)) rest1) r (string_at (to s) x (length (front ++ f.used) + length t.used) rest)
-      → Continues p (front ++ bs) (string_at (from s) v (length front) bs) r (string_at (to s) x (length front + length (f.used ++ t.used)) rest)
+        → string_at (from s) v (length front) bs ≡ string_at (mid s) w (length front + length f.used) rest1
+        → Continues p ((front ++ f.used) ++ rest1) (string_at (mid s) w (length (front ++ f.used)) rest1) r (string_at (to s) x (length (front ++ f.used) + length t.used) rest)
+        → Continues p (front ++ bs) (string_at (from s) v (length front) bs) r (string_at (to s) x (length front + length (f.used ++ t.used)) rest)
     join front bs rest1 rest whole s one two =
-      continues_by p ((front ++ f.used) ++ rest1) (front ++ bs) (string_at (mid s) w (length (front ++ f.used)) rest1) (string_at (from s) v (length front) bs) r
+        continues_by p ((front ++ f.used) ++ rest1) (front ++ bs) (string_at (mid s) w (length (front ++ f.used)) rest1) (string_at (from s) v (length front) bs) r
         (string_at (to s) x (length (front ++ f.used) + length t.used) rest) (string_at (to s) x (length front + length (f.used ++ t.used)) rest)
         (sym whole) (ap (λ (k : ℕ). string_at (mid s) w k rest1) (length-append front f.used) ∙ sym one)
         (ap (λ (k : ℕ). string_at (to s) x k rest) (omega (arith, length-append front f.used, length-append f.used t.used))) two
@@ -114,29 +113,29 @@ part_halted {from} {mid} {p} {start} {old} {new} {l} {l'} {v} {w} f to x h late 
   used = f.used;
   uses = f.uses;
   spelled = λ front bs rest s le st place known new_known parts.
-    let one = f.spelled front bs rest s le st place known new_known parts in
-    let far = string_seen (mid s) w (length front + length f.used) rest in
-    let at = ap (λ (q : Place). q.offset) (here_at p old new l l' front f.used f.uses place) ∙ offset_past p (front ++ f.used) in
-    halted p (front ++ bs) (λ _ _. ⊥) (string_at (from s) v (length front) bs) h (λ is. let k = late is in omega (arith, k, at, far, ap seen_of one, length-append front f.used));
+      let one = f.spelled front bs rest s le st place known new_known parts in
+      let far = string_seen (mid s) w (length front + length f.used) rest in
+      let at = ap (λ (q : Place). q.offset) (here_at p old new l l' front f.used f.uses place) ∙ offset_past p (front ++ f.used) in
+      halted p (front ++ bs) (λ _ _. ⊥) (string_at (from s) v (length front) bs) h (λ is. let k = late is in omega (arith, k, at, far, ap seen_of one, length-append front f.used));
 }
 
 pub part_refused : {from mid : ℕ → Within} {p start : Place} {old new : Window} {l l' : Option (List ℕ)} {v w : List ℕ} {u : Unit {0}}
     → ReadsPart from mid p start old new l l' v w (Ok u) → (to : ℕ → Within) (x : List ℕ) (here : Place) (stop : ℕ) (reason : Reason)
     → ((front rest : List ℕ) (s : ℕ) → s ≤ length front → start ≡ place_past p (take s front) → new.place ≡ place_past p front → input new l' ≡ Some rest
-      → (k : ℕ) × (seen : ℕ) × (string_at (mid s) w (length front) rest ≡ flaw reason k seen) × (here ≡ place_past p (take k (front ++ rest))) × (stop ≡ p.offset + seen))
+    → (k : ℕ) × (seen : ℕ) × (string_at (mid s) w (length front) rest ≡ flaw reason k seen) × (here ≡ place_past p (take k (front ++ rest))) × (stop ≡ p.offset + seen))
     → ReadsPart from to p start old new l l' v x (Err (refusal here stop reason))
 part_refused {from} {mid} {p} {start} {old} {new} {l} {l'} {v} {w} f to x here stop reason why = record {
   used = f.used;
   uses = f.uses;
   spelled = λ front bs rest s le st place known new_known parts.
-    let one = f.spelled front bs rest s le st place known new_known parts in
-    let at = here_at p old new l l' front f.used f.uses place in
-    let r = why (front ++ f.used) rest s (omega (arith, length-append front f.used)) (st ∙ ap (λ (xs : List ℕ). place_past p xs) (sym (take-append-le s front f.used le))) at new_known in
-    let whole : (front ++ f.used) ++ rest ≡ front ++ bs = append_assoc front f.used rest ∙ ap (λ (xs : List ℕ). front ++ xs) (sym parts) in
-    let spelled : flaw reason r.0 r.1 ≡ string_at (from s) v (length front) bs = sym r.2 ∙ ap (λ (k : ℕ). string_at (mid s) w k rest) (length-append front f.used) ∙ sym one in
-    subst (λ (z : Result (Piece (List ℕ)) Flaw). Answers {B = ℕ} p (front ++ bs) (λ _ _. ⊥) z (Err (refusal here stop reason))) spelled
+      let one = f.spelled front bs rest s le st place known new_known parts in
+      let at = here_at p old new l l' front f.used f.uses place in
+      let r = why (front ++ f.used) rest s (omega (arith, length-append front f.used)) (st ∙ ap (λ (xs : List ℕ). place_past p xs) (sym (take-append-le s front f.used le))) at new_known in
+      let whole : (front ++ f.used) ++ rest ≡ front ++ bs = append_assoc front f.used rest ∙ ap (λ (xs : List ℕ). front ++ xs) (sym parts) in
+      let spelled : flaw reason r.0 r.1 ≡ string_at (from s) v (length front) bs = sym r.2 ∙ ap (λ (k : ℕ). string_at (mid s) w k rest) (length-append front f.used) ∙ sym one in
+      subst (λ (z : Result (Piece (List ℕ)) Flaw). Answers {B = ℕ} p (front ++ bs) (λ _ _. ⊥) z (Err (refusal here stop reason))) spelled
       (subst (λ (z : List ℕ). Answers {A = List ℕ} {B = ℕ} p z (λ _ _. ⊥) (flaw reason r.0 r.1) (Err (refusal here stop reason))) whole
-        (refusal_answers {A = List ℕ} {B = ℕ} p ((front ++ f.used) ++ rest) (λ _ _. ⊥) reason r.0 r.1 here stop r.3 r.4));
+      (refusal_answers {A = List ℕ} {B = ℕ} p ((front ++ f.used) ++ rest) (λ _ _. ⊥) reason r.0 r.1 here stop r.3 r.4));
 }
 
 -- ---- codes
@@ -176,9 +175,13 @@ code_refused {begun} {old} {new} {l} {l'} c p start v x = go c.ends.0 c.ends.1 c
     go : (next : Option ℕ) → IsAhead new l' next → EndsCode c.code None next → ReadsPart (λ s. Code s begun) (λ s. Escape s true) p start old new l l' v x (Err (refusal start (new.place.offset + 1) BadEscape))
     go None is_ahead ends = absurd ends
     go (Some b) is_ahead ends = part_refused (code_part c p start v) (λ s. Escape s true) x start (new.place.offset + 1) BadEscape (λ front rest s le st at known.
-      let f = front_of rest b (IsAhead-known new l' (Some b) rest is_ahead known) in
-      (s, length front + 1, ap (string_at (Code s c.code) v (length front)) f.1 ∙ code_over s c.code (length front) b v f.0 ends.0 ends.1,
-        st ∙ ap (λ (xs : List ℕ). place_past p xs) (sym (take-append-le s front rest le)), omega (arith, ap (λ (q : Place). q.offset) at, offset_past p front)))
+        let f = front_of rest b (IsAhead-known new l' (Some b) rest is_ahead known) in (
+          s,
+          length front + 1,
+          ap (string_at (Code s c.code) v (length front)) f.1 ∙ code_over s c.code (length front) b v f.0 ends.0 ends.1,
+          st ∙ ap (λ (xs : List ℕ). place_past p xs) (sym (take-append-le s front rest le)),
+          omega (arith, ap (λ (q : Place). q.offset) at, offset_past p front),
+        ))
 
 -- the string is full before a code's value
 pub code_full : {begun : ℕ} {old new : Window} {l l' : Option (List ℕ)} {a : ℕ} → Codes begun old new l l' (Ok (Some a)) → (p start : Place) (v x : List ℕ) → 1048576 ≤ length v
@@ -194,9 +197,9 @@ code_added {begun} {old} {new} {l} {l'} {a} c p start v x room added = record {
   used = c.used;
   uses = c.uses;
   spelled = λ front bs rest s le st place known new_known parts.
-    let e = c.ends in
-    let one = (code_part c p start v).spelled front bs rest s le st place known new_known parts in
-    one ∙ code_ends s c.code (length front + length c.used) v rest e.0 (IsAhead-known new l' e.0 rest e.1 new_known) e.2.1 (lt-leb 1048576 (length v) room)
+      let e = c.ends in
+      let one = (code_part c p start v).spelled front bs rest s le st place known new_known parts in
+      one ∙ code_ends s c.code (length front + length c.used) v rest e.0 (IsAhead-known new l' e.0 rest e.1 new_known) e.2.1 (lt-leb 1048576 (length v) room)
       ∙ ap (λ (xs : List ℕ). string_at (Escape s true) xs (length front + length c.used) rest) (ap (λ (k : ℕ). v ++ k ∷ []) (sym e.2.0) ∙ sym added);
 }
 
@@ -251,9 +254,13 @@ pub part_ends : {from mid : ℕ → Within} {p start : Place} {old new : Window}
     → ((s n : ℕ) → string_at (mid s) w n [] ≡ flaw EndOfInput n n)
     → ReadsPart from to p start old new l l' v x (Err (refusal new.place new.place.offset EndOfInput))
 part_ends {from} {mid} {p} {start} {old} {new} {l} {l'} {v} {w} f to x at_end why = part_refused f to x new.place new.place.offset EndOfInput (λ front rest s le st at known.
-    let e = none_of rest (IsAhead-known new l' None rest at_end known) in
-    (length front, length front, ap (λ (xs : List ℕ). string_at (mid s) w (length front) xs) e ∙ why s (length front),
-      at ∙ ap (λ (xs : List ℕ). place_past p xs) (sym (take_at front rest (length front) refl)), omega (arith, ap (λ (q : Place). q.offset) at, offset_past p front)))
+    let e = none_of rest (IsAhead-known new l' None rest at_end known) in (
+      length front,
+      length front,
+      ap (λ (xs : List ℕ). string_at (mid s) w (length front) xs) e ∙ why s (length front),
+      at ∙ ap (λ (xs : List ℕ). place_past p xs) (sym (take_at front rest (length front) refl)),
+      omega (arith, ap (λ (q : Place). q.offset) at, offset_past p front),
+    ))
 
 pub escape_end : (coded : Bool) (v : List ℕ) (s n : ℕ) → string_at (Escape s coded) v n [] ≡ flaw EndOfInput n n
 unfolding string_at
@@ -267,9 +274,13 @@ pub escape_refused : {from : ℕ → Within} {coded : Bool} {p start : Place} {o
 unfolding string_at
 escape_refused {from} {coded} {p} {start} {old} {new} {l} {l'} {v} {w} f to x b is_ahead space digit percent = part_refused f to x start (new.place.offset + 1) BadEscape (λ front rest s le st at known.
     let t = front_of rest b (IsAhead-known new l' (Some b) rest is_ahead known) in
-    let bad : string_at (Escape s coded) w (length front) (b ∷ t.0) ≡ flaw BadEscape s (length front + 1) = rw (space, digit, percent) refl in
-    (s, length front + 1, ap (string_at (Escape s coded) w (length front)) t.1 ∙ bad,
-      st ∙ ap (λ (xs : List ℕ). place_past p xs) (sym (take-append-le s front rest le)), omega (arith, ap (λ (q : Place). q.offset) at, offset_past p front)))
+    let bad : string_at (Escape s coded) w (length front) (b ∷ t.0) ≡ flaw BadEscape s (length front + 1) = rw (space, digit, percent) refl in (
+      s,
+      length front + 1,
+      ap (string_at (Escape s coded) w (length front)) t.1 ∙ bad,
+      st ∙ ap (λ (xs : List ℕ). place_past p xs) (sym (take-append-le s front rest le)),
+      omega (arith, ap (λ (q : Place). q.offset) at, offset_past p front),
+    ))
 
 -- after an error it doesn't matter where the reader would have been
 pub part_err : {from to : ℕ → Within} {p start : Place} {old new : Window} {l l' : Option (List ℕ)} {v x : List ℕ} {e : ReadError}
@@ -298,7 +309,7 @@ plain_run v (b ∷ bs) rest n all most =
     let plain = all.0 in
     let full : is_full v ≡ false = lt-leb 1048576 (length v) (omega arith) in
     rw (plain, quote, percent, full) (plain_run (v ++ b ∷ []) bs rest (n + 1) all.1 (omega (arith, length-append v (b ∷ [])))
-      ∙ ap (λ (xs : List ℕ). string_at Parts xs (n + 1 + length bs) rest) (append_assoc v (b ∷ []) bs) ∙ ap (λ (k : ℕ). string_at Parts (v ++ b ∷ bs) k rest) (omega arith))
+    ∙ ap (λ (xs : List ℕ). string_at Parts xs (n + 1 + length bs) rest) (append_assoc v (b ∷ []) bs) ∙ ap (λ (k : ℕ). string_at Parts (v ++ b ∷ bs) k rest) (omega arith))
 
 pub plain_part : {m : ℕ} {old new : Window} {l l' : Option (List ℕ)} {v w : List ℕ} {r : Result (Option ℕ) Halt} → Runs StringByte m old new l l' v w r → m ≡ 1048576 - length v → (p start : Place)
     → ReadsPart (λ s. Parts) (λ s. Parts) p start old new l l' v w (Ok tt)
@@ -306,7 +317,7 @@ plain_part {m} {old} {new} {l} {l'} {v} {w} {r} k m-is p start = record {
   used = k.used;
   uses = k.uses;
   spelled = λ front bs rest s le st place known new_known parts. ap (string_at Parts v (length front)) parts
-    ∙ plain_run v k.used rest (length front) k.each (omega (arith, k.bounded)) ∙ ap (λ (xs : List ℕ). string_at Parts xs (length front + length k.used) rest) (sym k.added);
+      ∙ plain_run v k.used rest (length front) k.each (omega (arith, k.bounded)) ∙ ap (λ (xs : List ℕ). string_at Parts xs (length front + length k.used) rest) (sym k.added);
 }
 
 pub parts_end : (v : List ℕ) (s n : ℕ) → string_at Parts v n [] ≡ flaw EndOfInput n n
@@ -334,9 +345,13 @@ pub parts_bad : {from : ℕ → Within} {p start : Place} {old new : Window} {l 
 unfolding string_at
 parts_bad {from} {p} {start} {old} {new} {l} {l'} {v} {w} f to x b is_ahead quote percent plain = part_refused f to x new.place (new.place.offset + 1) BadByte (λ front rest s le st at known.
     let t = front_of rest b (IsAhead-known new l' (Some b) rest is_ahead known) in
-    let bad : string_at Parts w (length front) (b ∷ t.0) ≡ flaw BadByte (length front) (length front + 1) = rw (plain, quote, percent) refl in
-    (length front, length front + 1, ap (string_at Parts w (length front)) t.1 ∙ bad,
-      at ∙ ap (λ (xs : List ℕ). place_past p xs) (sym (take_at front rest (length front) refl)), omega (arith, ap (λ (q : Place). q.offset) at, offset_past p front)))
+    let bad : string_at Parts w (length front) (b ∷ t.0) ≡ flaw BadByte (length front) (length front + 1) = rw (plain, quote, percent) refl in (
+      length front,
+      length front + 1,
+      ap (string_at Parts w (length front)) t.1 ∙ bad,
+      at ∙ ap (λ (xs : List ℕ). place_past p xs) (sym (take_at front rest (length front) refl)),
+      omega (arith, ap (λ (q : Place). q.offset) at, offset_past p front),
+    ))
 
 percent_step : (v : List ℕ) (n : ℕ) (rest : List ℕ) → string_at Parts v n (37 ∷ rest) ≡ string_at (Escape n false) v (n + 1) rest
 unfolding string_at
@@ -352,14 +367,14 @@ parts_escape {p} {a} {b} {c} {m} {n} {v} {w} {r} {tail} ahead held place t start
       used = 37 ∷ [] ++ t.used;
       uses = Uses-trans a b c m m n (37 ∷ []) t.used byte t.uses;
       spelled = λ front bs rest s le st at known new_known parts.
-        let k = Uses-known a b m m (37 ∷ []) bs byte known in
-        let j = Uses-known b c m n t.used k.0 t.uses k.1 in
-        let same : j.0 ≡ rest = some_is j.0 rest (sym j.1 ∙ new_known) in
-        let two = t.spelled (front ++ 37 ∷ []) k.0 rest (length front) (omega (arith, length-append front (37 ∷ [])))
+          let k = Uses-known a b m m (37 ∷ []) bs byte known in
+          let j = Uses-known b c m n t.used k.0 t.uses k.1 in
+          let same : j.0 ≡ rest = some_is j.0 rest (sym j.1 ∙ new_known) in
+          let two = t.spelled (front ++ 37 ∷ []) k.0 rest (length front) (omega (arith, length-append front (37 ∷ [])))
           (at ∙ ap (λ (xs : List ℕ). place_past p xs) (sym (take_at front (37 ∷ []) (length front) refl)))
           (here_at p a b m m front (37 ∷ []) byte at) k.1 new_known (j.2 ∙ ap (λ (xs : List ℕ). t.used ++ xs) same) in
-        let one : string_at Parts v (length front) bs ≡ string_at (Escape (length front) false) v (length front + 1) k.0 = ap (string_at Parts v (length front)) k.2 ∙ percent_step v (length front) k.0 in
-        continues_by p ((front ++ 37 ∷ []) ++ k.0) (front ++ bs) (string_at (Escape (length front) false) v (length (front ++ 37 ∷ [])) k.0) (string_at Parts v (length front) bs) r
+          let one : string_at Parts v (length front) bs ≡ string_at (Escape (length front) false) v (length front + 1) k.0 = ap (string_at Parts v (length front)) k.2 ∙ percent_step v (length front) k.0 in
+          continues_by p ((front ++ 37 ∷ []) ++ k.0) (front ++ bs) (string_at (Escape (length front) false) v (length (front ++ 37 ∷ [])) k.0) (string_at Parts v (length front) bs) r
           (string_at Parts w (length (front ++ 37 ∷ []) + length t.used) rest) (string_at Parts w (length front + length (37 ∷ [] ++ t.used)) rest)
           (append_assoc front (37 ∷ []) k.0 ∙ ap (λ (xs : List ℕ). front ++ xs) (sym k.2))
           (ap (λ (i : ℕ). string_at (Escape (length front) false) v i k.0) (length-append front (37 ∷ [])) ∙ sym one)

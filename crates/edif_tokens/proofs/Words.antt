@@ -1,7 +1,7 @@
 -- A word is an identifier.
-use Rattle.std.proofs.Common.{◌≡◌, ℕ, ◌<◌, ◌≤◌, Bool, true, false, cond, ◌||◌, ◌&&◌, eqb, List, [], ◌∷◌, length, IsTrue, refl, sym, ap, ◌∙◌, subst, arith}
+use Rattle.std.proofs.Common.{◌≡◌, ℕ, ◌<◌, Bool, true, false, cond, ◌||◌, eqb, List, [], ◌∷◌, length, IsTrue, refl, arith}
 use Rattle.std.specs.Char.{is_ascii_alphabetic, is_ascii_digit}
-use Rattle.std.specs.List.{AllByRecursion, list_all}
+use Rattle.std.specs.List.{list_all}
 use Rattle.nl_base.specs.Identifiers as base
 use Rattle.nl_bytes.specs.declared.class.Class.TheVariants.{WordByte}
 use Rattle.nl_bytes.specs.Classes.{AreIn}
@@ -18,7 +18,7 @@ or_right : (x y : Bool) → y ≡ true → (x || y) ≡ true
 or_right true y e = refl
 or_right false y e = e
 
-identifier_of : (lead : Bool) (b : ℕ) (rest : List ℕ) → begins_word lead b ≡ true → AreIn WordByte rest → (IsTrue lead → 0 < length rest) → base.is_identifier (b ∷ rest) ≡ true
+pub identifier_of : (lead : Bool) (b : ℕ) (rest : List ℕ) → begins_word lead b ≡ true → AreIn WordByte rest → (IsTrue lead → 0 < length rest) → base.is_identifier (b ∷ rest) ≡ true
 identifier_of false b [] begins each some = begins
 identifier_of true b [] begins each some = absurd (let k = some refl in omega arith)
 identifier_of false b (c ∷ cs) begins each some = let all = words_all (c ∷ cs) each in rw (begins, all) refl

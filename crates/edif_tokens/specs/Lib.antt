@@ -4,3 +4,4 @@ pub mod Spelling
 pub mod Streams
 pub mod Stream
 pub mod Scan
+pub mod Proper

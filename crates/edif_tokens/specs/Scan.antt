@@ -2,7 +2,6 @@
 use Rattle.std.specs.Prelude.{◌≡◌, ℕ, ◌+◌, ◌<◌, ◌≤◌, ◌++◌, nat_lt, if◌then◌else◌, Bool, true, false, List, [], ◌∷◌, take, drop, length, IsTrue, IfOk, OnOk, MatchResult, ℤ, Option, Some, None, Result, Ok, Err, ⊤}
 use Rattle.nl_base.specs.declared.place.Place.{Place}
 use Rattle.nl_base.specs.declared.fault.Reason.{Reason}
-use Rattle.nl_base.specs.declared.fault.TextFault.{TextFault}
 use Rattle.nl_base.specs.declared.fault.ReadError.{ReadError}
 use Rattle.nl_base.specs.declared.fault.ReadError.TheVariants.{Text, ReadFault, TooLong, NoMemory, Spent}
 use Rattle.nl_bytes.specs.declared.class.Class.{Class}
@@ -69,7 +68,7 @@ pub record Spans (class : Class) (p : Place) (old new : Window) (left left' : Op
   pub added : after ≡ before ++ used
   pub short : OnOk result (length after ≤ 1024)
   pub answer : (rest : List ℕ) → input old left ≡ Some rest →
-    Answers p (before ++ rest) (λ piece stop. (piece.value ≡ after) × (piece.count ≡ length after) × (stop ≡ p.offset + piece.seen)) (span_at (in_class class) (length before) (before ++ rest)) result
+      Answers p (before ++ rest) (λ piece stop. (piece.value ≡ after) × (piece.count ≡ length after) × (stop ≡ p.offset + piece.seen)) (span_at (in_class class) (length before) (before ++ rest)) result
 
 -- the bytes that begin a text were used
 pub record Begins (class : Class) (lead : Bool) (byte : ℕ) (p : Place) (old new : Window) (left left' : Option (List ℕ)) (after : List ℕ) (result : Result (Unit {0}) ReadError) : Type 0 where
@@ -77,7 +76,7 @@ pub record Begins (class : Class) (lead : Bool) (byte : ℕ) (p : Place) (old ne
   pub uses : Uses old new left left' used
   pub ok : OnOk result ((used ≡ after) × Leads class lead byte after)
   pub answer : (bs : List ℕ) → input old left ≡ Some bs → (text : Result (Piece (List ℕ)) Flaw) → 1 ≤ seen_of text →
-    MatchResult result (λ _. led lead (in_class class) (first (drop 1 bs)) text ≡ text)
+      MatchResult result (λ _. led lead (in_class class) (first (drop 1 bs)) text ≡ text)
       (λ e. Answers {B = ℕ} p bs (λ _ _. ⊥) (led lead (in_class class) (first (drop 1 bs)) text) (Err e))
 
 -- a text was read
@@ -87,7 +86,7 @@ pub record ReadsText (class : Class) (lead : Bool) (p : Place) (old new : Window
   pub some : OnOk result (0 < length used)
   pub shape : IfOk result (λ x. (b : ℕ) (rest : List ℕ) → old.held ≡ b ∷ rest → IsLed class lead b x.text.items)
   pub answer : (bs : List ℕ) → input old left ≡ Some bs →
-    Answers p bs (λ piece x. (x.text.items ≡ piece.value) × (x.stop ≡ p.offset + piece.seen) × (piece.count ≡ length used)) (text_at (in_class class) lead bs) result
+      Answers p bs (λ piece x. (x.text.items ≡ piece.value) × (x.stop ≡ p.offset + piece.seen) × (piece.count ≡ length used)) (text_at (in_class class) lead bs) result
 
 -- a token was read, which is spelled so
 pub record Reads (spelled : List ℕ → Result (Piece Token) Flaw) (p : Place) (old new : Window) (left left' : Option (List ℕ)) (result : Result Found ReadError) : Type 0 where
@@ -95,7 +94,7 @@ pub record Reads (spelled : List ℕ → Result (Piece Token) Flaw) (p : Place) 
   pub uses : Uses old new left left' used
   pub some : OnOk result (0 < length used)
   pub answer : (bs : List ℕ) → input old left ≡ Some bs →
-    Answers p bs (λ piece f. (f ≡ found_at p piece) × (piece.count ≡ length used)) (spelled bs) result
+      Answers p bs (λ piece f. (f ≡ found_at p piece) × (piece.count ≡ length used)) (spelled bs) result
 
 abbrev pub number_or_refusal : Place → ℕ → Option ℤ → Result Found ReadError
 number_or_refusal p stop None = Err (refusal p stop NumberRange)
@@ -115,8 +114,8 @@ pub record ReadsPart (from to : ℕ → Within) (p start : Place) (old new : Win
   pub used : List ℕ
   pub uses : Uses old new left left' used
   pub spelled : (front bs rest : List ℕ) (s : ℕ) → s ≤ length front → start ≡ place_past p (take s front) → old.place ≡ place_past p front
-    → input old left ≡ Some bs → input new left' ≡ Some rest → bs ≡ used ++ rest
-    → Continues p (front ++ bs) (string_at (from s) before (length front) bs) result (string_at (to s) after (length front + length used) rest)
+      → input old left ≡ Some bs → input new left' ≡ Some rest → bs ≡ used ++ rest
+      → Continues p (front ++ bs) (string_at (from s) before (length front) bs) result (string_at (to s) after (length front + length used) rest)
 
 -- no byte past a token's stop was used
 abbrev pub UsesTo : Option Found → Window → Type 0

@@ -1,10 +1,8 @@
 -- What the bytes at a place spell: a token, or a lexical fault. It speaks of all the bytes from there on.
-use Rattle.std.specs.Prelude.{◌≡◌, ℕ, ◌+◌, ◌-◌, ◌^◌, ◌*◌, fold, Bool, true, false, ◌||◌, ◌==◌, nat_lt, if◌then◌else◌, List, [], ◌∷◌, length, take, drop, Option, Some, None, Result, Ok, Err, ℤ, pos, neg_ℤ}
+use Rattle.std.specs.Prelude.{ℕ, ◌+◌, ◌-◌, ◌^◌, ◌*◌, fold, Bool, true, false, ◌||◌, ◌==◌, nat_lt, if◌then◌else◌, List, [], ◌∷◌, take, drop, Option, Some, None, Result, Ok, ℤ, pos, neg_ℤ}
 use Rattle.std.specs.Char.{is_ascii_digit, is_ascii_alphabetic}
 use Rattle.std.specs.List.{prefix_len}
-use Rattle.nl_base.specs.declared.place.Place.{Place}
-use Rattle.nl_base.specs.declared.fault.Reason.{Reason}
-use Rattle.nl_base.specs.declared.fault.Reason.TheVariants.{EndOfInput, BadByte, BadEscape, TokenTooLong, NumberRange}
+use Rattle.nl_base.specs.declared.fault.Reason.TheVariants.{EndOfInput, BadByte, TokenTooLong, NumberRange}
 use Rattle.nl_bytes.specs.Classes.{is_space, is_word_byte}
 use Rattle.nl_bytes.specs.Bytes.{first}
 pub use Rattle.edif_tokens.specs.Flaws.{Piece, Flaw, ◌>>=◌, flaw}

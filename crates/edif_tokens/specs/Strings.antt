@@ -1,12 +1,9 @@
 -- Strings, from the byte after the first quote on.
-use Rattle.std.specs.Prelude.{◌≡◌, ℕ, ◌+◌, ◌-◌, ◌*◌, ◌<◌, ◌≤◌, Bool, true, false, ◌&&◌, ◌==◌, nat_lt, nat_le, if◌then◌else◌, List, [], ◌∷◌, ◌++◌, length, Option, Some, None, Result, Ok, Err, OnOk, IfOk, IfSome, IsErrOf}
+use Rattle.std.specs.Prelude.{◌≡◌, ℕ, ◌+◌, ◌-◌, ◌*◌, ◌<◌, ◌≤◌, Bool, true, false, ◌&&◌, ◌==◌, nat_lt, nat_le, if◌then◌else◌, List, [], ◌∷◌, ◌++◌, length, Option, Some, None, Result, Ok, OnOk, IfOk, IfSome, IsErrOf}
 use Rattle.std.specs.Char.{is_ascii_digit}
-use Rattle.nl_base.specs.declared.place.Place.{Place}
 use Rattle.nl_base.specs.declared.fault.Reason.TheVariants.{EndOfInput, BadByte, BadEscape, TokenTooLong}
-use Rattle.nl_base.specs.declared.fault.ReadError.{ReadError}
-use Rattle.nl_base.specs.Place.{place_past}
 use Rattle.nl_bytes.specs.Classes.{is_space, is_string_byte}
-use Rattle.nl_bytes.specs.Bytes.{Window, Uses, IsAhead, input}
+use Rattle.nl_bytes.specs.Bytes.{Window, Uses, IsAhead}
 use Rattle.nl_bytes.specs.declared.halt.Halt.{Halt}
 use Rattle.nl_bytes.specs.declared.halt.Halt.TheVariants.{TooLong}
 use Rattle.nl_bytes.specs.declared.bytes.TheConstants.{LIMIT}

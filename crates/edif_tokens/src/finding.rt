@@ -6,8 +6,8 @@ ghost use Rattle.edif_tokens.specs.Scan.{Finds};
 use crate::lexeme::{held_token, token};
 use crate::token::Found;
 use nl_base::ReadError;
-use nl_bytes::{Bytes, Class};
 use nl_bytes::bytes::LIMIT;
+use nl_bytes::{Bytes, Class};
 use nl_io::Source;
 use std::alloc::Global;
 
@@ -32,7 +32,11 @@ pub fn found<S: Source>(
         Some(found) => Ok(Some(found)),
         None => {
             let found = token(bytes, alloc, byte, source)?;
-            if LIMIT < found.stop { Err(ReadError::TooLong) } else { Ok(Some(found)) }
+            if LIMIT < found.stop {
+                Err(ReadError::TooLong)
+            } else {
+                Ok(Some(found))
+            }
         }
     }
 }

@@ -9,12 +9,12 @@ ghost use Rattle.edif_tokens.specs.Spelling.{word_spelled, number_spelled, token
 ghost use Rattle.nl_base.specs.Identifiers.{is_identifier};
 ghost use Rattle.edif_tokens.specs.Scan.{number_found};
 
-use crate::scan::{integer_of, may_follow, refuse, span, start_of, Start};
+use crate::scan::{Start, integer_of, may_follow, refuse, span, start_of};
 use crate::string::string;
 use crate::token::{Found, Token};
 use nl_base::{Ident, Place, ReadError, Reason, Text};
-use nl_bytes::{Bytes, Class};
 use nl_bytes::bytes::LIMIT;
+use nl_bytes::{Bytes, Class};
 use nl_io::Source;
 use std::alloc::Global;
 
@@ -192,7 +192,15 @@ fn pieced_word<S: Source>(
     ensures ended { IfOk result (λ f. bytes.new.place.offset ≤ f.stop) }
 {
     let place = bytes.place();
-    let Spanned { text, stop } = pieced_text(bytes, alloc, Class::WordByte, lead, byte, place, source)?;
+    let Spanned { text, stop } = pieced_text(
+        bytes,
+        alloc,
+        Class::WordByte,
+        lead,
+        byte,
+        place,
+        source,
+    )?;
     Ok(Found {
         place,
         stop,
@@ -276,7 +284,12 @@ fn mark<S: Source>(bytes: &mut Bytes, byte: u8, token: Token, source: &S) -> Fou
 
 /// A mark, or a word that is held whole. Where there is none, nothing is used.
 #[inline(always)]
-pub fn held_token<S: Source>(bytes: &mut Bytes, alloc: Global, byte: u8, source: &S) -> Option<Found>
+pub fn held_token<S: Source>(
+    bytes: &mut Bytes,
+    alloc: Global,
+    byte: u8,
+    source: &S,
+) -> Option<Found>
     requires ahead { (rest : List ℕ) × (bytes.old.held ≡ byte ∷ rest) }
     requires within { bytes.old.place.offset ≤ LIMIT }
     ensures reads { IfSome result (λ f. Reads (token_by (start_of byte)) bytes.old.place bytes.old bytes.new (S.left source.now) (S.left source.now) (Ok f)) }

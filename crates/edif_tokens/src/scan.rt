@@ -7,8 +7,8 @@ ghost use Rattle.edif_tokens.specs.Spelling.{start_of, may_follow, integer_of};
 ghost use Rattle.edif_tokens.specs.Scan.{refusal, ending, Spans};
 
 use nl_base::{Int, Place, ReadError, Reason, TextFault};
-use nl_bytes::{Bytes, Class, Halt};
 use nl_bytes::bytes::LIMIT;
+use nl_bytes::{Bytes, Class, Halt};
 use nl_io::Source;
 
 /// What a byte begins.
@@ -69,16 +69,30 @@ pub fn integer_of(text: &[u8]) -> Option<Int>
     };
     let mut magnitude: u64 = 0;
     for d in digits {
-        magnitude = magnitude.saturating_mul(10).saturating_add(u64::from(d.saturating_sub(b'0')));
+        magnitude = magnitude
+            .saturating_mul(10)
+            .saturating_add(u64::from(d.saturating_sub(b'0')));
     }
-    if magnitude < 1 << 63 { Some(Int::signed(negative, magnitude)) } else { None }
+    if magnitude < 1 << 63 {
+        Some(Int::signed(negative, magnitude))
+    } else {
+        None
+    }
 }
 
 /// A fault, or that the input is too long where the fault's stop is past the limit.
 pub fn refuse(place: Place, stop: u64, reason: Reason) -> ReadError
     ensures { result ≡ refusal place stop reason }
 {
-    if LIMIT < stop { ReadError::TooLong } else { ReadError::Text(TextFault { place, stop, reason }) }
+    if LIMIT < stop {
+        ReadError::TooLong
+    } else {
+        ReadError::Text(TextFault {
+            place,
+            stop,
+            reason,
+        })
+    }
 }
 
 /// How a word or an integer ends that began at `place`, has so many bytes and has `next` behind it: its stop, or a fault.

@@ -9,8 +9,8 @@ ghost use Rattle.edif_tokens.specs.Spelling.{string_spelled};
 use crate::scan::refuse;
 use crate::token::{Found, Token};
 use nl_base::{Place, ReadError, Reason, Text};
-use nl_bytes::{Bytes, Class, Halt};
 use nl_bytes::bytes::LIMIT;
+use nl_bytes::{Bytes, Class, Halt};
 use nl_io::Source;
 use std::alloc::Global;
 

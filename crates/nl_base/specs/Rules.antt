@@ -41,7 +41,7 @@ rule_name V3 = codes "V3"
 rule_name V4 = codes "V4"
 rule_name V5 = codes "V5"
 
--- the number of a rule in the order of all rules
+-- the number of a rule in the order of the rules, from 0
 abbrev pub rule_number : Rule → ℕ
 rule_number E1 = 0
 rule_number E2 = 1

@@ -1,7 +1,9 @@
-// What every netlist crate speaks of: texts, identifiers, lists, whole numbers, bit ranges, places in a text, and why a text or a design is refused.
+// What every netlist crate speaks of: texts, identifiers, lists, whole numbers, bit ranges, places in a text, and why a text or a
+// design is refused.
 //
-// The public contract in plain words: a `Text` is its bytes and a `Seq` is its list; an `Ident` is an EDIF identifier (EDIF 2 0 0,
-// identifiers) of at most 1,024 bytes; an `Int` and the ends of a `Range` have an absolute value that their type holds; numbers are
+// The public contract in plain words: a `Text` is its bytes and a `Seq` is its list. An `Ident` is an EDIF identifier (EDIF 2 0 0,
+// basic syntax) of at most 1,024 bytes. An `Int` is below 2^63 in absolute value, and each end of a `Range` below 2^31. Numbers are
+// spelled in decimal. `split_range` answers the base and the range exactly where a text has the range form, as `bus[7:0]`.
 // No call but `Text::copy` and `Seq::push` takes memory.
 #![tactic(auto)]
 
@@ -15,12 +17,13 @@ pub mod range;
 pub mod rule;
 pub mod seq;
 pub mod spelling;
+pub mod split;
 pub mod text;
 pub mod value;
 
 pub use case::fold_eq;
 pub use fault::{ReadError, Reason, TextFault};
-pub use ident::Ident;
+pub use ident::{Ident, is_identifier};
 pub use memory::NoMemory;
 pub use number::{Int, Scaled};
 pub use place::Place;
@@ -28,5 +31,9 @@ pub use range::Range;
 pub use rule::{Refusal, Rule};
 pub use seq::Seq;
 pub use spelling::spell_u64;
+pub use split::split_range;
 pub use text::Text;
 pub use value::{Dir, PropValue};
+
+#[cfg(test)]
+mod tests;

@@ -1,7 +1,7 @@
 use std::alloc::{AllocError, AllocFailed};
 
 /// Memory ran out. No contract ties this answer to a cause.
-#[derive(Drop)]
+#[derive(Debug, Drop)]
 pub struct NoMemory;
 
 impl From<AllocError> for NoMemory {

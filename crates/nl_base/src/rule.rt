@@ -1,10 +1,11 @@
 ghost use Rattle.std.specs.Prelude.{◌≡◌};
-ghost use Rattle.nl_base.specs.Rules.{rule_name};
+ghost use Rattle.nl_base.specs.Rules.{rule_name, rule_number};
 
 use crate::seq::Seq;
 use crate::text::Text;
 
-/// A rule that a netlist can break, in the order in which rules are tried: those of an EDIF file (E), of a Verilog design (G), and of a translation to Verilog (V).
+/// A rule that a netlist can break, in the order in which rules are tried: those of an EDIF file (E), of a Verilog design (G), and of a
+/// translation to Verilog (V).
 #[derive(Clone, Copy, PartialEq, Eq)]
 pub enum Rule {
     E1,
@@ -45,6 +46,13 @@ pub enum Rule {
 }
 
 impl Rule {
+    /// Its number in the order of the rules, from 0.
+    pub fn number(&self) -> u8
+        ensures { result ≡ rule_number self.now }
+    {
+        *self as u8
+    }
+
     /// The name that is printed for it.
     pub fn name(&self) -> &'static [u8]
         ensures { result.now ≡ rule_name self.now }

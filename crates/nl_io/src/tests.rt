@@ -61,7 +61,11 @@ impl Write for Halting<'_> {
 #[test]
 fn source_gives_pieces(rt: HostRuntime) -> Result<(), Fail> {
     let alloc = rt.alloc();
-    let pieces = vec![in alloc; vec![in alloc; 1, 2, 3]?, Vec::new(alloc), vec![in alloc; 4]?]?;
+    let pieces = vec![in alloc;
+        vec![in alloc; 1, 2, 3]?,
+        Vec::new(alloc),
+        vec![in alloc; 4]?,
+    ]?;
     let mut source = MemSource::new(pieces, vec![in alloc; 2]?);
     let mut buf = [0; 2];
     assert_eq!(rt; source.take(&mut buf), Ok(2));

@@ -1,6 +1,5 @@
 use Rattle.std.proofs.Common.{◌≡◌, rules}
 use Rattle.std.proofs.lemmas.Result.{err_from_is_err_and}
-use Rattle.nl_bytes.specs.Bytes.{Window}
 use Rattle.edif_tokens.proofs.Streams.{finds_refused, finds_end, finds_over, finds_found, finds_halted, same_reads}
 use Rattle.edif_tokens.proofs.finding.found.Goals as goal
 

@@ -1,4 +1,4 @@
-use Rattle.std.proofs.Common.{◌≡◌, ℕ, List, [], ◌++◌, take, length, length-take, rules, get_or, refl, sym, ap, ◌∙◌, arith}
+use Rattle.std.proofs.Common.{◌≡◌, ℕ, List, ◌++◌, take, length, length-take, get_or, refl, sym, ap, ◌∙◌, arith}
 use Rattle.nl_base.specs.declared.place.Place.{Place}
 use Rattle.nl_base.proofs.Places.{place_past-offset}
 use Rattle.std.specs.List.{prefix_len}
@@ -9,7 +9,7 @@ use Rattle.edif_tokens.proofs.Held.{held_reads}
 use Rattle.edif_tokens.proofs.lexeme.held_text.Goals as goal
 
 pub pass-requires-clause-each : goal.pass-requires-clause-each
-pass-requires-clause-each g c = 
+pass-requires-clause-each g c =
     let run : c.front-count.result ≡ prefix_len (in_class c.args.class) c.args.bytes.now.held = c.front-count.ensures ∙ ap (prefix_len (in_class c.args.class)) c.held-held.ensures in
     rw run (front-all (in_class c.args.class) c.args.bytes.now.held)
 

@@ -1,5 +1,5 @@
 use Rattle.std.proofs.Common.{sym, ◌∙◌}
-use Rattle.edif_tokens.proofs.Words.{letter_begins, ampersand_begins}
+use Rattle.edif_tokens.proofs.Words.{letter_begins}
 use Rattle.edif_tokens.proofs.lexeme.token.Goals as goal
 
 pub pieced_word-requires-clause-begins : goal.pieced_word-requires-clause-begins

@@ -1,8 +1,8 @@
-use Rattle.std.proofs.Common.{◌≡◌, ℕ, List, [], ◌∷◌, ◌++◌, Some, true, arith, rules}
+use Rattle.std.proofs.Common.{◌≡◌, [], ◌∷◌, ◌++◌, Some, true, arith, rules}
 use Rattle.std.specs.Char.{is_ascii_digit}
 use Rattle.nl_bytes.specs.Bytes.{IsAhead}
 use Rattle.nl_bytes.proofs.Uses.{Uses-next}
-use Rattle.edif_tokens.proofs.Strings.{Digits-none, Digits-push}
+use Rattle.edif_tokens.proofs.Strings.{Digits-push}
 use Rattle.edif_tokens.proofs.string.code.Goals as goal
 
 pub loop-next-preserved : goal.loop-next-preserved

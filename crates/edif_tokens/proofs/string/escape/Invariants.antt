@@ -1,4 +1,4 @@
-use Rattle.std.proofs.Common.{ℕ, ◌-◌, ◌+◌, ◌≤◌, false, Ok}
+use Rattle.std.proofs.Common.{◌-◌, ◌+◌, ◌≤◌, false, Ok}
 use Rattle.nl_bytes.specs.declared.bytes.TheConstants.{LIMIT}
 use Rattle.edif_tokens.specs.Scan.{ReadsPart}
 use Rattle.edif_tokens.specs.Strings.{Escape}

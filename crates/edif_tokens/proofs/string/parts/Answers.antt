@@ -1,11 +1,10 @@
-use Rattle.std.proofs.Common.{◌≡◌, refl, ℕ, List, ◌∷◌, Bool, true, false, eqb, arith, rules, ap, subst, Some, None, Ok, sym, ◌∙◌, length, length-append, drop}
+use Rattle.std.proofs.Common.{◌≡◌, ℕ, ◌∷◌, true, false, arith, rules, ap, ◌∙◌, length, length-append}
 use Rattle.std.proofs.lemmas.Bool.{ne_eqb}
 use Rattle.std.proofs.lemmas.Result.{err_from_is_err_and}
 use Rattle.nl_base.specs.declared.place.Place.{Place}
 use Rattle.nl_bytes.specs.Classes.{is_string_byte}
-use Rattle.edif_tokens.specs.Strings.{Parts}
 use Rattle.edif_tokens.proofs.Spans.{at_err}
-use Rattle.edif_tokens.proofs.Strings.{plain_part, parts_end, parts_full, parts_bad, parts_escape, part_ends, part_trans, part_err, part_halted}
+use Rattle.edif_tokens.proofs.Strings.{plain_part, parts_end, parts_full, parts_bad, parts_escape, part_ends, part_trans, part_halted}
 use Rattle.edif_tokens.proofs.Spans.{offset_grows}
 use Rattle.edif_tokens.proofs.string.parts.Goals as goal
 
@@ -19,7 +18,7 @@ pub returns-in_default-clause-reads : goal.returns-in_default-clause-reads
 returns-in_default-clause-reads g c =
     let runs = c.in_ok-next.ensures.runs in
     rw (c.refuse.ensures, c.place-here.ensures.place)
-      (part_ends (part_trans c.parts.invariant.part (plain_part runs (omega (arith, c.len.ensures, c.saturating_sub-most.ensures)) _ _)) _ _ (rw c.in_default.is at runs.ahead) (parts_end _))
+    (part_ends (part_trans c.parts.invariant.part (plain_part runs (omega (arith, c.len.ensures, c.saturating_sub-most.ensures)) _ _)) _ _ (rw c.in_default.is at runs.ahead) (parts_end _))
 
 pub returns-then-b-eq34-clause-reads : goal.returns-then-b-eq34-clause-reads
 returns-then-b-eq34-clause-reads g c =
@@ -32,8 +31,8 @@ returns-then-contains-clause-reads g c =
     let plain : is_string_byte b ≡ true = search (rules, c.if-contains.ensures, c.if-contains.true) in
     let whole = runs.longest plain in
     rw (c.refuse-then-contains.ensures, c.place-here.ensures.place)
-      (parts_full (part_trans c.parts.invariant.part (plain_part runs (omega (arith, c.len.ensures, c.saturating_sub-most.ensures)) _ _)) _ _ b runs.ahead plain
-        (omega (arith, whole, c.len.ensures, c.saturating_sub-most.ensures, ap length runs.added, length-append c.parts.value.items runs.used)))
+    (parts_full (part_trans c.parts.invariant.part (plain_part runs (omega (arith, c.len.ensures, c.saturating_sub-most.ensures)) _ _)) _ _ b runs.ahead plain
+    (omega (arith, whole, c.len.ensures, c.saturating_sub-most.ensures, ap length runs.added, length-append c.parts.value.items runs.used)))
 
 pub returns-then-b-ne37-clause-reads : goal.returns-then-b-ne37-clause-reads
 returns-then-b-ne37-clause-reads g c =
@@ -41,7 +40,7 @@ returns-then-b-ne37-clause-reads g c =
     let b = c.in-Some.b in
     let plain : is_string_byte b ≡ false = search (rules, c.if-contains.ensures, c.if-contains.false) in
     rw (c.refuse-then-b-ne37.ensures, c.place-here.ensures.place)
-      (parts_bad (part_trans c.parts.invariant.part (plain_part runs (omega (arith, c.len.ensures, c.saturating_sub-most.ensures)) _ _)) _ _ b runs.ahead (ne_eqb b 34 c.if-b-eq34.false) (ne_eqb b 37 c.if-b-ne37.true) plain)
+    (parts_bad (part_trans c.parts.invariant.part (plain_part runs (omega (arith, c.len.ensures, c.saturating_sub-most.ensures)) _ _)) _ _ b runs.ahead (ne_eqb b 34 c.if-b-eq34.false) (ne_eqb b 37 c.if-b-ne37.true) plain)
 
 pub parts-smaller : goal.parts-smaller
 parts-smaller g c =
@@ -54,7 +53,7 @@ parts-preserved g c =
     let held = runs.ahead.1 ∙ ap (λ (x : ℕ). x ∷ runs.ahead.0) c.if-b-ne37.false in
     record {
       part = part_trans (part_trans c.parts.invariant.part (plain_part runs (omega (arith, c.len.ensures, c.saturating_sub-most.ensures)) _ _))
-        (parts_escape held c.advance.ensures.held c.advance.ensures.place (rw c.place-here.ensures.place at c.in_ok-escape.ensures.reads) _);
+          (parts_escape held c.advance.ensures.held c.advance.ensures.place (rw c.place-here.ensures.place at c.in_ok-escape.ensures.reads) _);
       count = omega (arith, c.run.ensures.count, c.escape.ensures.count);
     }
 
@@ -64,4 +63,4 @@ returns-in_err-escape-clause-reads g c =
     let runs = rw c.in-Some.is at c.in_ok-next.ensures.runs in
     let held = runs.ahead.1 ∙ ap (λ (x : ℕ). x ∷ runs.ahead.0) c.if-b-ne37.false in
     rw (p.1, p.2) (part_trans (part_trans c.parts.invariant.part (plain_part runs (omega (arith, c.len.ensures, c.saturating_sub-most.ensures)) _ _))
-      (parts_escape held c.advance.ensures.held c.advance.ensures.place (rw c.place-here.ensures.place at c.in_err-escape.ensures.reads) _))
+    (parts_escape held c.advance.ensures.held c.advance.ensures.place (rw c.place-here.ensures.place at c.in_err-escape.ensures.reads) _))

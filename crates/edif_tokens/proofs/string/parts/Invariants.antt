@@ -1,4 +1,4 @@
-use Rattle.std.proofs.Common.{ℕ, ◌-◌, ◌+◌, ◌≤◌, Ok}
+use Rattle.std.proofs.Common.{◌-◌, ◌+◌, ◌≤◌, Ok}
 use Rattle.nl_bytes.specs.declared.bytes.TheConstants.{LIMIT}
 use Rattle.edif_tokens.specs.Scan.{ReadsPart}
 use Rattle.edif_tokens.specs.Strings.{Parts}
