@@ -1,6 +1,6 @@
 -- What a choice by the next token and a loop read as, after the token was taken or looked at.
 use Rattle.std.proofs.Common.{◌≡◌, Bool, true, false, List, [], ◌∷◌, Option, Some, None, Result, Ok, Err, refl, sym, ap, ◌∙◌}
-use Rattle.grammar.specs.Part.{sequence, Glance, takes, refuses, leaves}
+use Rattle.grammar.specs.Part.{gives, sequence, under, Glance, takes, refuses, leaves}
 use Rattle.grammar.specs.Reading.{Found, and_then, glanced, look_ahead, take_token, read}
 use Rattle.grammar.specs.Whole.{Terminal, proper, end, Finish}
 use Rattle.grammar.proofs.Loops.{read_loop}
@@ -11,7 +11,7 @@ use Rattle.nl_base.specs.declared.fault.ReadError.{ReadError}
 use Rattle.nl_base.specs.declared.fault.ReadError.TheVariants as errors
 use Rattle.readers.specs.Parts.{PartOf, of_token, at_token, one, any, if_next, while_next, maybe, pick}
 use Rattle.readers.specs.Sources.{Ahead, Language}
-use Rattle.readers.specs.Readers.{result_of, reading, then_left, on, fault_at, finish_error, look_result, looking, FirstFits, IsNext, IsToken, IsCause}
+use Rattle.readers.specs.Readers.{result_of, reading, then_left, on_result, on, fault_at, finish_error, look_result, looking, FirstFits, IsNext, IsToken, IsCause}
 use Rattle.std.proofs.lemmas.List.{map_push}
 use Rattle.readers.proofs.Moving.{near_text, skip_none}
 use Rattle.readers.proofs.Reading.{reading_then, reading_one, cause_on, cause_judge, no_memory, read_fault, sequences}
@@ -28,6 +28,35 @@ read_grouped {X = X} {A = A} p q r k ts = by (read k p ts)
   where
     by : (o : Found (Terminal X Place) Reason A) → and_then (and_then o (λ x. read k (q x.0) x.1)) (λ y. read k (r y.0) y.1) ≡ and_then o (λ x. and_then (read k (q x.0) x.1) (λ y. read k (r y.0) y.1))
     by (Ok x) = refl
+    by (Err e) = refl
+
+read_round : {K X A B S C : Type 0} (p : PartOf K X A) (q : A → PartOf K X B) (g : B → S) (r : S → PartOf K X C) (k : K) (ts : List (Terminal X Place)) → read k (sequence p (λ a. sequence (sequence (q a) (λ b. gives (g b))) r)) ts ≡ read k (sequence (sequence p q) (λ b. r (g b))) ts
+read_round {X = X} {A = A} {B = B} p q g r k ts = by (read k p ts)
+  where
+    then : (o : Found (Terminal X Place) Reason B) → and_then (and_then o (λ b. Ok (g b.0, b.1))) (λ (y : _ × List (Terminal X Place)). read k (r y.0) y.1) ≡ and_then o (λ b. read k (r (g b.0)) b.1)
+    then (Ok x) = refl
+    then (Err e) = refl
+
+    by : (o : Found (Terminal X Place) Reason A) → and_then o (λ a. and_then (and_then (read k (q a.0) a.1) (λ b. Ok (g b.0, b.1))) (λ (y : _ × List (Terminal X Place)). read k (r y.0) y.1)) ≡ and_then (and_then o (λ a. read k (q a.0) a.1)) (λ b. read k (r (g b.0)) b.1)
+    by (Ok x) = then (read k (q x.0) x.1)
+    by (Err e) = refl
+
+-- a round that begins with p, goes on with q and keeps g of it, and then the loop again
+pub reading_round : {K X A B S C : Type 0} (L : Language X) (p : PartOf K X A) (q : A → PartOf K X B) (g : B → S) (r : S → PartOf K X C) (k : K) (s : Option (Ahead X)) → reading L (sequence p (λ a. sequence (sequence (q a) (λ b. gives (g b))) r)) k s ≡ on L (λ b. r (g b)) k (reading L (sequence p q) k s)
+reading_round L p q g r k s = reads_alike L (sequence p (λ a. sequence (sequence (q a) (λ b. gives (g b))) r)) (sequence (sequence p q) (λ b. r (g b))) k s (read_round p q g r k) ∙ reading_then L (sequence p q) (λ b. r (g b)) k s
+
+-- the same of a round that is read in another context, behind a token that says the same in each context
+pub reading_round_under : {K X A S C : Type 0} (L : Language X) (h : X → Result A Reason) (p : PartOf K X S) (r : S → PartOf K X C) (j k : K) (s : Option (Ahead X)) → reading L (sequence (one (λ _. h)) (λ _. sequence (under j p) r)) k s ≡ on L r k (reading L (sequence (one (λ _. h)) (λ _. p)) j s)
+unfolding reading on one
+reading_round_under L h p r j k None = refl
+reading_round_under {X = X} {A = A} {S = S} L h p r j k (Some s) = by (take_token (λ t. of_token h t) s.tokens)
+  where
+    then : (o : Found (Terminal X Place) Reason S) → Some (result_of L s.finish (and_then o (λ y. read k (r y.0) y.1))) ≡ on_result L r k (result_of L s.finish o)
+    then (Ok y) = refl
+    then (Err e) = refl
+
+    by : (o : Found (Terminal X Place) Reason A) → Some (result_of L s.finish (and_then o (λ x. and_then (read j p x.1) (λ y. read k (r y.0) y.1)))) ≡ on_result L r k (result_of L s.finish (and_then o (λ x. read j p x.1)))
+    by (Ok x) = then (read j p x.1)
     by (Err e) = refl
 
 -- ---- a choice, by what the next token is taken for

@@ -6,3 +6,5 @@ pub mod Choices
 pub mod Loops
 pub mod Chain
 pub mod Whole
+pub mod Shapes
+pub mod Maybes

@@ -93,6 +93,11 @@ unfolding IsCause
 cause_said A L x reason None = tt
 cause_said A L x reason (Some s) = refl
 
+-- whichever token it is, it is so in each context
+pub reading_any : {K X : Type 0} (L : Language X) (j k : K) (s : Option (Ahead X)) → reading L (any {K = K}) j s ≡ reading L any k s
+unfolding reading any
+reading_any L j k s = refl
+
 -- for a call that takes a token and says what it is
 pub ruleset one_token = (reading_one, judge_left, cause_judge, cause_said, near_text, skip_none)
 

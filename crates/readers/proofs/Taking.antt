@@ -1,5 +1,5 @@
 -- The next token of a reader of parts is that of its reader of tokens.
-use Rattle.std.proofs.Common.{◌≡◌, Bool, true, false, Option, Some, None, Ok, Err, refl, sym, ap, ◌∙◌, option_map, IsTrue}
+use Rattle.std.proofs.Common.{◌≡◌, Bool, true, false, Option, Some, None, is_some, Ok, Err, refl, sym, ap, ◌∙◌, option_map, IsTrue}
 use Rattle.nl_base.specs.declared.fault.ReadError.{ReadError}
 use Rattle.nl_base.specs.declared.fault.ReadError.TheVariants as errors
 use Rattle.nl_base.specs.declared.place.Place.{Place}
@@ -46,7 +46,7 @@ told_error errors.ReadFault L k w (Some s) (Some t) h = tt
 told_error errors.NoMemory L k w (Some s) (Some t) h = tt
 told_error errors.Spent L k w (Some s) (Some t) h = absurd h
 
-taken_ahead : {K X : Type 0} (L : Language X) (k : K) (x : X) (c d : Reader K X) (i : Supply) → c.spent ≡ false → c.ahead ≡ Some x → d.window ≡ c.window → d.ahead ≡ None → d.spent ≡ false → reading L any k (stream L c i) ≡ then_left x (stream L d i)
+pub taken_ahead : {K X : Type 0} (L : Language X) (k : K) (x : X) (c d : Reader K X) (i : Supply) → c.spent ≡ false → c.ahead ≡ Some x → d.window ≡ c.window → d.ahead ≡ None → d.spent ≡ false → reading L any k (stream L c i) ≡ then_left x (stream L d i)
 unfolding stream_of reading then_left any
 taken_ahead {X = X} L k x c d i h a w n s = rw (h, a, w, n, s) (by (tokens_ahead L c.window i))
   where
@@ -64,8 +64,8 @@ pub reads_spent : {K X V Y : Type 0} (L : Language X) (view : V → Y) (part : P
 reads_spent L view part a i s = calls_spent a i (spent_tells errors.Spent L part a.context a i s) s
 
 -- the token that was looked at is taken
-pub takes_ahead : {K X : Type 0} (L : Language X) (a : Reader K X) (w : Window) (h : Option X) (x : X) (k : K) (b : Bool) (i : Supply) → reader w h k b ≡ a → b ≡ false → h ≡ Some x → Reads L same any (Ok x) a (reader w None k b) i i
-takes_ahead L a w h x k b i e live some = rw (← e, live, some) (record {
+pub takes_ahead : {K X : Type 0} (L : Language X) (a : Reader K X) (w : Window) (h m : Option X) (x : X) (k : K) (b : Bool) (i : Supply) → reader w h k b ≡ a → b ≡ false → h ≡ Some x → m ≡ None → Reads L same any (Ok x) a (reader w m k b) i i
+takes_ahead L a w h m x k b i e live some empty = rw (← e, live, some, empty) (record {
   moves = still w i;
   value = (taken_ahead L k x (reader w (Some x) k false) (reader w None k false) i refl refl refl refl refl, refl, room_ahead w x k false false);
   error = tt;
@@ -84,10 +84,15 @@ pub none_of : {X : Type 0} (h : Option X) → ((x : X) → h ≡ Some x → ⊥)
 none_of None h = refl
 none_of (Some x) h = absurd (h x refl)
 
--- a token is read: o and n are the windows of the reader of tokens before and after, where it was not spent before
-module _ {K X : Type 0} (L : Language X) (a : Reader K X) (o n : Window) (p q : Bool) (h : Option X) (k : K) (b : Bool) (i j : Supply) (e : reader o h k b ≡ a) (live : b ≡ false) (none : h ≡ None) (fresh : p ≡ false) where
-  pub takes_next : (x : X) → ReadsToken L (Ok (Some x)) o p n q i j → Reads L same any (Ok x) a (reader n h k false) i j
-  takes_next x r = rw (← e, live, none) (record {
+pub none_if : {X : Type 0} (h : Option X) (b : Bool) → b ≡ is_some h → b ≡ false → h ≡ None
+none_if None b e f = refl
+none_if (Some x) b e f = let g : true ≡ false = sym e ∙ f in absurd cc
+
+-- a token is read: o and n are the windows of the reader of tokens before and after, where it was not spent before;
+-- h and m are what was ahead before and after
+module _ {K X : Type 0} (L : Language X) (a : Reader K X) (o n : Window) (p q : Bool) (h m : Option X) (k : K) (b : Bool) (i j : Supply) (e : reader o h k b ≡ a) (live : b ≡ false) (none : h ≡ None) (fresh : p ≡ false) (empty : m ≡ None) where
+  pub takes_next : (x : X) → ReadsToken L (Ok (Some x)) o p n q i j → Reads L same any (Ok x) a (reader n m k false) i j
+  takes_next x r = rw (← e, live, none, empty) (record {
     moves = r.moves;
     value = (
       ap (reading L any k) (stream_of_tokens L (reader o None k false) i refl refl)
@@ -104,8 +109,8 @@ module _ {K X : Type 0} (L : Language X) (a : Reader K X) (o n : Window) (p q : 
     near = tt;
   })
 
-  pub takes_end : (at : Place) → ReadsToken L (Ok None) o p n q i j → at ≡ n.place → Reads L same any (Err (errors.Text (record { place = at; stop = at.offset; reason = EndOfInput }))) a (reader n h k true) i j
-  takes_end at r l = rw (← e, live, none, l) (record {
+  pub takes_end : (at : Place) → ReadsToken L (Ok None) o p n q i j → at ≡ n.place → Reads L same any (Err (errors.Text (record { place = at; stop = at.offset; reason = EndOfInput }))) a (reader n m k true) i j
+  takes_end at r l = rw (← e, live, none, empty, l) (record {
     moves = r.moves;
     value = tt;
     error = rw (stream_of_tokens L (reader o None k false) i refl refl) (told_end L k n (tokens_ahead L o i) (tokens_ahead L n j) (r.told fresh));
@@ -116,8 +121,8 @@ module _ {K X : Type 0} (L : Language X) (a : Reader K X) (o n : Window) (p q : 
     near = near_text n (end_fault n) r.after_token;
   })
 
-  pub takes_error : (f : ReadError) → ReadsToken L (Err f) o p n q i j → Reads L same any (Err f) a (reader n h k true) i j
-  takes_error f r = rw (← e, live, none) (record {
+  pub takes_error : (f : ReadError) → ReadsToken L (Err f) o p n q i j → Reads L same any (Err f) a (reader n m k true) i j
+  takes_error f r = rw (← e, live, none, empty) (record {
     moves = r.moves;
     value = tt;
     error = rw (stream_of_tokens L (reader o None k false) i refl refl) (told_error f L k n (tokens_ahead L o i) (tokens_ahead L n j) (r.told fresh));

@@ -1,5 +1,5 @@
 -- The tokens that are still to come of a source, and what a reader of tokens answers.
-use Rattle.std.specs.Prelude.{◌≡◌, ℕ, ◌+◌, ◌-◌, ◌≤◌, ◌<◌, ◌↔◌, Bool, List, [], ◌∷◌, length, drop, Option, Some, None, option_map, Result, Ok, Err, is_err, IfOk, IfErr, OnOk, IsTrue, IsFalse}
+use Rattle.std.specs.Prelude.{◌≡◌, ℕ, ◌+◌, ◌-◌, ◌≤◌, ◌<◌, ◌↔◌, Bool, List, [], ◌∷◌, Option, Some, None, option_map, Result, Ok, Err, is_err, IfOk, IfErr, OnOk, IsTrue, IsFalse}
 use Rattle.std.specs.Io.KnownBytes.{IsAtEnd}
 use Rattle.grammar.specs.Whole.{Terminal, proper, end, Finish, Done, Bad, Over, Stream}
 use Rattle.nl_base.specs.declared.place.Place.{Place}
