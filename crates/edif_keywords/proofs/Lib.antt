@@ -1,5 +1,7 @@
 pub mod Forms
+pub mod Free
 pub mod Letters
+pub mod Live
 pub mod Looks
 pub mod Maps
 pub mod NextToken

@@ -73,7 +73,3 @@ reads_token r old new left left' faults faults' h = record {
   after_token = near_token r new.window h.after_token;
   ended = ends_input r left' faults' h.ended;
 }
-
--- where no token is ahead, none is ahead
-pub no_ahead : {K : Type 0} (o : Window) (h m : Option Found) (k : K) (b : Bool) (a : Reader K Found) → reader o h k b ≡ a → h ≡ None → m ≡ None → reader o m k b ≡ a
-no_ahead o h m k b a e n l = ap (λ x. reader o x k b) (l ∙ sym n) ∙ e
