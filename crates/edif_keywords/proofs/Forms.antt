@@ -87,23 +87,23 @@ closing_fault e q k s h = due_then e edif closing (λ _. q) k s (due_one e edif 
 
 module _ {I : Type 0} (allowed : List I → List Keyword) (rest : Keyword → Edif I) (so_far : List I) (k : List Alias) (s : Option (Ahead Found)) where
   grouped : (ts : List (Terminal Found Place))
-    → read k (sequence opening (λ _. sequence (sequence (sequence (keyword (allowed so_far)) rest) (λ i. gives (so_far ++ i ∷ []))) (λ u. items allowed rest u))) ts
-    ≡ read k (sequence (sequence (begin (allowed so_far)) rest) (λ i. items allowed rest (so_far ++ i ∷ []))) ts
+      → read k (sequence opening (λ _. sequence (sequence (sequence (keyword (allowed so_far)) rest) (λ i. gives (so_far ++ i ∷ []))) (λ u. items allowed rest u))) ts
+      ≡ read k (sequence (sequence (begin (allowed so_far)) rest) (λ i. items allowed rest (so_far ++ i ∷ []))) ts
   unfolding begin
   grouped ts = by (read k opening ts)
     where
-    pushed : (r : Answer (Terminal Found Place) Reason I)
-        → and_then {A = List I × List (Terminal Found Place)} {B = List I × List (Terminal Found Place)} (and_then {A = I × List (Terminal Found Place)} r (λ z. Ok (so_far ++ z.0 ∷ [], z.1))) (λ u. read k (items allowed rest u.0) u.1)
-        ≡ and_then {A = I × List (Terminal Found Place)} r (λ z. read k (items allowed rest (so_far ++ z.0 ∷ [])) z.1)
-    pushed (Ok x) = refl
-    pushed (Err e) = refl
+      pushed : (r : Answer (Terminal Found Place) Reason I)
+          → and_then {A = List I × List (Terminal Found Place)} {B = List I × List (Terminal Found Place)} (and_then {A = I × List (Terminal Found Place)} r (λ z. Ok (so_far ++ z.0 ∷ [], z.1))) (λ u. read k (items allowed rest u.0) u.1)
+          ≡ and_then {A = I × List (Terminal Found Place)} r (λ z. read k (items allowed rest (so_far ++ z.0 ∷ [])) z.1)
+      pushed (Ok x) = refl
+      pushed (Err e) = refl
 
-    by : (r : Answer (Terminal Found Place) Reason (Unit {0}))
-        → and_then {B = List I × List (Terminal Found Place)} r (λ x. and_then {A = List I × List (Terminal Found Place)} {B = List I × List (Terminal Found Place)}
-            (and_then {A = I × List (Terminal Found Place)} (and_then (read k (keyword (allowed so_far)) x.1) (λ y. read k (rest y.0) y.1)) (λ z. Ok (so_far ++ z.0 ∷ [], z.1))) (λ u. read k (items allowed rest u.0) u.1))
-        ≡ and_then {A = I × List (Terminal Found Place)} (and_then (and_then r (λ x. read k (keyword (allowed so_far)) x.1)) (λ y. read k (rest y.0) y.1)) (λ z. read k (items allowed rest (so_far ++ z.0 ∷ [])) z.1)
-    by (Ok x) = pushed (and_then (read k (keyword (allowed so_far)) x.1) (λ y. read k (rest y.0) y.1))
-    by (Err e) = refl
+      by : (r : Answer (Terminal Found Place) Reason (Unit {0}))
+          → and_then {B = List I × List (Terminal Found Place)} r (λ x. and_then {A = List I × List (Terminal Found Place)} {B = List I × List (Terminal Found Place)}
+          (and_then {A = I × List (Terminal Found Place)} (and_then (read k (keyword (allowed so_far)) x.1) (λ y. read k (rest y.0) y.1)) (λ z. Ok (so_far ++ z.0 ∷ [], z.1))) (λ u. read k (items allowed rest u.0) u.1))
+          ≡ and_then {A = I × List (Terminal Found Place)} (and_then (and_then r (λ x. read k (keyword (allowed so_far)) x.1)) (λ y. read k (rest y.0) y.1)) (λ z. read k (items allowed rest (so_far ++ z.0 ∷ [])) z.1)
+      by (Ok x) = pushed (and_then (read k (keyword (allowed so_far)) x.1) (λ y. read k (rest y.0) y.1))
+      by (Err e) = refl
 
   pub items_more : IsToken opens true s → reading edif (items allowed rest so_far) k s ≡ reading edif (sequence (item (allowed so_far) rest) (λ i. items allowed rest (so_far ++ i ∷ []))) k s
   unfolding items

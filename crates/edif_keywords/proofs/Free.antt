@@ -23,9 +23,9 @@ length_remove : (m : ℕ) (cs : List ℕ) → holds cs m ≡ true → length cs 
 length_remove m [] h = absurd cc
 length_remove m (c ∷ cs) h = go (nat_eq c m) (length_remove m cs) h
   where
-  go : (b : Bool) → (holds cs m ≡ true → length cs ≡ length (remove m cs) + 1) → cond b true (holds cs m) ≡ true → length (c ∷ cs) ≡ length (cond b cs (c ∷ remove m cs)) + 1
-  go true later h = omega arith
-  go false later h = let e = later h in omega arith
+    go : (b : Bool) → (holds cs m ≡ true → length cs ≡ length (remove m cs) + 1) → cond b true (holds cs m) ≡ true → length (c ∷ cs) ≡ length (cond b cs (c ∷ remove m cs)) + 1
+    go true later h = omega arith
+    go false later h = let e = later h in omega arith
 
 apart : (c m n : ℕ) → nat_eq c m ≡ true → nat_eq c n ≡ true → nat_eq m n ≡ false → ⊥
 apart c m n p q d = grind (arith, nat_tests)
@@ -40,28 +40,28 @@ kept : (m n : ℕ) (cs : List ℕ) → nat_eq m n ≡ false → holds (remove m 
 kept m n [] d h = refl
 kept m n (c ∷ cs) d h = go (nat_eq c m) refl (nat_eq c n) refl (kept m n cs d) h
   where
-  go : (b : Bool) → nat_eq c m ≡ b → (e : Bool) → nat_eq c n ≡ e → (holds (remove m cs) n ≡ false → holds cs n ≡ false) → holds (cond b cs (c ∷ remove m cs)) n ≡ false → cond e true (holds cs n) ≡ false
-  go true p true q later h = absurd (apart c m n p q d)
-  go true p false q later h = h
-  go false p true q later h = let g : true ≡ false = ap (λ z. cond z true (holds (remove m cs) n)) (sym q) ∙ h in absurd cc
-  go false p false q later h = later (ap (λ z. cond z true (holds (remove m cs) n)) (sym q) ∙ h)
+    go : (b : Bool) → nat_eq c m ≡ b → (e : Bool) → nat_eq c n ≡ e → (holds (remove m cs) n ≡ false → holds cs n ≡ false) → holds (cond b cs (c ∷ remove m cs)) n ≡ false → cond e true (holds cs n) ≡ false
+    go true p true q later h = absurd (apart c m n p q d)
+    go true p false q later h = h
+    go false p true q later h = let g : true ≡ false = ap (λ z. cond z true (holds (remove m cs) n)) (sym q) ∙ h in absurd cc
+    go false p false q later h = later (ap (λ z. cond z true (holds (remove m cs) n)) (sym q) ∙ h)
 
 -- either a number below the bound is missing, or the list is as long as the bound
 missing_or_long : (bound : ℕ) (cs : List ℕ) → ((n : ℕ) × (n < bound) × (holds cs n ≡ false)) ⊎ (bound ≤ length cs)
 missing_or_long zero cs = inr (omega arith)
 missing_or_long (suc bound) cs = go (holds cs bound) refl (missing_or_long bound (remove bound cs))
   where
-  go : (b : Bool) → holds cs bound ≡ b → ((n : ℕ) × (n < bound) × (holds (remove bound cs) n ≡ false)) ⊎ (bound ≤ length (remove bound cs)) → ((n : ℕ) × (n < suc bound) × (holds cs n ≡ false)) ⊎ (suc bound ≤ length cs)
-  go false h later = inl (bound, omega arith, h)
-  go true h (inl p) = inl (p.0, omega (arith, p.1), kept bound p.0 cs (other bound p.0 p.1) p.2)
-  go true h (inr le) = let e = length_remove bound cs h in inr (omega arith)
+    go : (b : Bool) → holds cs bound ≡ b → ((n : ℕ) × (n < bound) × (holds (remove bound cs) n ≡ false)) ⊎ (bound ≤ length (remove bound cs)) → ((n : ℕ) × (n < suc bound) × (holds cs n ≡ false)) ⊎ (suc bound ≤ length cs)
+    go false h later = inl (bound, omega arith, h)
+    go true h (inl p) = inl (p.0, omega (arith, p.1), kept bound p.0 cs (other bound p.0 p.1) p.2)
+    go true h (inr le) = let e = length_remove bound cs h in inr (omega arith)
 
 missing : (cs : List ℕ) → (n : ℕ) × (n ≤ length cs) × (holds cs n ≡ false)
 missing cs = go (missing_or_long (length cs + 1) cs)
   where
-  go : ((n : ℕ) × (n < length cs + 1) × (holds cs n ≡ false)) ⊎ (length cs + 1 ≤ length cs) → (n : ℕ) × (n ≤ length cs) × (holds cs n ≡ false)
-  go (inl p) = (p.0, omega (arith, p.1), p.2)
-  go (inr le) = absurd (omega arith)
+    go : ((n : ℕ) × (n < length cs + 1) × (holds cs n ≡ false)) ⊎ (length cs + 1 ≤ length cs) → (n : ℕ) × (n ≤ length cs) × (holds cs n ≡ false)
+    go (inl p) = (p.0, omega (arith, p.1), p.2)
+    go (inr le) = absurd (omega arith)
 
 -- ---- numbers in letters
 
@@ -124,15 +124,15 @@ no_alias : (n : ℕ) (table : List Alias) → holds (map (λ a. number_in a.word
 no_alias n [] h = refl
 no_alias n (a ∷ table) h = go (same_bytes (map small (numbered n)) a.word) refl (nat_eq (number_in a.word) n) refl (no_alias n table) h
   where
-  go : (b : Bool) → same_bytes (map small (numbered n)) a.word ≡ b → (e : Bool) → nat_eq (number_in a.word) n ≡ e
-    → (holds (map (λ a. number_in a.word) table) n ≡ false → find (λ a. same_bytes (map small (numbered n)) a.word) table ≡ None)
-    → cond e true (holds (map (λ a. number_in a.word) table) n) ≡ false → cond b (Some a) (find (λ a. same_bytes (map small (numbered n)) a.word) table) ≡ None
-  go b p true q later h = absurd cc
-  go true p false q later h =
-      let is : number_in a.word ≡ n = ap number_in (sym ((bytes_eq-Decides (map small (numbered n)) a.word).0 p)) ∙ number_in-numbered n in
-      let g : true ≡ false = sym (equal (number_in a.word) n is) ∙ q in
-      absurd cc
-  go false p false q later h = later h
+    go : (b : Bool) → same_bytes (map small (numbered n)) a.word ≡ b → (e : Bool) → nat_eq (number_in a.word) n ≡ e
+        → (holds (map (λ a. number_in a.word) table) n ≡ false → find (λ a. same_bytes (map small (numbered n)) a.word) table ≡ None)
+        → cond e true (holds (map (λ a. number_in a.word) table) n) ≡ false → cond b (Some a) (find (λ a. same_bytes (map small (numbered n)) a.word) table) ≡ None
+    go b p true q later h = absurd cc
+    go true p false q later h =
+        let is : number_in a.word ≡ n = ap number_in (sym ((bytes_eq-Decides (map small (numbered n)) a.word).0 p)) ∙ number_in-numbered n in
+        let g : true ≡ false = sym (equal (number_in a.word) n is) ∙ q in
+        absurd cc
+    go false p false q later h = later h
 
 pub no_keyword : (n : ℕ) → keyword_of (numbered n) ≡ None
 unfolding keyword_of

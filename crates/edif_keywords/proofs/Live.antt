@@ -121,7 +121,7 @@ module _ {I : Type 0} (allowed : List I → List Keyword) (rest : Keyword → Ed
   unfolding items forms
   closed_items r table =
       shut_while table (λ _ _ x. say.at_opening x.token) (λ s _. sequence (sequence (keyword (allowed s)) rest) (λ i. gives (s ++ i ∷ []))) (λ _ _ x. say.closing_of x.token) (λ s _. gives s) so_far
-        (λ s _. shut_then (shut_then (closed_keyword (allowed s) table) (λ q. r q table)) (λ i. shut_gives table (s ++ i ∷ []))) (λ s _. shut_gives table s) (λ s x b h. closing_leaves x.token b h)
+      (λ s _. shut_then (shut_then (closed_keyword (allowed s) table) (λ q. r q table)) (λ i. shut_gives table (s ++ i ∷ []))) (λ s _. shut_gives table s) (λ s x b h. closing_leaves x.token b h)
 
 pub live_strings : (so_far : List (List ℕ)) → Lives (strings so_far)
 unfolding strings
@@ -131,7 +131,7 @@ pub closed_strings : (so_far : List (List ℕ)) → Closes (strings so_far)
 unfolding strings
 closed_strings so_far table =
     shut_while table (λ _ _ x. say.at_string x.token) (λ s t. gives (s ++ t ∷ [])) (λ _ _ x. say.closing_of x.token) (λ s _. gives s) so_far
-      (λ s t. shut_gives table (s ++ t ∷ [])) (λ s _. shut_gives table s) (λ s x b h. closing_no_string x.token b h)
+    (λ s t. shut_gives table (s ++ t ∷ [])) (λ s _. shut_gives table s) (λ s x b h. closing_no_string x.token b h)
 
 pub live_comment : Lives comment
 live_comment = live_strings []
@@ -153,7 +153,7 @@ closed_version : Closes version
 unfolding version
 closed_version table =
     shut_then (closed_begin (k.EdifVersion ∷ []) table) (λ _. shut_then (shut_one table (λ _ x. say.version_of (pos 2) x.token))
-      (λ _. shut_then (shut_one table (λ _ x. say.version_of (pos 0) x.token)) (λ _. shut_then (shut_one table (λ _ x. say.version_of (pos 0) x.token)) (λ _. closed_closing table))))
+    (λ _. shut_then (shut_one table (λ _ x. say.version_of (pos 0) x.token)) (λ _. shut_then (shut_one table (λ _ x. say.version_of (pos 0) x.token)) (λ _. closed_closing table))))
 
 live_level : Lives level
 unfolding level has
@@ -219,7 +219,7 @@ closed_map_items : (b : Bool) (t : List Alias) → Closes (map_items b t)
 unfolding map_items forms
 closed_map_items b t table =
     shut_while table (λ _ _ x. say.at_opening x.token) (λ s _. map_item b s) (λ _ _ x. say.closing_of x.token) (λ s _. gives s) t
-      (λ s _. closed_map_item b s table) (λ s _. shut_gives table s) (λ s x b h. closing_leaves x.token b h)
+    (λ s _. closed_map_item b s table) (λ s _. shut_gives table s) (λ s x b h. closing_leaves x.token b h)
 
 live_keyword_map : (t : List Alias) → Lives (keyword_map t)
 unfolding keyword_map has

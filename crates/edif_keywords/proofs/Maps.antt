@@ -34,27 +34,27 @@ closing_under k t s = refl
 
 module _ (with_aliases : Bool) (t k : List Alias) (s : Option (Ahead Found)) where
   apart : (ts : List (Terminal Found Place))
-    → read k (sequence opening (λ _. sequence (map_item with_aliases t) (λ u. map_items with_aliases u))) ts
-    ≡ and_then (read t (sequence opening (λ _. map_item with_aliases t)) ts) (λ x. read k (map_items with_aliases x.0) x.1)
+      → read k (sequence opening (λ _. sequence (map_item with_aliases t) (λ u. map_items with_aliases u))) ts
+      ≡ and_then (read t (sequence opening (λ _. map_item with_aliases t)) ts) (λ x. read k (map_items with_aliases x.0) x.1)
   unfolding map_item one
   apart ts = by (read k opening ts)
     where
-    by : (r : Answer (Terminal Found Place) Reason (Unit {0}))
-      → and_then r (λ x. and_then (read k (map_item with_aliases t) x.1) (λ u. read k (map_items with_aliases u.0) u.1))
-      ≡ and_then (and_then r (λ x. read t (map_item with_aliases t) x.1)) (λ u. read k (map_items with_aliases u.0) u.1)
-    by (Ok x) = refl
-    by (Err e) = refl
+      by : (r : Answer (Terminal Found Place) Reason (Unit {0}))
+          → and_then r (λ x. and_then (read k (map_item with_aliases t) x.1) (λ u. read k (map_items with_aliases u.0) u.1))
+          ≡ and_then (and_then r (λ x. read t (map_item with_aliases t) x.1)) (λ u. read k (map_items with_aliases u.0) u.1)
+      by (Ok x) = refl
+      by (Err e) = refl
 
   pieces : (s : Option (Ahead Found)) → reading edif (sequence opening (λ _. sequence (map_item with_aliases t) (λ u. map_items with_aliases u))) k s
-    ≡ on edif (map_items with_aliases) k (reading edif (sequence opening (λ _. map_item with_aliases t)) t s)
+      ≡ on edif (map_items with_aliases) k (reading edif (sequence opening (λ _. map_item with_aliases t)) t s)
   unfolding reading on
   pieces None = refl
   pieces (Some s) = ap (λ r. Some (result_of edif s.finish r)) (apart s.tokens) ∙ by (read t (sequence opening (λ _. map_item with_aliases t)) s.tokens)
     where
-    by : (r : Answer (Terminal Found Place) Reason (List Alias))
-      → Some (result_of edif s.finish (and_then r (λ u. read k (map_items with_aliases u.0) u.1))) ≡ on_result edif (map_items with_aliases) k (result_of edif s.finish r)
-    by (Ok x) = refl
-    by (Err e) = refl
+      by : (r : Answer (Terminal Found Place) Reason (List Alias))
+          → Some (result_of edif s.finish (and_then r (λ u. read k (map_items with_aliases u.0) u.1))) ≡ on_result edif (map_items with_aliases) k (result_of edif s.finish r)
+      by (Ok x) = refl
+      by (Err e) = refl
 
   opened : IsToken opens true s → reading edif (map_items with_aliases t) k s ≡ reading edif (sequence opening (λ _. sequence (map_item with_aliases t) (λ u. map_items with_aliases u))) k s
   unfolding map_items
@@ -97,9 +97,9 @@ module _ (with_aliases : Bool) (now start mid new : Reader (List Alias) Found) (
       let seen = subst (λ d. IsToken opens d (stream edif mid m)) is looks.value.0 in
       let refused = map_item_fault with_aliases mid.context start.context (stream edif mid m) e seen fails.error in
       subst (IsCause e)
-        (ap (λ s. reading edif (map_items with_aliases mid.context) start.context s) looks.value.1.0
-        ∙ ap (λ t. reading edif (map_items with_aliases t) start.context (stream edif now j)) looks.value.1.1 ∙ goes.same)
-        refused
+      (ap (λ s. reading edif (map_items with_aliases mid.context) start.context s) looks.value.1.0
+      ∙ ap (λ t. reading edif (map_items with_aliases t) start.context (stream edif now j)) looks.value.1.1 ∙ goes.same)
+      refused
 
   exit : ReadsContext edif (map_items with_aliases start.context) (Err e) start new i n
   exit = record {

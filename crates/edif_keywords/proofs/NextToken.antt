@@ -14,9 +14,9 @@ use Rattle.edif_keywords.specs.Language.{edif, ahead_of}
 ahead_known : (w : Window) (i : Supply) → tokens_ahead edif w i ≡ option_map ahead_of (streams.stream_ahead stream_from w i.left)
 ahead_known w i = go (input w i.left)
   where
-  go : (bs : Option (List ℕ)) → option_map (λ bs. ahead_of (stream_from w.place bs)) bs ≡ option_map ahead_of (option_map (λ bs. stream_from w.place bs) bs)
-  go None = refl
-  go (Some bs) = refl
+    go : (bs : Option (List ℕ)) → option_map (λ bs. ahead_of (stream_from w.place bs)) bs ≡ option_map ahead_of (option_map (λ bs. stream_from w.place bs) bs)
+    go None = refl
+    go (Some bs) = refl
 
 tells : (s : streams.Stream Found) (r : Result (Option Found) ReadError) (w : Window) (t : streams.Stream Found) → streams.Tells s r w t → TellsKnown (Some (ahead_of s)) r w (Some (ahead_of t))
 tells s (Ok (Some x)) w t h = ap ahead_of h
@@ -28,7 +28,7 @@ tells s (Err errors.NoMemory) w t h = tt
 tells s (Err errors.Spent) w t h = absurd h
 
 tells_known : (s : Option (streams.Stream Found)) (r : Result (Option Found) ReadError) (w : Window) (t : Option (streams.Stream Found)) → streams.TellsKnown s r w t
-  → TellsKnown (option_map ahead_of s) r w (option_map ahead_of t)
+    → TellsKnown (option_map ahead_of s) r w (option_map ahead_of t)
 tells_known None r w t h = ap (option_map ahead_of) h
 tells_known (Some s) r w None h = absurd h
 tells_known (Some s) r w (Some t) h = tells s r w t h
@@ -58,12 +58,12 @@ ends_input (Ok None) left faults h = h
 ends_input (Err e) left faults h = tt
 
 pub reads_token : (r : Result (Option Found) ReadError) (old new : streams.State) (left left' : Option (List ℕ)) (faults faults' : ℕ) → streams.Reads stream_from stop_of r old new left left' faults faults'
-  → ReadsToken edif r old.window old.spent new.window new.spent (record { left = left; faults = faults }) (record { left = left'; faults = faults' })
+    → ReadsToken edif r old.window old.spent new.window new.spent (record { left = left; faults = faults }) (record { left = left'; faults = faults' })
 unfolding skip
 reads_token r old new left left' faults faults' h = record {
   moves = record { place = h.moves.place; taken = h.moves.taken; left = h.moves.suffix; faults = h.moves.count };
   told = λ fresh. rw (ahead_known old.window (record { left = left; faults = faults }), ahead_known new.window (record { left = left'; faults = faults' }))
-    (tells_known (streams.stream_ahead stream_from old.window left) r new.window (streams.stream_ahead stream_from new.window left') (h.told fresh));
+      (tells_known (streams.stream_ahead stream_from old.window left) r new.window (streams.stream_ahead stream_from new.window left') (h.told fresh));
   unspent = h.unspent;
   spent = h.spent;
   spends = h.spends;

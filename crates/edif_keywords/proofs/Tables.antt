@@ -63,11 +63,11 @@ none_of (Some y) e = absurd cc
 
 -- a new alias stands after the others
 pub new_alias : {S : Type 0} (old new : IndexMap (Vec ℕ Global) Keyword S) (table : List Alias) (alias : List ℕ) (key : Vec ℕ Global) (keyword : Keyword)
-  → aliases_in old.entries ≡ table → means table alias ≡ None → key.items ≡ map small alias
-  → new.entries ≡ insert_entry (λ x y. bytes_eq x.items y.items) old.entries key keyword → aliases_in new.entries ≡ one_more table alias keyword
+    → aliases_in old.entries ≡ table → means table alias ≡ None → key.items ≡ map small alias
+    → new.entries ≡ insert_entry (λ x y. bytes_eq x.items y.items) old.entries key keyword → aliases_in new.entries ≡ one_more table alias keyword
 new_alias old new table alias key keyword same none is_key is_new =
     let unlisted : get (λ x y. bytes_eq x.items y.items) old key ≡ None =
-      ap (λ l. lookup (λ y. bytes_eq l y.items) old.entries) is_key ∙ sym (alias_of-lookup alias old.entries) ∙ ap (λ t. alias_of t alias) same ∙ means_none table alias none in
+    ap (λ l. lookup (λ y. bytes_eq l y.items) old.entries) is_key ∙ sym (alias_of-lookup alias old.entries) ∙ ap (λ t. alias_of t alias) same ∙ means_none table alias none in
     let entries = is_new ∙ insert_entry-new (λ x y. bytes_eq x.items y.items) old key keyword unlisted in
     ap aliases_in entries ∙ map-append (λ e. record { word = e.0.items; keyword = e.1 }) old.entries ((key, keyword) ∷ [])
     ∙ ap (λ t. t ++ (record { word = key.items; keyword = keyword }) ∷ []) same ∙ ap (λ l. table ++ (record { word = l; keyword = keyword }) ∷ []) is_key

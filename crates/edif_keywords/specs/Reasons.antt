@@ -1,7 +1,8 @@
 -- What a token says at its place, or the reason for which it may not stand there: one definition for each kind of place.
 -- The order is that of the reasons, of which the first that fits is given: the end of the input and the faults within a token come
 -- before all of these.
-use Rattle.std.specs.Prelude.{ℕ, zero, suc, Bool, true, false, List, Option, Some, None, option_map, Result, Ok, Err, ℤ, pos, codes, if◌then◌else◌}
+use Rattle.std.specs.Prelude.{ℕ, zero, suc, Bool, true, false, List, Option, Some, None, option_map, Result, Ok, Err, ℤ, pos, codes, map, if◌then◌else◌}
+use Rattle.std.specs.Borrow.{Bor}
 use Rattle.std.specs.Ordering.{int_eq}
 use Rattle.std.specs.List.{find}
 use Rattle.grammar.specs.Part.{Glance, takes, refuses, leaves}
@@ -104,8 +105,12 @@ closing_of RightParen = Ok tt
 closing_of t = Err reasons.Unexpected
 
 -- one of some words, up to case, each for a value; none of them is a keyword
-abbrev pub meant_by : {A : Type 0} → List (List ℕ × A) → List ℕ → Option A
+unfoldable pub meant_by : {A : Type 0} → List (List ℕ × A) → List ℕ → Option A
 meant_by words w = option_map (λ row. row.1) (find (λ row. same_up_to_case w row.0) words)
+
+-- words and values as the program has them
+abbrev pub rows : {A : Type 0} → List (Bor (List ℕ) × A) → List (List ℕ × A)
+rows = map (λ row. (row.0.now, row.1))
 
 abbrev pub choice_by : {A : Type 0} → Option A → Result A Reason
 choice_by None = Err reasons.Unexpected

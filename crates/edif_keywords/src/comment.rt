@@ -10,7 +10,11 @@ use std::alloc::Global;
 
 /// Reads on after the keyword `comment`: the strings up to the end of the form.
 #[tactic(auto, using(crate::proofs::Forms::string_loops))]
-pub fn read_comment<S: Source>(alloc: Global, cursor: &mut Cursor, source: &mut S) -> Result<Seq<Text>, ReadError>
+pub fn read_comment<S: Source>(
+    alloc: Global,
+    cursor: &mut Cursor,
+    source: &mut S,
+) -> Result<Seq<Text>, ReadError>
     ensures { Reads edif same comment result cursor.old cursor.new (supply S.left S.faults source.old) (supply S.left S.faults source.new) }
 {
     let mut texts = Seq::empty(alloc);

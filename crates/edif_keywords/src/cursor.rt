@@ -54,7 +54,11 @@ impl Cursor {
     }
 
     /// Takes the next token.
-    pub(crate) fn take<S: Source>(&mut self, alloc: Global, source: &mut S) -> Result<Found, ReadError>
+    pub(crate) fn take<S: Source>(
+        &mut self,
+        alloc: Global,
+        source: &mut S,
+    ) -> Result<Found, ReadError>
         ensures reads { Reads edif same any result self.old self.new (supply S.left S.faults source.old) (supply S.left S.faults source.new) }
         ensures near { IfOk result (λ x. IsNear self.new.window x.stop) }
     {
@@ -85,11 +89,20 @@ impl Cursor {
     {
         self.spent = true;
         self.ahead = None;
-        ReadError::Text(TextFault { place, stop, reason })
+        ReadError::Text(TextFault {
+            place,
+            stop,
+            reason,
+        })
     }
 
     /// Answers what a token of this place and stop says that was just taken, or refuses it.
-    pub(crate) fn judged<T: Drop>(&mut self, place: Place, stop: u64, said: Result<T, Reason>) -> Result<T, ReadError>
+    pub(crate) fn judged<T: Drop>(
+        &mut self,
+        place: Place,
+        stop: u64,
+        said: Result<T, Reason>,
+    ) -> Result<T, ReadError>
         ensures answer { result ≡ answer place stop said }
         ensures left { self.new ≡ left_after said self.old }
     {
@@ -165,7 +178,11 @@ impl Cursor {
 
     /// Takes the end of the input.
     #[tactic(auto, using(crate::proofs::Looks::ends))]
-    pub fn end_of_input<S: Source>(&mut self, alloc: Global, source: &mut S) -> Result<(), ReadError>
+    pub fn end_of_input<S: Source>(
+        &mut self,
+        alloc: Global,
+        source: &mut S,
+    ) -> Result<(), ReadError>
         ensures { Ends edif trailing result self.old self.new (supply S.left S.faults source.old) (supply S.left S.faults source.new) }
     {
         if self.look(alloc, source)? {
@@ -186,7 +203,7 @@ impl Cursor {
     }
 
     /// Spends the cursor where memory has run out.
-    pub(crate) fn no_memory(&mut self) -> ReadError
+    pub fn no_memory(&mut self) -> ReadError
         ensures error { result ≡ ReadError.NoMemory }
         ensures spoilt { self.new ≡ spoilt self.old }
     {

@@ -9,8 +9,10 @@ ghost use Rattle.edif_keywords.specs.Grammar.{opening, version_number, version, 
 
 use crate::comment::read_comment;
 use crate::cursor::Cursor;
-use crate::keyword::{same_keyword, Keyword};
-use crate::reasons::{keyword_level_of, known_word_of, level_of, map_keyword_of, new_word_of, version_of};
+use crate::keyword::{Keyword, same_keyword};
+use crate::reasons::{
+    keyword_level_of, known_word_of, level_of, map_keyword_of, new_word_of, version_of,
+};
 use edif_tokens::Found;
 use nl_base::{Ident, ReadError};
 use nl_io::Source;
@@ -38,7 +40,12 @@ impl Cursor {
         self.finish_form(alloc, source)
     }
 
-    fn version_number<S: Source>(&mut self, alloc: Global, due: u8, source: &mut S) -> Result<(), ReadError>
+    fn version_number<S: Source>(
+        &mut self,
+        alloc: Global,
+        due: u8,
+        source: &mut S,
+    ) -> Result<(), ReadError>
         ensures { Reads edif same (version_number (pos due)) result self.old self.new (supply S.left S.faults source.old) (supply S.left S.faults source.new) }
     {
         let Found { place, stop, token } = self.take(alloc, source)?;
@@ -72,7 +79,11 @@ impl Cursor {
         Ok(with_aliases)
     }
 
-    fn keyword_level_number<S: Source>(&mut self, alloc: Global, source: &mut S) -> Result<bool, ReadError>
+    fn keyword_level_number<S: Source>(
+        &mut self,
+        alloc: Global,
+        source: &mut S,
+    ) -> Result<bool, ReadError>
         ensures { Reads edif same keyword_level_number result self.old self.new (supply S.left S.faults source.old) (supply S.left S.faults source.new) }
     {
         let Found { place, stop, token } = self.take(alloc, source)?;
@@ -89,7 +100,12 @@ impl Cursor {
     }
 
     #[tactic(auto, using(crate::proofs::Maps::map_loops))]
-    fn map_items<S: Source>(&mut self, alloc: Global, with_aliases: bool, source: &mut S) -> Result<(), ReadError>
+    fn map_items<S: Source>(
+        &mut self,
+        alloc: Global,
+        with_aliases: bool,
+        source: &mut S,
+    ) -> Result<(), ReadError>
         ensures { ReadsContext edif (map_items with_aliases self.old.context) result self.old self.new (supply S.left S.faults source.old) (supply S.left S.faults source.new) }
     {
         while self.at_form(alloc, source)? {
@@ -100,7 +116,12 @@ impl Cursor {
 
     /// An alias or a comment, from its `(` on.
     #[tactic(auto, using(readers::proofs::Reading::sequences), unfolding(crate::specs::Grammar::map_item))]
-    fn map_item<S: Source>(&mut self, alloc: Global, with_aliases: bool, source: &mut S) -> Result<(), ReadError>
+    fn map_item<S: Source>(
+        &mut self,
+        alloc: Global,
+        with_aliases: bool,
+        source: &mut S,
+    ) -> Result<(), ReadError>
         ensures { ReadsContext edif (sequence opening (λ _. map_item with_aliases self.old.context)) result self.old self.new (supply S.left S.faults source.old) (supply S.left S.faults source.new) }
     {
         self.begin_list(alloc, source)?;
@@ -108,7 +129,12 @@ impl Cursor {
         self.map_form(alloc, same_keyword(keyword, Keyword::KeywordAlias), source)
     }
 
-    fn map_keyword<S: Source>(&mut self, alloc: Global, with_aliases: bool, source: &mut S) -> Result<Keyword, ReadError>
+    fn map_keyword<S: Source>(
+        &mut self,
+        alloc: Global,
+        with_aliases: bool,
+        source: &mut S,
+    ) -> Result<Keyword, ReadError>
         ensures { Reads edif same (map_keyword with_aliases) result self.old self.new (supply S.left S.faults source.old) (supply S.left S.faults source.new) }
     {
         let Found { place, stop, token } = self.take(alloc, source)?;
@@ -117,7 +143,12 @@ impl Cursor {
     }
 
     #[tactic(auto, using(readers::proofs::Reading::sequences))]
-    fn map_form<S: Source>(&mut self, alloc: Global, is_alias: bool, source: &mut S) -> Result<(), ReadError>
+    fn map_form<S: Source>(
+        &mut self,
+        alloc: Global,
+        is_alias: bool,
+        source: &mut S,
+    ) -> Result<(), ReadError>
         ensures { ReadsContext edif (map_form self.old.context is_alias) result self.old self.new (supply S.left S.faults source.old) (supply S.left S.faults source.new) }
     {
         if is_alias {

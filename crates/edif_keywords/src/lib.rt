@@ -18,4 +18,7 @@ pub use aliases::{AliasFault, Aliases};
 pub use comment::read_comment;
 pub use cursor::Cursor;
 pub use find::find_keyword;
-pub use keyword::{is_among, spelling, Keyword};
+pub use keyword::{Keyword, is_among, spelling};
+
+#[cfg(test)]
+mod tests;

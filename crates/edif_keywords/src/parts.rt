@@ -3,11 +3,14 @@ ghost use Rattle.std.specs.Prelude.{◌≡◌};
 ghost use Rattle.readers.specs.Sources.{supply};
 ghost use Rattle.readers.specs.Readers.{same, Reads};
 ghost use Rattle.edif_keywords.specs.Language.{edif};
-ghost use Rattle.edif_keywords.specs.Grammar.{word, string, integer, opening, closing, view_type, keyword, begin};
+ghost use Rattle.edif_keywords.specs.Grammar.{word, string, integer, opening, closing, choice, view_type, keyword, begin};
+ghost use Rattle.edif_keywords.specs.Reasons.{rows};
 
 use crate::cursor::Cursor;
 use crate::keyword::Keyword;
-use crate::reasons::{closing_of, integer_of, keyword_of, opening_of, string_of, view_type_of, word_of};
+use crate::reasons::{
+    choice_of, closing_of, integer_of, keyword_of, opening_of, string_of, view_type_of, word_of,
+};
 use edif_tokens::Found;
 use nl_base::{Ident, Int, ReadError, Text};
 use nl_io::Source;
@@ -62,9 +65,27 @@ impl Cursor {
         self.judged(place, stop, view_type_of(token))
     }
 
+    /// Takes one of some words, up to case, and answers its value. The words are no keywords and take no alias.
+    pub fn choose<T: Copy, S: Source>(
+        &mut self,
+        alloc: Global,
+        words: &[(&[u8], T)],
+        source: &mut S,
+    ) -> Result<T, ReadError>
+        ensures { Reads edif same (choice (rows words.now)) result self.old self.new (supply S.left S.faults source.old) (supply S.left S.faults source.new) }
+    {
+        let Found { place, stop, token } = self.take(alloc, source)?;
+        self.judged(place, stop, choice_of(words, token))
+    }
+
     /// Takes `(` and one of the allowed keywords, by the aliases.
     #[tactic(auto, using(readers::proofs::Reading::sequences), unfolding(crate::specs::Grammar::begin))]
-    pub fn begin<S: Source>(&mut self, alloc: Global, allowed: &[Keyword], source: &mut S) -> Result<Keyword, ReadError>
+    pub fn begin<S: Source>(
+        &mut self,
+        alloc: Global,
+        allowed: &[Keyword],
+        source: &mut S,
+    ) -> Result<Keyword, ReadError>
         ensures { Reads edif same (begin allowed.now) result self.old self.new (supply S.left S.faults source.old) (supply S.left S.faults source.new) }
     {
         self.begin_list(alloc, source)?;
@@ -72,7 +93,12 @@ impl Cursor {
     }
 
     /// Takes one of the allowed keywords, by the aliases.
-    fn keyword<S: Source>(&mut self, alloc: Global, allowed: &[Keyword], source: &mut S) -> Result<Keyword, ReadError>
+    fn keyword<S: Source>(
+        &mut self,
+        alloc: Global,
+        allowed: &[Keyword],
+        source: &mut S,
+    ) -> Result<Keyword, ReadError>
         ensures { Reads edif same (keyword allowed.now) result self.old self.new (supply S.left S.faults source.old) (supply S.left S.faults source.new) }
     {
         let Found { place, stop, token } = self.take(alloc, source)?;

@@ -3,9 +3,9 @@ ghost use Rattle.std.specs.Prelude.{◌≡◌, pos};
 ghost use Rattle.edif_keywords.specs.Reasons as say;
 
 use crate::aliases::Aliases;
-use crate::keyword::{is_among, same_keyword, Keyword};
+use crate::keyword::{Keyword, is_among, same_keyword};
 use edif_tokens::Token;
-use nl_base::{fold_eq, Ident, Int, Reason, Text};
+use nl_base::{Ident, Int, Reason, Text, fold_eq};
 
 /// In `edifVersion`, the number that is due.
 pub(crate) fn version_of(due: u8, token: Token) -> Result<(), Reason>
@@ -89,7 +89,11 @@ pub(crate) fn known_word_of(aliases: &Aliases, token: Token) -> Result<Keyword, 
 }
 
 /// After `(`, one of the allowed keywords.
-pub(crate) fn keyword_of(allowed: &[Keyword], aliases: &Aliases, token: Token) -> Result<Keyword, Reason>
+pub(crate) fn keyword_of(
+    allowed: &[Keyword],
+    aliases: &Aliases,
+    token: Token,
+) -> Result<Keyword, Reason>
     ensures { result ≡ say.keyword_of allowed.now aliases.now token }
 {
     let Token::Word(word) = token else {
@@ -105,22 +109,28 @@ pub(crate) fn keyword_of(allowed: &[Keyword], aliases: &Aliases, token: Token) -
 }
 
 /// The same in a `keywordMap`, where an alias is refused by its level.
-pub(crate) fn map_keyword_of(allowed: &[Keyword], aliases: &Aliases, token: Token) -> Result<Keyword, Reason>
+pub(crate) fn map_keyword_of(
+    allowed: &[Keyword],
+    aliases: &Aliases,
+    token: Token,
+) -> Result<Keyword, Reason>
     ensures { result ≡ say.map_keyword_of allowed.now aliases.now token }
 {
     let Token::Word(word) = token else {
         return Err(Reason::Unexpected);
     };
-    let Some(keyword) = aliases.look(word.bytes()) else {
-        return Err(Reason::UnknownWord(word.into_text()));
+    let Some(meant) = aliases.look(word.bytes()) else {
+        let text = word.into_text();
+        return Err(Reason::UnknownWord(text));
     };
-    if is_among(allowed, keyword) {
-        return Ok(keyword);
+    if is_among(allowed, meant) {
+        return Ok(meant);
     }
-    if same_keyword(keyword, Keyword::KeywordAlias) {
+    if same_keyword(meant, Keyword::KeywordAlias) {
         return Err(Reason::KeywordLevel);
     }
-    Err(Reason::NotInProfile(word.into_text()))
+    let text = word.into_text();
+    Err(Reason::NotInProfile(text))
 }
 
 /// A word.
@@ -171,4 +181,30 @@ pub(crate) fn closing_of(token: Token) -> Result<(), Reason>
         return Err(Reason::Unexpected);
     };
     Ok(())
+}
+
+/// One of some words, up to case, for its value.
+pub(crate) fn choice_of<T: Copy>(words: &[(&[u8], T)], token: Token) -> Result<T, Reason>
+    ensures { result ≡ say.choice_of (say.rows words.now) token }
+{
+    let Token::Word(word) = token else {
+        return Err(Reason::Unexpected);
+    };
+    match meant_by(words, word.bytes()) {
+        Some(value) => Ok(value),
+        None => Err(Reason::Unexpected),
+    }
+}
+
+/// The value of the first of some words that is this one up to case.
+#[tactic(auto, unfolding(crate::specs::Reasons::meant_by))]
+fn meant_by<T: Copy>(words: &[(&[u8], T)], word: &[u8]) -> Option<T>
+    ensures { result ≡ say.meant_by (say.rows words.now) word.now }
+{
+    for (spelling, value) in words {
+        if fold_eq(word, spelling) {
+            return Some(*value);
+        }
+    }
+    None
 }

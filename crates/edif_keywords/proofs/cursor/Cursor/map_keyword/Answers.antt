@@ -11,4 +11,4 @@ pub returns : goal.returns
 returns g c =
     let table = ap (λ r. r.context) c.self.view_is ∙ c.in_ok-place.ensures.reads.value.1 in
     one_says (λ table x. map_keyword_of (map_keywords c.args.with_aliases) table x.token) _ _ _ _ _ c.in_ok-place.ensures.reads c.in_ok-place.ensures.near _ _ _
-      (c.map_keyword_of-said.ensures ∙ ap (λ l. map_keyword_of l c.self.inside.aliases c.in_ok-place.field-0.token) c.map_keywords.ensures ∙ ap (λ t. map_keyword_of (map_keywords c.args.with_aliases) t c.in_ok-place.field-0.token) table) c.judged.ensures.answer c.judged.ensures.left
+    (c.map_keyword_of-said.ensures ∙ ap (λ l. map_keyword_of l c.self.inside.aliases c.in_ok-place.field-0.token) c.map_keywords.ensures ∙ ap (λ t. map_keyword_of (map_keywords c.args.with_aliases) t c.in_ok-place.field-0.token) table) c.judged.ensures.answer c.judged.ensures.left

@@ -10,4 +10,4 @@ pub returns-clause-reads : goal.returns-clause-reads
 returns-clause-reads g c =
     let table = ap (λ r. r.context) c.self.view_is ∙ c.in_ok-place.ensures.reads.value.1 in
     one_says (λ table x. new_word_of table x.token) _ _ _ _ _ c.in_ok-place.ensures.reads c.in_ok-place.ensures.near _ _ _
-      (c.new_word_of-said.ensures ∙ ap (λ t. new_word_of t c.in_ok-place.field-0.token) table) c.judged.ensures.answer c.judged.ensures.left
+    (c.new_word_of-said.ensures ∙ ap (λ t. new_word_of t c.in_ok-place.field-0.token) table) c.judged.ensures.answer c.judged.ensures.left

@@ -21,10 +21,10 @@ pub returns-in_default-next-clause-reads : goal.returns-in_default-next-clause-r
 returns-in_default-next-clause-reads g c =
     let none = sym c.take.ensures.value ∙ none_of _ (λ x e. search (rules, c.in_default)) in
     takes_end edif _ _ _ _ _ c.self.inside.ahead _ _ _ _ _ c.self.view_is c.if-self.false none (not_spent _ _ c.self.invariant.0 c.if-self.false) c.take.ensures.after _
-      (reads_token _ _ _ _ _ _ _ (rw c.in_default-next.is at c.in_ok-next.ensures)) c.here-end.ensures.place
+    (reads_token _ _ _ _ _ _ _ (rw c.in_default-next.is at c.in_ok-next.ensures)) c.here-end.ensures.place
 
 pub returns-clause-reads : goal.returns-clause-reads
 returns-clause-reads g c =
     let none = sym c.take.ensures.value ∙ none_of _ (λ x e. search (rules, c.in_default)) in
     takes_next edif _ _ _ _ _ c.self.inside.ahead _ _ _ _ _ c.self.view_is c.if-self.false none (not_spent _ _ c.self.invariant.0 c.if-self.false) c.take.ensures.after _
-      (reads_token _ _ _ _ _ _ _ (rw c.in-Some-next.is at c.in_ok-next.ensures))
+    (reads_token _ _ _ _ _ _ _ (rw c.in-Some-next.is at c.in_ok-next.ensures))
