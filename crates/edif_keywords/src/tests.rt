@@ -101,78 +101,123 @@ fn long_words_may_be_aliases(rt: HostRuntime) -> Result<(), Fail> {
 }
 
 #[test]
-fn parts_are_taken(rt: HostRuntime) -> Result<(), Fail> {
+fn tokens_are_taken(rt: HostRuntime) -> Result<(), Fail> {
+    let alloc = rt.alloc();
+    let mut source = source_of(alloc, b"(port -7 \"a\")")?;
+    let Ok(tokens) = Tokens::new(alloc) else {
+        panic!(rt; "no memory");
+    };
+    let mut cursor = Cursor::new(alloc, tokens);
+    let begun = cursor.begin_list(alloc, &mut source);
+    let word = cursor.word(alloc, &mut source);
+    let number = cursor.int(alloc, &mut source);
+    let text = cursor.string(alloc, &mut source);
+    let finished = cursor.finish_form(alloc, &mut source);
+    let ended = cursor.end_of_input(alloc, &mut source);
+    let (Ok(()), Ok(word), Ok(number), Ok(text), Ok(()), Ok(())) = (
+        begun, word, number, text, finished, ended,
+    ) else {
+        panic!(rt; "refused");
+    };
+    assert_eq!(rt; word.bytes(), b"port".as_slice());
+    assert_eq!(rt; number.value(), -7);
+    assert_eq!(rt; text.bytes(), b"a".as_slice());
+    Ok(())
+}
+
+#[test]
+fn aliases_work_in_the_map_and_behind_it(rt: HostRuntime) -> Result<(), Fail> {
     let alloc = rt.alloc();
     let mut source = source_of(
         alloc,
-        b"(edifversion 2 0 0)(EDIFLEVEL -0)(keywordMap(keywordLevel 1)(keywordAlias ka keywordAlias)(comment)(KA c Comment)(C \"x\"))(c \"a\" \"b\")(port -7 (output netlist)",
+        b"(edifversion 2 0 0)(EDIFLEVEL -0)(keywordMap(keywordLevel 1)(keywordAlias ka keywordAlias)(comment)(KA c Comment)(C \"x\"))(c \"a\" \"b\")",
     )?;
     let Ok(tokens) = Tokens::new(alloc) else {
         panic!(rt; "no memory");
     };
     let mut cursor = Cursor::new(alloc, tokens);
-    assert!(rt; cursor.header(alloc, &mut source).is_ok());
-    assert!(rt; matches!(cursor.at_form(alloc, &mut source), Ok(true)));
+    let headed = cursor.header(alloc, &mut source);
+    let begun = cursor.begin(alloc, &[Keyword::UserData, Keyword::Comment], &mut source);
+    let texts = read_comment(alloc, &mut cursor, &mut source);
+    let (Ok(()), Ok(keyword), Ok(texts)) = (headed, begun, texts) else {
+        panic!(rt; "refused");
+    };
+    assert!(rt; keyword == Keyword::Comment);
+    let [first, second] = texts.items() else {
+        panic!(rt; "not two strings");
+    };
+    assert_eq!(rt; first.bytes(), b"a".as_slice());
+    assert_eq!(rt; second.bytes(), b"b".as_slice());
+    Ok(())
+}
+
+#[test]
+fn words_are_chosen(rt: HostRuntime) -> Result<(), Fail> {
+    let alloc = rt.alloc();
+    let mut source = source_of(alloc, b"output netlist (")?;
+    let Ok(tokens) = Tokens::new(alloc) else {
+        panic!(rt; "no memory");
+    };
+    let mut cursor = Cursor::new(alloc, tokens);
+    let words = [(b"INPUT".as_slice(), 1), (b"OUTPUT".as_slice(), 2)];
+    let chosen = cursor.choose(alloc, &words, &mut source);
+    let view = cursor.view_type(alloc, &mut source);
+    let form = cursor.at_form(alloc, &mut source);
+    let looked = cursor.look(alloc, &mut source);
     assert!(rt;
         matches!(
-            cursor.begin(alloc, &[Keyword::UserData, Keyword::Comment], &mut source),
-            Ok(Keyword::Comment)
+            (chosen, view, form, looked),
+            (Ok(2), Ok(()), Ok(true), Ok(true))
         )
     );
-    let Ok(texts) = read_comment(alloc, &mut cursor, &mut source) else {
-        panic!(rt; "no comment");
-    };
-    assert_eq!(rt; texts.len(), 2);
-    assert!(rt;
-        texts
-            .items()
-            .iter()
-            .map(|text| text.bytes())
-            .eq([b"a".as_slice(), b"b".as_slice()])
-    );
-    assert!(rt; matches!(cursor.look(alloc, &mut source), Ok(true)));
     assert!(rt;
         matches!(
             cursor.ahead().map(|found| &found.token),
             Some(Token::LeftParen)
         )
     );
-    assert!(rt; cursor.begin_list(alloc, &mut source).is_ok());
-    assert!(rt; cursor.ahead().is_none());
-    let Ok(word) = cursor.word(alloc, &mut source) else {
-        panic!(rt; "no word");
+    Ok(())
+}
+
+#[test]
+fn lists_grow_and_strings_are_seen(rt: HostRuntime) -> Result<(), Fail> {
+    let alloc = rt.alloc();
+    let mut source = source_of(alloc, b"\"s\"")?;
+    let Ok(tokens) = Tokens::new(alloc) else {
+        panic!(rt; "no memory");
     };
-    assert_eq!(rt; word.bytes(), b"port".as_slice());
-    assert!(rt; matches!(cursor.int(alloc, &mut source), Ok(number) if number.value() == -7));
-    assert!(rt; cursor.begin_list(alloc, &mut source).is_ok());
-    let words = [(b"INPUT".as_slice(), 1), (b"OUTPUT".as_slice(), 2)];
-    assert!(rt; matches!(cursor.choose(alloc, &words, &mut source), Ok(2)));
-    assert!(rt; cursor.view_type(alloc, &mut source).is_ok());
-    assert!(rt; cursor.finish_form(alloc, &mut source).is_ok());
-    assert!(rt; cursor.end_of_input(alloc, &mut source).is_ok());
+    let mut cursor = Cursor::new(alloc, tokens);
+    let mut numbers = Seq::empty(alloc);
+    let added = cursor.add(&mut numbers, 5_u32);
+    assert!(rt; added.is_ok());
+    assert_eq!(rt; numbers.items(), [5].as_slice());
+    let seen = cursor.at_string(alloc, &mut source);
+    assert!(rt; matches!(seen, Ok(true)));
     Ok(())
 }
 
 #[test]
 fn refused_tokens_spend_the_cursor(rt: HostRuntime) -> Result<(), Fail> {
     let alloc = rt.alloc();
-    let mut source = source_of(alloc, b"\n ( \"s\"")?;
+    let mut source = source_of(alloc, b"\n \"s\"")?;
     let Ok(tokens) = Tokens::new(alloc) else {
         panic!(rt; "no memory");
     };
     let mut cursor = Cursor::new(alloc, tokens);
-    let mut texts = Seq::empty(alloc);
-    assert!(rt; cursor.begin_list(alloc, &mut source).is_ok());
-    assert!(rt; cursor.add(&mut texts, 5).is_ok());
-    assert!(rt; matches!(cursor.at_string(alloc, &mut source), Ok(true)));
+    let looked = cursor.look(alloc, &mut source);
+    assert!(rt; matches!(looked, Ok(true)));
+    let Some(_) = cursor.ahead() else {
+        panic!(rt; "no token");
+    };
     let ReadError::Text(fault) = cursor.refuse(Reason::TooDeep) else {
         panic!(rt; "no fault");
     };
     assert_eq!(rt;
         (fault.place.line, fault.place.column, fault.stop),
-        (2, 4, 7)
+        (2, 2, 5)
     );
-    assert!(rt; matches!(cursor.string(alloc, &mut source), Err(ReadError::Spent)));
+    let again = cursor.string(alloc, &mut source);
+    assert!(rt; matches!(again, Err(ReadError::Spent)));
     Ok(())
 }
 
