@@ -1,6 +1,6 @@
 -- Loops over forms and over strings, and a form or another part.
-use Rattle.std.proofs.Common.{◌≡◌, ◌∙◌, sym, ap, refl, ℕ, Bool, true, false, List, [], ◌∷◌, ◌++◌, Option, Some, None, Result, Ok, Err}
-use Rattle.grammar.specs.Part.{gives, sequence, under, takes, leaves}
+use Rattle.std.proofs.Common.{◌≡◌, ◌∙◌, sym, refl, ℕ, true, false, List, [], ◌∷◌, ◌++◌, Option, Ok, Err}
+use Rattle.grammar.specs.Part.{gives, sequence, takes, leaves}
 use Rattle.grammar.specs.Reading.{read, and_then, Found as Answer}
 use Rattle.grammar.specs.Whole.{Terminal}
 use Rattle.nl_base.specs.declared.place.Place.{Place}
@@ -9,9 +9,9 @@ use Rattle.nl_base.specs.declared.fault.ReadError.{ReadError}
 use Rattle.edif_tokens.specs.declared.token.Found.{Found}
 use Rattle.edif_tokens.specs.declared.token.Token.{Token}
 use Rattle.edif_tokens.specs.declared.token.Token.TheVariants.{LeftParen, RightParen, Word, Number, Str}
-use Rattle.readers.specs.Parts.{one, any}
+use Rattle.readers.specs.Parts.{any}
 use Rattle.readers.specs.Sources.{Ahead}
-use Rattle.readers.specs.Readers.{reading, then_left, on, looking, IsToken, IsNext, IsCause}
+use Rattle.readers.specs.Readers.{reading, looking, IsToken, IsNext, IsCause}
 use Rattle.readers.proofs.Choices.{reads_alike, read_grouped, Fits, Misses, while_token, while_no_token, while_next_is, while_next_is_no, cause_while, due_while, due_if, due_one, due_then, if_token, if_no_token}
 use Rattle.std.proofs.lemmas.List.{map_push}
 use Rattle.readers.proofs.Reading.{sequences}

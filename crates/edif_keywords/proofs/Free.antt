@@ -1,5 +1,5 @@
 -- Whatever the aliases, some word means nothing: there are more words of `z` and a number in letters than aliases.
-use Rattle.std.proofs.Common.{arith, ◌≡◌, ◌∙◌, ◌⊎◌, inl, inr, sym, ap, subst, refl, ℕ, zero, suc, ◌+◌, ◌*◌, ◌<◌, ◌≤◌, nat_eq, Bool, true, false, cond, Option, Some, None, List, [], ◌∷◌, map, length}
+use Rattle.std.proofs.Common.{arith, ◌≡◌, ◌∙◌, ◌⊎◌, inl, inr, sym, ap, refl, ℕ, zero, suc, ◌+◌, ◌*◌, ◌<◌, ◌≤◌, nat_eq, Bool, true, false, cond, Some, None, List, [], ◌∷◌, map, length}
 use Rattle.std.proofs.lemmas.List.{length-map}
 use Rattle.std.proofs.lemmas.Bool.Decides.{nat_tests}
 use Rattle.std.proofs.lemmas.Slice.Eq.{bytes_eq-Decides}
@@ -7,7 +7,7 @@ use Rattle.std.specs.List.{find}
 use Rattle.std.specs.Prelude.{option_map}
 use Rattle.nl_base.specs.Case.{small, same_bytes}
 use Rattle.edif_keywords.specs.Keywords.{keyword_of}
-use Rattle.edif_keywords.specs.Aliases.{Alias, alias_of, means, or_alias}
+use Rattle.edif_keywords.specs.Aliases.{Alias, alias_of, means}
 
 -- ---- a number that is not in a list
 

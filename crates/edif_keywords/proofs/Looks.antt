@@ -1,11 +1,11 @@
 -- What is known after a look at the next token of an EDIF text.
-use Rattle.std.proofs.Common.{◌≡◌, Bool, true, false, List, Option, Some, None}
-use Rattle.grammar.specs.Whole.{proper, the_end}
+use Rattle.std.proofs.Common.{◌≡◌, false, List, Option, Some, None}
+use Rattle.grammar.specs.Whole.{the_end}
 use Rattle.nl_base.specs.declared.fault.Reason.TheVariants as reasons
 use Rattle.nl_base.specs.declared.fault.ReadError.TheVariants as errors
 use Rattle.edif_tokens.specs.declared.token.Found.{Found}
 use Rattle.readers.specs.Sources.{Ahead}
-use Rattle.readers.specs.Readers.{looking, then_left, reading, fault_at, IsToken, IsNext, IsCause}
+use Rattle.readers.specs.Readers.{looking, then_left, reading, IsToken, IsNext, IsCause}
 use Rattle.readers.proofs.Looking.{seen_token, seen_next, seen_none, cause_looking, cause_end, seen_trailing, seen_end, cause_ending}
 use Rattle.readers.proofs.Moving.{near_text, skip_none}
 use Rattle.edif_keywords.specs.Aliases.{Alias}

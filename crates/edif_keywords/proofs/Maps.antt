@@ -1,5 +1,5 @@
 -- The loop over the forms of a keyword map, whose state is the aliases under which it is read.
-use Rattle.std.proofs.Common.{arith, ℕ, ◌≤◌, IsErrAnd, ◌≡◌, ◌∙◌, sym, ap, subst, refl, Bool, true, false, List, [], Option, Some, None, Result, Ok, Err}
+use Rattle.std.proofs.Common.{arith, ℕ, ◌≤◌, IsErrAnd, ◌≡◌, ◌∙◌, sym, ap, subst, refl, Bool, true, false, List, Option, Some, None, Result, Ok, Err}
 use Rattle.grammar.specs.Part.{gives, sequence}
 use Rattle.grammar.specs.Reading.{read, and_then, Found as Answer}
 use Rattle.grammar.specs.Whole.{Terminal}
@@ -12,15 +12,15 @@ use Rattle.std.proofs.lemmas.Result.{err_from_is_err_and}
 use Rattle.nl_io.specs.Causes.{Rose}
 use Rattle.nl_bytes.specs.Bytes.{Window, given}
 use Rattle.readers.specs.Sources.{Ahead, Supply, Moves, skip}
-use Rattle.readers.specs.Readers.{Reader, ReadsContext, LooksAt, stream, reading, then_left, on, on_result, result_of, IsToken, IsCause}
-use Rattle.readers.proofs.Choices.{reads_alike, due_one, due_then}
+use Rattle.readers.specs.Readers.{Reader, ReadsContext, LooksAt, stream, reading, on, on_result, result_of, IsToken, IsCause}
+use Rattle.readers.proofs.Choices.{due_one, due_then}
 use Rattle.readers.proofs.Loops.{GoesContext}
 use Rattle.readers.proofs.Moving.{skip_skip}
 use Rattle.readers.proofs.Reading.{reading_then, sequences, cause_on}
 use Rattle.edif_keywords.specs.Aliases.{Alias}
-use Rattle.edif_keywords.specs.Language.{edif, Edif}
+use Rattle.edif_keywords.specs.Language.{edif}
 use Rattle.edif_keywords.specs.Reasons.{opens, closing_of}
-use Rattle.edif_keywords.specs.Grammar.{opening, closing, forms, map_item, map_items}
+use Rattle.edif_keywords.specs.Grammar.{opening, closing, map_item, map_items}
 use Rattle.edif_keywords.proofs.Forms.{forms_more, forms_end, forms_fault}
 
 -- a parenthesis says the same under all aliases

@@ -1,14 +1,12 @@
 -- What a reader of EDIF tokens answers is what readers of parts ask of it.
-use Rattle.std.proofs.Common.{arith, Bool, ◌≡◌, refl, ap, sym, ◌∙◌, ℕ, ◌+◌, ◌≤◌, List, Option, Some, None, option_map, Result, Ok, Err, IfOk, IfErr, is_err, IsFalse, IsTrue}
+use Rattle.std.proofs.Common.{arith, ◌≡◌, refl, ap, ℕ, List, Option, Some, None, option_map, Result, Ok, Err, IfOk, IfErr}
 use Rattle.nl_base.specs.declared.fault.ReadError.{ReadError}
 use Rattle.nl_base.specs.declared.fault.ReadError.TheVariants as errors
 use Rattle.nl_bytes.specs.Bytes.{Window, input}
 use Rattle.edif_tokens.specs.declared.token.Found.{Found}
 use Rattle.edif_tokens.specs.Streams as streams
 use Rattle.edif_tokens.specs.Stream.{stream_from, stop_of}
-use Rattle.readers.specs.Sources.{Supply, Ahead, ReadsToken, TellsKnown, NearError, NearToken, EndsInput, Shortens, skip, tokens_ahead}
-use Rattle.readers.specs.Readers.{Reader}
-use Rattle.readers.proofs.Moving.{reader}
+use Rattle.readers.specs.Sources.{Supply, ReadsToken, TellsKnown, NearError, NearToken, EndsInput, Shortens, skip, tokens_ahead}
 use Rattle.edif_keywords.specs.Language.{edif, ahead_of}
 
 ahead_known : (w : Window) (i : Supply) → tokens_ahead edif w i ≡ option_map ahead_of (streams.stream_ahead stream_from w i.left)

@@ -1,6 +1,6 @@
 -- The parts of the grammar that all forms are made of, and the productions of the header and of comments (EDIF 2 0 0, forms
 -- edifVersion, edifLevel, keywordMap, keywordAlias and comment). Each production reads on after its keyword.
-use Rattle.std.specs.Prelude.{ℕ, Bool, true, false, List, [], ◌∷◌, ◌++◌, ℤ, pos, if◌then◌else◌}
+use Rattle.std.specs.Prelude.{ℕ, Bool, true, false, List, [], ◌∷◌, ◌++◌, ℤ, pos}
 use Rattle.grammar.specs.Part.{gives, sequence, under, ◌>>=◌}
 use Rattle.readers.specs.Parts.{one, if_next, while_next}
 use Rattle.edif_keywords.specs.declared.keyword.Keyword.{Keyword}

@@ -1,11 +1,11 @@
 -- What a token says at its place, or the reason for which it may not stand there: one definition for each kind of place.
 -- The order is that of the reasons, of which the first that fits is given: the end of the input and the faults within a token come
 -- before all of these.
-use Rattle.std.specs.Prelude.{ℕ, zero, suc, Bool, true, false, List, Option, Some, None, option_map, Result, Ok, Err, ℤ, pos, codes, map, if◌then◌else◌}
+use Rattle.std.specs.Prelude.{ℕ, Bool, true, false, List, Option, Some, None, option_map, Result, Ok, Err, ℤ, pos, codes, map, if◌then◌else◌}
 use Rattle.std.specs.Borrow.{Bor}
 use Rattle.std.specs.Ordering.{int_eq}
 use Rattle.std.specs.List.{find}
-use Rattle.grammar.specs.Part.{Glance, takes, refuses, leaves}
+use Rattle.grammar.specs.Part.{Glance, takes, leaves}
 use Rattle.nl_base.specs.Case.{same_up_to_case}
 use Rattle.nl_base.specs.declared.fault.Reason.{Reason}
 use Rattle.nl_base.specs.declared.fault.Reason.TheVariants as reasons

@@ -1,5 +1,5 @@
 use Rattle.std.proofs.lemmas.Result.{err_from_is_err_and}
-use Rattle.std.proofs.Common.{rules, ◌≡◌, Option, Some, None, refl, arith, subst}
+use Rattle.std.proofs.Common.{rules, ◌≡◌, refl}
 use Rattle.nl_base.specs.declared.fault.ReadError.TheVariants as errors
 use Rattle.readers.proofs.Taking.{calls_spent, not_spent, none_of}
 use Rattle.readers.proofs.Looking.{spent_looks, looks_ahead, looks_next, looks_end, looks_error}

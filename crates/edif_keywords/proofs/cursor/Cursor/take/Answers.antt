@@ -1,5 +1,5 @@
 use Rattle.std.proofs.lemmas.Result.{err_from_is_err_and}
-use Rattle.std.proofs.Common.{rules, ◌≡◌, ◌∙◌, refl, sym, arith, subst}
+use Rattle.std.proofs.Common.{rules, ◌∙◌, sym}
 use Rattle.readers.proofs.Taking.{reads_spent, takes_ahead, takes_next, takes_end, takes_error, not_spent, none_of}
 use Rattle.edif_keywords.specs.Language.{edif}
 use Rattle.edif_keywords.proofs.NextToken.{reads_token}
