@@ -1,19 +1,19 @@
 -- The exits of a call that takes the next token where a test says so, and answers what it is.
-use Rattle.std.proofs.Common.{◌≡◌, ℕ, ◌≤◌, ◌<◌, Bool, true, false, List, [], ◌∷◌, Option, Some, None, Result, Ok, Err, refl, sym, ap, ◌∙◌, subst, arith}
+use Rattle.std.proofs.Common.{◌≡◌, ◌<◌, Bool, true, false, List, [], ◌∷◌, Option, Some, None, is_some, Result, Ok, Err, refl, sym, ap, ◌∙◌, subst, arith}
 use Rattle.grammar.specs.Part.{Glance, takes, refuses, leaves}
-use Rattle.grammar.specs.Reading.{judged, take_token, look_ahead, read}
-use Rattle.grammar.specs.Whole.{Terminal, proper, end, Stream}
+use Rattle.grammar.specs.Reading.{judged, take_token, look_ahead}
+use Rattle.grammar.specs.Whole.{Terminal, proper, end}
 use Rattle.nl_base.specs.declared.place.Place.{Place}
 use Rattle.nl_base.specs.declared.fault.Reason.{Reason}
 use Rattle.nl_base.specs.declared.fault.ReadError.{ReadError}
 use Rattle.nl_base.specs.declared.fault.ReadError.TheVariants as errors
 use Rattle.nl_bytes.specs.Bytes.{Window}
-use Rattle.readers.specs.Parts.{PartOf, of_token, at_token, one, any, maybe}
-use Rattle.readers.specs.Sources.{Supply, Ahead, Language, IsNear, skip}
-use Rattle.readers.specs.Readers.{Reader, Calls, Looks, Reads, ReadsMaybe, Outcome, result_of, reading, looking, then_left, stream, fault_at, spoilt, room, IsCause}
+use Rattle.readers.specs.Parts.{of_token, at_token, one, any, maybe}
+use Rattle.readers.specs.Sources.{Supply, Ahead, Language, IsNear}
+use Rattle.readers.specs.Readers.{Reader, Looks, TakesNext, result_of, reading, then_left, stream, fault_at, room}
 use Rattle.readers.proofs.Moving.{reader, near_text, room_ahead}
 use Rattle.readers.proofs.Taking.{taken_ahead}
-use Rattle.readers.proofs.Looking.{good, ok_first, ok_second}
+use Rattle.readers.proofs.Looking.{ok_first, ok_second}
 use Rattle.readers.proofs.Choices.{took, left_there, left_end, refused_there, cause_maybe}
 
 -- what one token is read as, f takes it for, where f takes what h says
@@ -39,9 +39,9 @@ took_one {X = X} {C = C} L f h k c (Some s) (Some t) all e = by s.tokens e
 -- a: the reader before; c: after the look
 module _ {K X V C : Type 0} (L : Language X) (view : V → Option C) (f : K → X → Glance C Reason) (a c : Reader K X) (i j : Supply) where
   -- no token is next
-  pub none_at_end : (y : V) → view y ≡ None → Looks L (Ok false) a c i j → c.ahead ≡ None → ReadsMaybe L view (maybe f) (Ok y) a c i j
+  pub none_at_end : (y : V) → view y ≡ None → Looks L (Ok false) a c i j → c.ahead ≡ None → TakesNext L view f (Ok y) a c i j
   none_at_end y v h e = record {
-    value = (rw v (left_end L f a.context (stream L a i) (stream L c j) (h.value.0 ∙ ap (λ z. then_left z (stream L c j)) e)), h.value.3.1, h.value.3.2);
+    value = (rw v (left_end L f a.context (stream L a i) (stream L c j) (h.value.0 ∙ ap (λ z. then_left z (stream L c j)) e)), h.value.3.1, h.value.3.2, λ z. let n : false ≡ true = ap is_some (sym v) ∙ z in absurd cc);
     error = tt;
     moves = h.moves;
     unspent = h.unspent;
@@ -52,9 +52,9 @@ module _ {K X V C : Type 0} (L : Language X) (view : V → Option C) (f : K → 
   }
 
   -- the next token is left
-  pub none_at_token : (y : V) (r : Bool) (x : X) → view y ≡ None → Looks L (Ok r) a c i j → Some x ≡ c.ahead → f a.context x ≡ leaves → ReadsMaybe L view (maybe f) (Ok y) a c i j
+  pub none_at_token : (y : V) (r : Bool) (x : X) → view y ≡ None → Looks L (Ok r) a c i j → Some x ≡ c.ahead → f a.context x ≡ leaves → TakesNext L view f (Ok y) a c i j
   none_at_token y r x v h e l = record {
-    value = (rw v (left_there L f a.context x (stream L a i) (stream L c j) (h.value.0 ∙ ap (λ z. then_left z (stream L c j)) (sym e)) h.value.3.0 l), h.value.3.1, h.value.3.2);
+    value = (rw v (left_there L f a.context x (stream L a i) (stream L c j) (h.value.0 ∙ ap (λ z. then_left z (stream L c j)) (sym e)) h.value.3.0 l), h.value.3.1, h.value.3.2, λ z. let n : false ≡ true = ap is_some (sym v) ∙ z in absurd cc);
     error = tt;
     moves = h.moves;
     unspent = h.unspent;
@@ -65,7 +65,7 @@ module _ {K X V C : Type 0} (L : Language X) (view : V → Option C) (f : K → 
   }
 
   -- the look fails
-  pub none_by_error : (e : ReadError) → Looks L (Err e) a c i j → ReadsMaybe L view (maybe f) (Err e) a c i j
+  pub none_by_error : (e : ReadError) → Looks L (Err e) a c i j → TakesNext L view f (Err e) a c i j
   none_by_error e h = record {
     value = tt;
     error = cause_maybe e L f a.context (stream L a i) h.error;
@@ -83,12 +83,13 @@ module _ {K X V C : Type 0} (L : Language X) (view : V → Option C) (f : K → 
   seen = subst (λ z. Looks L (Ok r) a (reader w z k b) i j) some (subst (λ (z : Reader K X). Looks L (Ok r) a z i j) (sym is) looks)
 
   -- the token that was seen is taken
-  pub some_at_token : (y : V) (v : C) → view y ≡ Some v → f a.context x ≡ takes v → ReadsMaybe L view (maybe f) (Ok y) a (reader w m k b) i j
+  pub some_at_token : (y : V) (v : C) → view y ≡ Some v → f a.context x ≡ takes v → TakesNext L view f (Ok y) a (reader w m k b) i j
   some_at_token y v e l = rw empty (record {
     value = (
       rw e (took L f a.context x v (stream L a i) (stream L (reader w None k b) j) (ap (reading L any a.context) (sym seen.value.3.0) ∙ taken_ahead L a.context x (reader w (Some x) k b) (reader w None k b) j seen.spends refl refl refl seen.spends) l),
       seen.value.3.1,
       (let z : room (reader w None k b) < room (reader w (Some x) k b) = room_ahead w x k b b in omega (arith, seen.value.3.2)),
+      λ _. (let z : room (reader w None k b) < room (reader w (Some x) k b) = room_ahead w x k b b in omega (arith, seen.value.3.2)),
     );
     error = tt;
     moves = seen.moves;
@@ -100,7 +101,7 @@ module _ {K X V C : Type 0} (L : Language X) (view : V → Option C) (f : K → 
   })
 
   -- the token that was seen is refused
-  pub refused_at_token : (reason : Reason) → f a.context x ≡ refuses reason → IsNear w (L.stop x) → ReadsMaybe L view (maybe f) (Err (errors.Text (fault_at L (proper x) reason))) a (reader w m k true) i j
+  pub refused_at_token : (reason : Reason) → f a.context x ≡ refuses reason → IsNear w (L.stop x) → TakesNext L view f (Err (errors.Text (fault_at L (proper x) reason))) a (reader w m k true) i j
   refused_at_token reason l near = rw empty (record {
     value = tt;
     error = refused_there L f a.context x reason (stream L a i) (stream L (reader w (Some x) k b) j) seen.value.0 l;

@@ -1,6 +1,7 @@
 -- What a reader of a part answers, and what it leaves.
 use Rattle.std.specs.Prelude.{◌≡◌, ℕ, ◌+◌, ◌-◌, ◌*◌, ◌≤◌, ◌<◌, ◌↔◌, Bool, true, false, List, [], ◌∷◌, ◌++◌, Option, Some, None, option_map, Result, Ok, Err, is_err, IfOk, IfErr, OnOk, if◌then◌else◌, IsTrue, IsFalse, is_some}
 use Rattle.std.specs.Io.KnownBytes.{IsAtEnd}
+use Rattle.grammar.specs.Part.{Glance}
 use Rattle.grammar.specs.Reading.{Stop, refused, ended}
 use Rattle.grammar.specs.Reading as r
 use Rattle.grammar.specs.Whole.{Terminal, proper, end, Finish, Done, Bad, Over, the_end}
@@ -13,7 +14,7 @@ use Rattle.nl_base.specs.declared.fault.ReadError.TheVariants as errors
 use Rattle.nl_io.specs.Causes.{Rose}
 use Rattle.nl_bytes.specs.Bytes.{Window}
 use Rattle.nl_bytes.specs.declared.bytes.TheConstants.{LIMIT}
-use Rattle.readers.specs.Parts.{PartOf, any}
+use Rattle.readers.specs.Parts.{PartOf, maybe, any}
 use Rattle.readers.specs.Sources.{Supply, Ahead, Language, Moves, IsNear, NearError, tokens_ahead, follow, only_end}
 
 -- what a reader of parts is: its bytes, the token that it has looked at, the context, and whether an error has spent it
@@ -192,6 +193,12 @@ abbrev pub ReadsMaybe : {K X V Y : Type 0} → Language X → (V → Y) → Part
 ReadsMaybe L view part result old new i j = Calls result old new i j
     (λ x. (reading L part old.context (stream L old i) ≡ then_left (view x) (stream L new j)) × (new.context ≡ old.context) × (room new ≤ room old))
     (λ e. IsCause e (reading L part old.context (stream L old i)))
+
+-- The next token is taken where f takes it, and the call answers what f says of it, as `view` sees it.
+abbrev pub TakesNext : {K X V C : Type 0} → Language X → (V → Option C) → (K → X → Glance C Reason) → Result V ReadError → Reader K X → Reader K X → Supply → Supply → Type 0
+TakesNext L view f result old new i j = Calls result old new i j
+    (λ x. (reading L (maybe f) old.context (stream L old i) ≡ then_left (view x) (stream L new j)) × (new.context ≡ old.context) × (room new ≤ room old) × (is_some (view x) ≡ true → room new < room old))
+    (λ e. IsCause e (reading L (maybe f) old.context (stream L old i)))
 
 -- The same of a part that begins in a context and gives that of what follows.
 abbrev pub ReadsContext : {K X : Type 0} → Language X → PartOf K X K → Result (Unit {0}) ReadError → Reader K X → Reader K X → Supply → Supply → Type 0
