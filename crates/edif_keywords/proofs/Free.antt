@@ -1,7 +1,11 @@
 -- Whatever the aliases, some word means nothing: there are more words of `z` and a number in letters than aliases.
-use Rattle.std.proofs.Common.{arith, ◌≡◌, ◌∙◌, ◌⊎◌, inl, inr, sym, ap, refl, ℕ, zero, suc, ◌+◌, ◌*◌, ◌<◌, ◌≤◌, nat_eq, Bool, true, false, cond, Some, None, List, [], ◌∷◌, map, length}
+use Rattle.std.proofs.Common.{arith, ◌^◌, pow-suc, subst, ◌≡◌, ◌∙◌, ◌⊎◌, inl, inr, sym, ap, refl, ℕ, zero, suc, ◌+◌, ◌*◌, ◌<◌, ◌≤◌, nat_eq, Bool, true, false, cond, Some, None, List, [], ◌∷◌, map, length}
 use Rattle.std.proofs.lemmas.List.{length-map}
+use Rattle.std.proofs.lemmas.Bool.{cases_order}
 use Rattle.std.proofs.lemmas.Bool.Decides.{nat_tests}
+use Rattle.std.proofs.Math.Nat.{pow-le-pow_right}
+use Rattle.std.specs.List.{list_all}
+use Rattle.nl_base.specs.Identifiers.{is_identifier, is_word_byte}
 use Rattle.std.proofs.lemmas.Slice.Eq.{bytes_eq-Decides}
 use Rattle.std.specs.List.{find}
 use Rattle.std.specs.Prelude.{option_map}
@@ -144,3 +148,44 @@ unfolding means alias_of
 unused table =
     let p = missing (map (λ a. number_in a.word) table) in
     (p.0, omega (arith, p.1, length-map table (λ a. number_in a.word)), rw (no_keyword p.0) (ap (option_map (λ a. a.keyword)) (no_alias p.0 table p.2)))
+
+-- ---- these words are those that a text can have
+
+longer : (bs : List Bool) → (length (increased bs) ≤ length bs) ⊎ ((value bs + 1 ≡ 2 ^ length bs) × (length (increased bs) ≡ length bs + 1))
+longer [] = inr (refl, refl)
+longer (false ∷ bs) = inl (omega arith)
+longer (true ∷ bs) = go (longer bs)
+  where
+    go : (length (increased bs) ≤ length bs) ⊎ ((value bs + 1 ≡ 2 ^ length bs) × (length (increased bs) ≡ length bs + 1))
+        → (length (increased (true ∷ bs)) ≤ length (true ∷ bs)) ⊎ ((value (true ∷ bs) + 1 ≡ 2 ^ length (true ∷ bs)) × (length (increased (true ∷ bs)) ≡ length (true ∷ bs) + 1))
+    go (inl h) = inl (omega (arith, h))
+    go (inr p) = let d = pow-suc 2 (length bs) in inr (omega (arith, p.0, d), omega (arith, p.1))
+
+lower : (a b : ℕ) → 2 ^ a < 2 ^ b → a < b
+lower a b h = go (cases_order a b)
+  where
+    go : (a ≡ b) ⊎ ((a < b) ⊎ (b < a)) → a < b
+    go (inl e) = let f : 2 ^ b < 2 ^ b = subst (λ c. 2 ^ c < 2 ^ b) e h in absurd (omega (arith, f))
+    go (inr (inl less)) = less
+    go (inr (inr more)) = let le = pow-le-pow_right {n = 2} (omega arith) {i = b} {j = a} (omega (arith, more)) in absurd (omega (arith, le, h))
+
+length_digits : (n k : ℕ) → n < 2 ^ k → length (digits n) ≤ k
+length_digits zero k lt = omega arith
+length_digits (suc n) k lt = go (length_digits n k (omega (arith, lt))) (longer (digits n))
+  where
+    go : length (digits n) ≤ k → (length (increased (digits n)) ≤ length (digits n)) ⊎ ((value (digits n) + 1 ≡ 2 ^ length (digits n)) × (length (increased (digits n)) ≡ length (digits n) + 1)) → length (digits (suc n)) ≤ k
+    go before (inl h) = omega (arith, h, before)
+    go before (inr p) = let fits = lower (length (digits n)) k (omega (arith, p.0, value_digits n, lt)) in omega (arith, p.1, fits)
+
+word_bytes : (bs : List Bool) → list_all is_word_byte (map letter bs) ≡ true
+word_bytes [] = refl
+word_bytes (false ∷ bs) = word_bytes bs
+word_bytes (true ∷ bs) = word_bytes bs
+
+identifier : (bs : List Bool) → is_identifier (122 ∷ map letter bs) ≡ true
+identifier [] = refl
+identifier (b ∷ bs) = word_bytes (b ∷ bs)
+
+-- the word of a number below 2 ^ 1000 is an identifier of at most 1,001 bytes, so the words of as many aliases as a text can have are
+pub is_word : (n : ℕ) → n < 2 ^ 1000 → (is_identifier (numbered n) ≡ true) × (length (numbered n) ≤ 1024)
+is_word n lt = let short = length_digits n 1000 lt in (identifier (digits n), omega (arith, short, length-map (digits n) letter))

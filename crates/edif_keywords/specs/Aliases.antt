@@ -15,6 +15,7 @@ pub record Alias : Type 0 where
 unfoldable pub alias_of : List Alias → List ℕ → Option Keyword
 alias_of table word = option_map (λ a. a.keyword) (find (λ a. same_bytes (map small word) a.word) table)
 
+-- a keyword that is known, else that of the alias that a word is
 abbrev pub or_alias : Option Keyword → List Alias → List ℕ → Option Keyword
 or_alias (Some keyword) table word = Some keyword
 or_alias None table word = alias_of table word

@@ -78,6 +78,7 @@ comment = strings []
 
 -- ---- the header
 
+-- the number that is due in edifVersion
 abbrev pub version_number : ℤ → Edif (Unit {0})
 version_number due = one (λ _ x. say.version_of due x.token)
 
@@ -90,6 +91,7 @@ version = do
   _ ← version_number (pos 0)
   closing
 
+-- the number 0 in edifLevel
 abbrev pub level_number : Edif (Unit {0})
 level_number = one (λ _ x. say.level_of x.token)
 
@@ -100,6 +102,7 @@ level = do
   _ ← level_number
   closing
 
+-- the number of keywordLevel: whether that level has aliases
 abbrev pub keyword_level_number : Edif Bool
 keyword_level_number = one (λ _ x. say.keyword_level_of x.token)
 
@@ -111,9 +114,11 @@ keyword_level = do
   _ ← closing
   gives n
 
+-- a word that means no keyword yet
 abbrev pub new_word : Edif (List ℕ)
 new_word = one (λ table x. say.new_word_of table x.token)
 
+-- a word that means a keyword, and which
 abbrev pub known_word : Edif Keyword
 known_word = one (λ table x. say.known_word_of table x.token)
 
@@ -131,6 +136,7 @@ abbrev pub map_keywords : Bool → List Keyword
 map_keywords true = k.KeywordAlias ∷ k.Comment ∷ []
 map_keywords false = k.Comment ∷ []
 
+-- one of the keywords that may stand in a keywordMap
 abbrev pub map_keyword : Bool → Edif Keyword
 map_keyword with_aliases = one (λ table x. say.map_keyword_of (map_keywords with_aliases) table x.token)
 
