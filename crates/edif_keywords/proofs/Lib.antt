@@ -1,0 +1,12 @@
+pub mod Forms
+pub mod Free
+pub mod Letters
+pub mod Live
+pub mod Looks
+pub mod Maps
+pub mod NextToken
+pub mod OneToken
+pub mod Same
+pub mod Slots
+pub mod Spelled
+pub mod Tables

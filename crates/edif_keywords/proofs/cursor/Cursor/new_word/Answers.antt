@@ -1,0 +1,13 @@
+use Rattle.std.proofs.Common.{◌∙◌, ap}
+use Rattle.edif_keywords.specs.Reasons.{new_word_of}
+use Rattle.edif_keywords.proofs.OneToken.{one_says, one_fails}
+use Rattle.edif_keywords.proofs.cursor.Cursor.new_word.Goals as goal
+
+pub returns-in_err-place-clause-reads : goal.returns-in_err-place-clause-reads
+returns-in_err-place-clause-reads g c = one_fails (λ table x. new_word_of table x.token) _ _ _ _ _ _ c.in_err-place.ensures.reads c.from_residual.ensures.1
+
+pub returns-clause-reads : goal.returns-clause-reads
+returns-clause-reads g c =
+    let table = ap (λ r. r.context) c.self.view_is ∙ c.in_ok-place.ensures.reads.value.1 in
+    one_says (λ table x. new_word_of table x.token) _ _ _ _ _ c.in_ok-place.ensures.reads c.in_ok-place.ensures.near _ _ _
+    (c.new_word_of-said.ensures ∙ ap (λ t. new_word_of t c.in_ok-place.field-0.token) table) c.judged.ensures.answer c.judged.ensures.left

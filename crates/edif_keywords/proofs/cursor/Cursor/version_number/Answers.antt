@@ -1,0 +1,10 @@
+use Rattle.std.proofs.Common.{pos}
+use Rattle.edif_keywords.specs.Reasons.{version_of}
+use Rattle.edif_keywords.proofs.OneToken.{one_says, one_fails}
+use Rattle.edif_keywords.proofs.cursor.Cursor.version_number.Goals as goal
+
+pub returns-in_err-place : goal.returns-in_err-place
+returns-in_err-place g c = one_fails (λ _ x. version_of (pos c.args.due) x.token) _ _ _ _ _ _ c.in_err-place.ensures.reads c.from_residual.ensures.1
+
+pub returns : goal.returns
+returns g c = one_says (λ _ x. version_of (pos c.args.due) x.token) _ _ _ _ _ c.in_ok-place.ensures.reads c.in_ok-place.ensures.near _ _ _ c.version_of.ensures c.judged.ensures.answer c.judged.ensures.left

@@ -1,0 +1,7 @@
+pub mod Aliases
+pub mod Calls
+pub mod Grammar
+pub mod Keywords
+pub mod Language
+pub mod Reasons
+pub mod Slots

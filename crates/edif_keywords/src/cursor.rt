@@ -1,0 +1,237 @@
+ghost use Rattle.std.specs.Prelude.{◌≡◌, None, [], IfOk, IfSome, IsSome, IsNone, IsTrue, IsFalse, option_map};
+ghost use Rattle.readers.specs.Parts.{any};
+ghost use Rattle.readers.specs.Sources.{supply, IsNear};
+ghost use Rattle.readers.specs.Readers.{same, fault_at, end_fault, spoilt, Reads, Looks, LooksAt, LooksFor, Ends, Adds};
+ghost use Rattle.grammar.specs.Whole.{proper};
+ghost use Rattle.edif_keywords.specs.Calls.{answer, left_after};
+ghost use Rattle.edif_keywords.specs.Language.{edif};
+ghost use Rattle.edif_keywords.specs.Reasons.{opens, has_string, trailing};
+
+use crate::aliases::Aliases;
+use edif_tokens::{Found, Token, Tokens};
+use nl_base::{Place, ReadError, Reason, Seq, TextFault};
+use nl_io::Source;
+use std::alloc::Global;
+use std::marker::Model;
+
+/// Reads the parts of a text, one after another, under its aliases.
+///
+/// Contracts see it as a reader of parts whose context is the aliases. After an error of any kind it is spent for good.
+#[derive(Drop)]
+pub struct Cursor {
+    tokens: Tokens,
+    ahead: Option<Found>,
+    pub(crate) aliases: Aliases,
+    spent: bool,
+}
+
+impl Model for Cursor {
+    ghost use Rattle.std.specs.Prelude.{◌≡◌, List, None, IsTrue, IfSome};
+    ghost use Rattle.edif_tokens.specs.declared.token.Found.{Found};
+    ghost use Rattle.readers.specs.Sources.{IsNear};
+    ghost use Rattle.readers.specs.Readers.{Reader};
+    ghost use Rattle.edif_keywords.specs.Aliases.{Alias};
+
+    ghost Value = { Reader (List Alias) Found };
+
+    ghost view = { λ c. record { window = c.tokens.window; ahead = c.ahead; context = c.aliases; spent = c.spent } };
+
+    ghost invariant = { λ c. (IsTrue c.tokens.spent → IsTrue c.spent) × (IsTrue c.spent → c.ahead ≡ None) × IfSome c.ahead (λ x. IsNear c.tokens.window x.stop) };
+}
+
+impl Cursor {
+    /// A cursor at the next token of a reader of tokens, without aliases. It takes no memory.
+    pub fn new(alloc: Global, tokens: Tokens) -> Cursor
+        ensures { result ≡ record { window = tokens.window; ahead = None; context = []; spent = tokens.spent } }
+    {
+        let spent = tokens.is_spent();
+        Cursor {
+            tokens,
+            ahead: None,
+            aliases: Aliases::new(alloc),
+            spent,
+        }
+    }
+
+    /// Takes the next token.
+    pub(crate) fn take<S: Source>(
+        &mut self,
+        alloc: Global,
+        source: &mut S,
+    ) -> Result<Found, ReadError>
+        ensures reads { Reads edif same any result self.old self.new (supply S.left S.faults source.old) (supply S.left S.faults source.new) }
+        ensures near { IfOk result (λ x. IsNear self.new.window x.stop) }
+    {
+        if self.spent {
+            return Err(ReadError::Spent);
+        }
+        if let Some(found) = self.ahead.take() {
+            return Ok(found);
+        }
+        self.spent = true;
+        let next = self.tokens.next(alloc, source)?;
+        let Some(found) = next else {
+            let end = self.tokens.here();
+            return Err(ReadError::Text(TextFault {
+                place: end,
+                stop: end.offset,
+                reason: Reason::EndOfInput,
+            }));
+        };
+        self.spent = false;
+        Ok(found)
+    }
+
+    /// Refuses a token of this place and stop that was just taken.
+    pub(crate) fn refuse_at(&mut self, place: Place, stop: u64, reason: Reason) -> ReadError
+        ensures error { result ≡ ReadError.Text (record { place = place; stop = stop; reason = reason }) }
+        ensures spoilt { self.new ≡ spoilt self.old }
+    {
+        self.spent = true;
+        self.ahead = None;
+        ReadError::Text(TextFault {
+            place,
+            stop,
+            reason,
+        })
+    }
+
+    /// Answers what a token of this place and stop says that was just taken, or refuses it.
+    pub(crate) fn judged<T: Drop>(
+        &mut self,
+        place: Place,
+        stop: u64,
+        said: Result<T, Reason>,
+    ) -> Result<T, ReadError>
+        ensures answer { result ≡ answer place stop said }
+        ensures left { self.new ≡ left_after said self.old }
+    {
+        match said {
+            Ok(value) => Ok(value),
+            Err(reason) => Err(self.refuse_at(place, stop, reason)),
+        }
+    }
+
+    /// Makes the next token the one ahead, and answers whether there is one. It takes nothing.
+    pub fn look<S: Source>(&mut self, alloc: Global, source: &mut S) -> Result<bool, ReadError>
+        ensures { Looks edif result self.old self.new (supply S.left S.faults source.old) (supply S.left S.faults source.new) }
+    {
+        if self.spent {
+            return Err(ReadError::Spent);
+        }
+        if let Some(_) = self.ahead {
+            return Ok(true);
+        }
+        self.spent = true;
+        let next = self.tokens.next(alloc, source)?;
+        self.spent = false;
+        let Some(found) = next else {
+            return Ok(false);
+        };
+        self.ahead = Some(found);
+        Ok(true)
+    }
+
+    /// The token that the last look made ahead, where no call has taken it since. After an error none is ahead.
+    pub fn ahead(&self) -> Option<&Found>
+        ensures token { option_map (λ x. x.now) result ≡ self.now.ahead }
+        ensures none { IsTrue self.now.spent → IsNone result }
+    {
+        self.ahead.as_ref()
+    }
+
+    /// Makes the next token the one ahead, which has to be there, and answers whether it is `(`. It takes nothing.
+    #[tactic(auto, using(crate::proofs::Looks::forms_next))]
+    pub fn at_form<S: Source>(&mut self, alloc: Global, source: &mut S) -> Result<bool, ReadError>
+        ensures { LooksAt edif opens result self.old self.new (supply S.left S.faults source.old) (supply S.left S.faults source.new) }
+    {
+        self.look(alloc, source)?;
+        match &self.ahead {
+            Some(found) => Ok(opens(found)),
+            None => Err(self.ended()),
+        }
+    }
+
+    /// Makes the next token the one ahead, and answers whether there is one that is a string. It takes nothing.
+    #[tactic(auto, using(crate::proofs::Looks::strings_next))]
+    pub fn at_string<S: Source>(&mut self, alloc: Global, source: &mut S) -> Result<bool, ReadError>
+        ensures { LooksFor edif has_string result self.old self.new (supply S.left S.faults source.old) (supply S.left S.faults source.new) }
+    {
+        self.look(alloc, source)?;
+        if let Some(found) = &self.ahead {
+            return Ok(has_string(found));
+        }
+        Ok(false)
+    }
+
+    /// Refuses the token ahead. The cursor is spent from then on.
+    pub fn refuse(&mut self, reason: Reason) -> ReadError
+        requires { IsSome self.old.ahead }
+        ensures error { IfSome self.old.ahead (λ x. (result ≡ ReadError.Text (fault_at edif (proper x) reason)) × IsNear self.old.window x.stop) }
+        ensures spoilt { self.new ≡ spoilt self.old }
+    {
+        match self.ahead.take() {
+            Some(found) => self.refuse_at(found.place, found.stop, reason),
+            None => unreachable!(),
+        }
+    }
+
+    /// Takes the end of the input.
+    #[tactic(auto, using(crate::proofs::Looks::ends))]
+    pub fn end_of_input<S: Source>(
+        &mut self,
+        alloc: Global,
+        source: &mut S,
+    ) -> Result<(), ReadError>
+        ensures { Ends edif trailing result self.old self.new (supply S.left S.faults source.old) (supply S.left S.faults source.new) }
+    {
+        if self.look(alloc, source)? {
+            return Err(self.refuse(Reason::Trailing));
+        }
+        Ok(())
+    }
+
+    /// Adds an item to a list. Where memory runs out the cursor is spent from then on, and the list is as before.
+    pub fn add<T: Drop>(&mut self, list: &mut Seq<T>, item: T) -> Result<(), ReadError>
+        requires { IsFalse self.old.spent }
+        ensures { Adds item result self.old self.new list.old list.new }
+    {
+        match list.push(item) {
+            Ok(()) => Ok(()),
+            Err(_) => Err(self.no_memory()),
+        }
+    }
+
+    /// Spends the cursor where memory has run out.
+    pub fn no_memory(&mut self) -> ReadError
+        ensures error { result ≡ ReadError.NoMemory }
+        ensures spoilt { self.new ≡ spoilt self.old }
+    {
+        self.spent = true;
+        self.ahead = None;
+        ReadError::NoMemory
+    }
+
+    /// Spends the cursor where a token is missing at the end of the input.
+    fn ended(&mut self) -> ReadError
+        ensures error { result ≡ ReadError.Text (end_fault self.old.window) }
+        ensures spoilt { self.new ≡ spoilt self.old }
+    {
+        let end = self.tokens.here();
+        self.refuse_at(end, end.offset, Reason::EndOfInput)
+    }
+}
+
+#[tactic(auto, unfolding(crate::specs::Reasons::opens))]
+fn opens(found: &Found) -> bool
+    ensures { result ≡ opens found.now }
+{
+    matches!(&found.token, Token::LeftParen)
+}
+
+#[tactic(auto, unfolding(crate::specs::Reasons::has_string))]
+fn has_string(found: &Found) -> bool
+    ensures { result ≡ has_string found.now }
+{
+    matches!(&found.token, Token::Str(_))
+}

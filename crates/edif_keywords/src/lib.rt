@@ -1,0 +1,27 @@
+// The keywords of EDIF 2 0 0, the aliases that a text gives them, and a cursor that reads the parts of a text.
+//
+// The public contract in plain words: a word is a keyword exactly where it is the keyword's spelling up to case; it means that keyword,
+// or else the one of the alias that it is up to case. An alias is refused exactly where it means a keyword already or its known word means
+// none. Each call of `Cursor` takes one part of the grammar (a token, the beginning of a form, the header, a comment) from the tokens ahead,
+// whatever the pieces of the source, or answers that part's first fault with its place and reason; a source that fails and want of
+// memory aside, it answers nothing else. A cursor that has answered any error answers `Spent` from then on (EDIF 2 0 0, keywordMap and
+// basic syntax).
+#![tactic(auto)]
+
+pub mod aliases;
+pub mod comment;
+pub mod cursor;
+pub mod find;
+pub mod header;
+pub mod keyword;
+pub mod parts;
+mod reasons;
+
+pub use aliases::{AliasFault, Aliases};
+pub use comment::read_comment;
+pub use cursor::Cursor;
+pub use find::find_keyword;
+pub use keyword::{Keyword, is_among, spelling};
+
+#[cfg(test)]
+mod tests;

@@ -1,0 +1,108 @@
+// The calls that take one token, or the beginning of a form.
+ghost use Rattle.std.specs.Prelude.{◌≡◌};
+ghost use Rattle.readers.specs.Sources.{supply};
+ghost use Rattle.readers.specs.Readers.{same, Reads};
+ghost use Rattle.edif_keywords.specs.Language.{edif};
+ghost use Rattle.edif_keywords.specs.Grammar.{word, string, integer, opening, closing, choice, view_type, keyword, begin};
+ghost use Rattle.edif_keywords.specs.Reasons.{rows};
+
+use crate::cursor::Cursor;
+use crate::keyword::Keyword;
+use crate::reasons::{
+    choice_of, closing_of, integer_of, keyword_of, opening_of, string_of, view_type_of, word_of,
+};
+use edif_tokens::Found;
+use nl_base::{Ident, Int, ReadError, Text};
+use nl_io::Source;
+use std::alloc::Global;
+
+impl Cursor {
+    /// Takes a token: a word.
+    pub fn word<S: Source>(&mut self, alloc: Global, source: &mut S) -> Result<Ident, ReadError>
+        ensures { Reads edif same word result self.old self.new (supply S.left S.faults source.old) (supply S.left S.faults source.new) }
+    {
+        let Found { place, stop, token } = self.take(alloc, source)?;
+        self.judged(place, stop, word_of(token))
+    }
+
+    /// Takes a token: a string.
+    pub fn string<S: Source>(&mut self, alloc: Global, source: &mut S) -> Result<Text, ReadError>
+        ensures { Reads edif same string result self.old self.new (supply S.left S.faults source.old) (supply S.left S.faults source.new) }
+    {
+        let Found { place, stop, token } = self.take(alloc, source)?;
+        self.judged(place, stop, string_of(token))
+    }
+
+    /// Takes a token: an integer.
+    pub fn int<S: Source>(&mut self, alloc: Global, source: &mut S) -> Result<Int, ReadError>
+        ensures { Reads edif same integer result self.old self.new (supply S.left S.faults source.old) (supply S.left S.faults source.new) }
+    {
+        let Found { place, stop, token } = self.take(alloc, source)?;
+        self.judged(place, stop, integer_of(token))
+    }
+
+    /// Takes a token: a `(` after which no keyword is due.
+    pub fn begin_list<S: Source>(&mut self, alloc: Global, source: &mut S) -> Result<(), ReadError>
+        ensures { Reads edif same opening result self.old self.new (supply S.left S.faults source.old) (supply S.left S.faults source.new) }
+    {
+        let Found { place, stop, token } = self.take(alloc, source)?;
+        self.judged(place, stop, opening_of(token))
+    }
+
+    /// Takes a token: the `)` of a form or a list.
+    pub fn finish_form<S: Source>(&mut self, alloc: Global, source: &mut S) -> Result<(), ReadError>
+        ensures { Reads edif same closing result self.old self.new (supply S.left S.faults source.old) (supply S.left S.faults source.new) }
+    {
+        let Found { place, stop, token } = self.take(alloc, source)?;
+        self.judged(place, stop, closing_of(token))
+    }
+
+    /// Takes a token: the word NETLIST of a `viewType`, up to case.
+    pub fn view_type<S: Source>(&mut self, alloc: Global, source: &mut S) -> Result<(), ReadError>
+        ensures { Reads edif same view_type result self.old self.new (supply S.left S.faults source.old) (supply S.left S.faults source.new) }
+    {
+        let Found { place, stop, token } = self.take(alloc, source)?;
+        self.judged(place, stop, view_type_of(token))
+    }
+
+    /// Takes one of some words, up to case, and answers its value. The words are no keywords and take no alias.
+    pub fn choose<T: Copy, S: Source>(
+        &mut self,
+        alloc: Global,
+        words: &[(&[u8], T)],
+        source: &mut S,
+    ) -> Result<T, ReadError>
+        ensures { Reads edif same (choice (rows words.now)) result self.old self.new (supply S.left S.faults source.old) (supply S.left S.faults source.new) }
+    {
+        let Found { place, stop, token } = self.take(alloc, source)?;
+        self.judged(place, stop, choice_of(words, token))
+    }
+
+    /// Takes `(` and one of the allowed keywords, by the aliases.
+    #[tactic(auto, using(readers::proofs::Reading::sequences), unfolding(crate::specs::Grammar::begin))]
+    pub fn begin<S: Source>(
+        &mut self,
+        alloc: Global,
+        allowed: &[Keyword],
+        source: &mut S,
+    ) -> Result<Keyword, ReadError>
+        ensures { Reads edif same (begin allowed.now) result self.old self.new (supply S.left S.faults source.old) (supply S.left S.faults source.new) }
+    {
+        self.begin_list(alloc, source)?;
+        self.keyword(alloc, allowed, source)
+    }
+
+    /// Takes one of the allowed keywords, by the aliases.
+    fn keyword<S: Source>(
+        &mut self,
+        alloc: Global,
+        allowed: &[Keyword],
+        source: &mut S,
+    ) -> Result<Keyword, ReadError>
+        ensures { Reads edif same (keyword allowed.now) result self.old self.new (supply S.left S.faults source.old) (supply S.left S.faults source.new) }
+    {
+        let Found { place, stop, token } = self.take(alloc, source)?;
+        let said = keyword_of(allowed, &self.aliases, token);
+        self.judged(place, stop, said)
+    }
+}
