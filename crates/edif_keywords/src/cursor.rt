@@ -1,4 +1,4 @@
-ghost use Rattle.std.specs.Prelude.{◌≡◌, None, [], IfOk, IfSome, IsSome, IsNone, IsTrue, IsFalse, option_map};
+ghost use Rattle.std.specs.Prelude.{◌≡◌, None, [], IfOk, OnOk, IfSome, IsSome, IsNone, IsTrue, IsFalse, option_map};
 ghost use Rattle.readers.specs.Parts.{any};
 ghost use Rattle.readers.specs.Sources.{supply, IsNear};
 ghost use Rattle.readers.specs.Readers.{same, fault_at, end_fault, spoilt, Reads, Looks, LooksAt, LooksFor, Ends, Adds};
@@ -143,7 +143,8 @@ impl Cursor {
     /// Makes the next token the one ahead, which has to be there, and answers whether it is `(`. It takes nothing.
     #[tactic(auto, using(crate::proofs::Looks::forms_next))]
     pub fn at_form<S: Source>(&mut self, alloc: Global, source: &mut S) -> Result<bool, ReadError>
-        ensures { LooksAt edif opens result self.old self.new (supply S.left S.faults source.old) (supply S.left S.faults source.new) }
+        ensures looks { LooksAt edif opens result self.old self.new (supply S.left S.faults source.old) (supply S.left S.faults source.new) }
+        ensures ahead { OnOk result (IsSome self.new.ahead) }
     {
         self.look(alloc, source)?;
         match &self.ahead {

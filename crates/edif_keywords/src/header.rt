@@ -52,8 +52,9 @@ impl Cursor {
         self.judged(place, stop, version_of(due, token))
     }
 
+    /// Takes `edifLevel`, which is 0.
     #[tactic(auto, using(readers::proofs::Reading::sequences), unfolding(crate::specs::Grammar::level))]
-    fn level<S: Source>(&mut self, alloc: Global, source: &mut S) -> Result<(), ReadError>
+    pub fn level<S: Source>(&mut self, alloc: Global, source: &mut S) -> Result<(), ReadError>
         ensures { Reads edif same level result self.old self.new (supply S.left S.faults source.old) (supply S.left S.faults source.new) }
     {
         self.begin(alloc, &[Keyword::EdifLevel], source)?;

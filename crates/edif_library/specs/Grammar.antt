@@ -1,0 +1,403 @@
+-- The productions of views, cells, libraries, designs and the file (EDIF 2 0 0, forms view, viewType, interface, contents, cell, cellType, library,
+-- external, technology, numberDefinition, scale, unit, design, edif). Each reads on after its keyword, up to the `)` of the form.
+use Rattle.std.specs.Prelude.{ℕ, Bool, true, false, List, [], ◌∷◌, ◌×◌, codes, if◌then◌else◌}
+use Rattle.std.specs.List.{list_any}
+use Rattle.grammar.specs.Part.{gives, sequence, under, ◌>>=◌}
+use Rattle.edif_keywords.specs.declared.keyword.Keyword.{Keyword}
+use Rattle.edif_keywords.specs.declared.keyword.Keyword.TheVariants as k
+use Rattle.edif_keywords.specs.Keywords.{same_keyword}
+use Rattle.edif_keywords.specs.Aliases.{Alias}
+use Rattle.edif_keywords.specs.Language.{Edif}
+use Rattle.edif_keywords.specs.Grammar.{word, closing, choice, view_type, begin, items, level, header}
+use Rattle.edif_names.specs.declared.name.NameDef.{NameDef}
+use Rattle.edif_names.specs.Grammar.{name, scaled, property}
+use Rattle.edif_status.specs.declared.status.Note.{Note}
+use Rattle.edif_status.specs.Grammar.{note, note_keywords, status}
+use Rattle.edif_nets.specs.Grammar.{designator, port, instance, net}
+use Rattle.edif_library.specs.declared.view.InterfaceItem.{InterfaceItem}
+use Rattle.edif_library.specs.declared.view.InterfaceItem.TheVariants as interface_items
+use Rattle.edif_library.specs.declared.view.ContentsItem.{ContentsItem}
+use Rattle.edif_library.specs.declared.view.ContentsItem.TheVariants as contents_items
+use Rattle.edif_library.specs.declared.view.ViewItem.{ViewItem}
+use Rattle.edif_library.specs.declared.view.ViewItem.TheVariants as view_items
+use Rattle.edif_library.specs.declared.view.View.{View}
+use Rattle.edif_library.specs.declared.cell.CellKind.{CellKind}
+use Rattle.edif_library.specs.declared.cell.CellKind.TheVariants as kinds
+use Rattle.edif_library.specs.declared.cell.CellItem.{CellItem}
+use Rattle.edif_library.specs.declared.cell.CellItem.TheVariants as cell_items
+use Rattle.edif_library.specs.declared.cell.Cell.{Cell}
+use Rattle.edif_library.specs.declared.library.Scale.{Scale}
+use Rattle.edif_library.specs.declared.library.LibraryItem.{LibraryItem}
+use Rattle.edif_library.specs.declared.library.LibraryItem.TheVariants as library_items
+use Rattle.edif_library.specs.declared.library.Library.{Library}
+use Rattle.edif_library.specs.declared.file.DesignItem.{DesignItem}
+use Rattle.edif_library.specs.declared.file.DesignItem.TheVariants as design_items
+use Rattle.edif_library.specs.declared.file.Design.{Design}
+use Rattle.edif_library.specs.declared.file.FileItem.{FileItem}
+use Rattle.edif_library.specs.declared.file.FileItem.TheVariants as file_items
+use Rattle.edif_library.specs.declared.file.EdifFile.{EdifFile}
+
+-- ---- interfaces and contents
+
+-- a port, property, designator or note of an interface
+unfoldable pub interface_port : Edif InterfaceItem
+interface_port = do
+  p ← port
+  gives (interface_items.Port p)
+
+unfoldable pub interface_property : Edif InterfaceItem
+interface_property = do
+  p ← property
+  gives (interface_items.Property p)
+
+unfoldable pub interface_designator : Edif InterfaceItem
+interface_designator = do
+  s ← designator
+  gives (interface_items.Designator s)
+
+unfoldable pub interface_note : Keyword → Edif InterfaceItem
+interface_note q = do
+  n ← note q
+  gives (interface_items.Note n)
+
+-- port | property | designator | note
+abbrev pub interface_item : Keyword → Edif InterfaceItem
+interface_item q =
+    if same_keyword q k.Port then interface_port
+    else (if same_keyword q k.Property then interface_property
+    else (if same_keyword q k.Designator then interface_designator else interface_note q))
+
+-- {port | property | designator | note} ), after some
+unfoldable pub interface_rest : List InterfaceItem → Edif (List InterfaceItem)
+interface_rest = items (λ _. k.Port ∷ k.Property ∷ k.Designator ∷ note_keywords) interface_item
+
+-- interface = ( interface {port | property | designator | note} )
+unfoldable pub interface : Edif (List InterfaceItem)
+interface = do
+  _ ← begin (k.Interface ∷ [])
+  interface_rest []
+
+-- an instance, net or note of the contents
+unfoldable pub contents_instance : Edif ContentsItem
+contents_instance = do
+  u ← instance
+  gives (contents_items.Instance u)
+
+unfoldable pub contents_net : Edif ContentsItem
+contents_net = do
+  n ← net
+  gives (contents_items.Net n)
+
+unfoldable pub contents_note : Keyword → Edif ContentsItem
+contents_note q = do
+  n ← note q
+  gives (contents_items.Note n)
+
+-- instance | net | note
+abbrev pub contents_item : Keyword → Edif ContentsItem
+contents_item q = if same_keyword q k.Instance then contents_instance else (if same_keyword q k.Net then contents_net else contents_note q)
+
+-- {instance | net | note} ), after some
+-- contents  = ( contents {instance | net | note} )
+unfoldable pub contents_rest : List ContentsItem → Edif (List ContentsItem)
+contents_rest = items (λ _. k.Instance ∷ k.Net ∷ note_keywords) contents_item
+
+-- ---- views
+
+-- contents, a property, a status or a note of a view
+unfoldable pub view_contents : Edif ViewItem
+view_contents = do
+  is ← contents_rest []
+  gives (view_items.Contents is)
+
+unfoldable pub view_property : Edif ViewItem
+view_property = do
+  p ← property
+  gives (view_items.Property p)
+
+unfoldable pub view_status : Edif ViewItem
+view_status = do
+  s ← status
+  gives (view_items.Status s)
+
+unfoldable pub view_note : Keyword → Edif ViewItem
+view_note q = do
+  n ← note q
+  gives (view_items.Note n)
+
+-- contents | property | status | note
+abbrev pub view_item : Keyword → Edif ViewItem
+view_item q =
+    if same_keyword q k.Contents then view_contents
+    else (if same_keyword q k.Property then view_property
+    else (if same_keyword q k.Status then view_status else view_note q))
+
+-- whether an item is contents
+abbrev pub is_contents : ViewItem → Bool
+is_contents (view_items.Contents is) = true
+is_contents (view_items.Property p) = false
+is_contents (view_items.Status s) = false
+is_contents (view_items.Note n) = false
+
+-- whether some items have contents
+unfoldable pub has_contents : List ViewItem → Bool
+has_contents is = list_any is_contents is
+
+-- the keywords that may stand in a view, which has contents already or not: at most one contents
+abbrev pub view_keywords : Bool → List Keyword
+view_keywords false = k.Contents ∷ k.Property ∷ k.Status ∷ note_keywords
+view_keywords true = k.Property ∷ k.Status ∷ note_keywords
+
+-- {contents | property | status | note} ), after some
+unfoldable pub view_rest : List ViewItem → Edif (List ViewItem)
+view_rest = items (λ so_far. view_keywords (has_contents so_far)) view_item
+
+-- ( viewType NETLIST )
+unfoldable pub netlist : Edif (Unit {0})
+netlist = do
+  _ ← begin (k.ViewType ∷ [])
+  _ ← view_type
+  closing
+
+-- view      = ( view NAME ( viewType NETLIST ) interface {contents | property | status | note} )
+unfoldable pub view : Edif View
+view = do
+  n ← name
+  _ ← netlist
+  ps ← interface
+  is ← view_rest []
+  gives (record { name = n; interface = ps; items = is })
+
+-- ---- cells
+
+-- KIND      = GENERIC | TIE | RIPPER
+abbrev pub kind_words : List (List ℕ × CellKind)
+kind_words = (codes "GENERIC", kinds.Generic) ∷ (codes "TIE", kinds.Tie) ∷ (codes "RIPPER", kinds.Ripper) ∷ []
+
+-- ( cellType KIND )
+unfoldable pub cell_type : Edif CellKind
+cell_type = do
+  _ ← begin (k.CellType ∷ [])
+  kind ← choice kind_words
+  _ ← closing
+  gives kind
+
+-- a view, a property, a status or a note of a cell
+unfoldable pub cell_view : Edif CellItem
+cell_view = do
+  v ← view
+  gives (cell_items.View v)
+
+unfoldable pub cell_property : Edif CellItem
+cell_property = do
+  p ← property
+  gives (cell_items.Property p)
+
+unfoldable pub cell_status : Edif CellItem
+cell_status = do
+  s ← status
+  gives (cell_items.Status s)
+
+unfoldable pub cell_note : Keyword → Edif CellItem
+cell_note q = do
+  n ← note q
+  gives (cell_items.Note n)
+
+-- view | property | status | note
+abbrev pub cell_item : Keyword → Edif CellItem
+cell_item q =
+    if same_keyword q k.View then cell_view
+    else (if same_keyword q k.Property then cell_property
+    else (if same_keyword q k.Status then cell_status else cell_note q))
+
+-- whether an item is a view
+abbrev pub is_view : CellItem → Bool
+is_view (cell_items.View v) = true
+is_view (cell_items.Property p) = false
+is_view (cell_items.Status s) = false
+is_view (cell_items.Note n) = false
+
+-- whether some items have a view
+unfoldable pub has_view : List CellItem → Bool
+has_view is = list_any is_view is
+
+-- the keywords that may stand in a cell, which has a view already or not: at most one view
+abbrev pub cell_keywords : Bool → List Keyword
+cell_keywords false = k.View ∷ k.Property ∷ k.Status ∷ note_keywords
+cell_keywords true = k.Property ∷ k.Status ∷ note_keywords
+
+-- {view | property | status | note} ), after some
+unfoldable pub cell_rest : List CellItem → Edif (List CellItem)
+cell_rest = items (λ so_far. cell_keywords (has_view so_far)) cell_item
+
+-- cell      = ( cell NAME ( cellType KIND ) {view | property | status | note} )
+unfoldable pub cell : Edif Cell
+cell = do
+  n ← name
+  kind ← cell_type
+  is ← cell_rest []
+  gives (record { name = n; kind = kind; items = is })
+
+-- ---- libraries
+
+-- ( unit IDENT )
+unfoldable pub unit : Edif (List ℕ)
+unit = do
+  _ ← begin (k.Unit ∷ [])
+  w ← word
+  _ ← closing
+  gives w
+
+-- scale     = ( scale SCALED SCALED ( unit IDENT ) )
+unfoldable pub scale : Edif Scale
+scale = do
+  l ← scaled
+  r ← scaled
+  u ← unit
+  _ ← closing
+  gives (record { left = l; right = r; unit = u })
+
+-- {scale} ), after some
+unfoldable pub scales_rest : List Scale → Edif (List Scale)
+scales_rest = items (λ _. k.Scale ∷ []) (λ _. scale)
+
+-- {note} ), after some
+unfoldable pub notes_rest : List Note → Edif (List Note)
+notes_rest = items (λ _. note_keywords) note
+
+-- ( numberDefinition {scale} ), after `( technology`
+unfoldable pub number_definition : Edif (List Scale)
+number_definition = do
+  _ ← begin (k.NumberDefinition ∷ [])
+  scales_rest []
+
+-- a cell, a status or a note of a library
+unfoldable pub library_cell : Edif LibraryItem
+library_cell = do
+  c ← cell
+  gives (library_items.Cell c)
+
+unfoldable pub library_status : Edif LibraryItem
+library_status = do
+  s ← status
+  gives (library_items.Status s)
+
+unfoldable pub library_note : Keyword → Edif LibraryItem
+library_note q = do
+  n ← note q
+  gives (library_items.Note n)
+
+-- cell | status | note
+abbrev pub library_item : Keyword → Edif LibraryItem
+library_item q = if same_keyword q k.Cell then library_cell else (if same_keyword q k.Status then library_status else library_note q)
+
+-- {cell | status | note} ), after some
+unfoldable pub library_rest : List LibraryItem → Edif (List LibraryItem)
+library_rest = items (λ _. k.Cell ∷ k.Status ∷ note_keywords) library_item
+
+-- LIB       = NAME ( edifLevel 0 ) ( technology ( numberDefinition {scale} ) {note} ) {cell | status | note}
+-- library   = ( library LIB ) | ( external LIB )
+unfoldable pub library : Bool → Edif Library
+library external = do
+  n ← name
+  _ ← level
+  _ ← begin (k.Technology ∷ [])
+  ss ← number_definition
+  ns ← notes_rest []
+  is ← library_rest []
+  gives (record { external = external; name = n; scales = ss; notes = ns; items = is })
+
+-- ---- designs
+
+-- ( libraryRef IDENT )
+unfoldable pub library_ref : Edif (List ℕ)
+library_ref = do
+  _ ← begin (k.LibraryRef ∷ [])
+  w ← word
+  _ ← closing
+  gives w
+
+-- a property, a status or a note of a design
+unfoldable pub design_property : Edif DesignItem
+design_property = do
+  p ← property
+  gives (design_items.Property p)
+
+unfoldable pub design_status : Edif DesignItem
+design_status = do
+  s ← status
+  gives (design_items.Status s)
+
+unfoldable pub design_note : Keyword → Edif DesignItem
+design_note q = do
+  n ← note q
+  gives (design_items.Note n)
+
+-- property | status | note
+abbrev pub design_item : Keyword → Edif DesignItem
+design_item q = if same_keyword q k.Property then design_property else (if same_keyword q k.Status then design_status else design_note q)
+
+-- {property | status | note} ), after some
+unfoldable pub design_rest : List DesignItem → Edif (List DesignItem)
+design_rest = items (λ _. k.Property ∷ k.Status ∷ note_keywords) design_item
+
+-- design    = ( design NAME ( cellRef IDENT ( libraryRef IDENT ) ) {property | status | note} )
+unfoldable pub design : Edif Design
+design = do
+  n ← name
+  _ ← begin (k.CellRef ∷ [])
+  c ← word
+  l ← library_ref
+  _ ← closing
+  is ← design_rest []
+  gives (record { name = n; cell = c; library = l; items = is })
+
+-- ---- the file
+
+-- a library, a design, a status or a note of a file
+unfoldable pub file_library : Bool → Edif FileItem
+file_library external = do
+  l ← library external
+  gives (file_items.Library l)
+
+unfoldable pub file_design : Edif FileItem
+file_design = do
+  d ← design
+  gives (file_items.Design d)
+
+unfoldable pub file_status : Edif FileItem
+file_status = do
+  s ← status
+  gives (file_items.Status s)
+
+unfoldable pub file_note : Keyword → Edif FileItem
+file_note q = do
+  n ← note q
+  gives (file_items.Note n)
+
+-- fileItem  = library | design | status | note
+abbrev pub file_item : Keyword → Edif FileItem
+file_item q =
+    if same_keyword q k.Library then file_library false
+    else (if same_keyword q k.External then file_library true
+    else (if same_keyword q k.Design then file_design
+    else (if same_keyword q k.Status then file_status else file_note q)))
+
+-- {fileItem} ), after some
+unfoldable pub file_rest : List FileItem → Edif (List FileItem)
+file_rest = items (λ _. k.Library ∷ k.External ∷ k.Design ∷ k.Status ∷ note_keywords) file_item
+
+-- what stands behind the header, under the aliases that it gives
+unfoldable pub file_body : NameDef → Edif EdifFile
+file_body n = do
+  is ← file_rest []
+  gives (record { name = n; items = is })
+
+-- file      = ( edif NAME ( edifVersion 2 0 0 ) ( edifLevel 0 ) map {fileItem} ) end of input
+-- The end of the input is no part of it.
+unfoldable pub file : List Alias → Edif EdifFile
+file table = do
+  _ ← begin (k.Edif ∷ [])
+  n ← name
+  aliases ← header table
+  under aliases (file_body n)

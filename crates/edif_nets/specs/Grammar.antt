@@ -1,0 +1,238 @@
+-- The productions of ports, instances and nets (EDIF 2 0 0, forms port, direction, designator, instance, viewRef, cellRef, libraryRef, net,
+-- joined, portRef, member, instanceRef). Each reads on after its keyword, up to the `)` of the form.
+use Rattle.std.specs.Prelude.{ℕ, ℤ, Bool, true, false, List, [], ◌∷◌, ◌×◌, Option, Some, None, codes, if◌then◌else◌}
+use Rattle.std.specs.List.{list_any}
+use Rattle.grammar.specs.Part.{gives, sequence, ◌>>=◌}
+use Rattle.nl_base.specs.declared.value.Dir.{Dir}
+use Rattle.nl_base.specs.declared.value.Dir.TheVariants as dirs
+use Rattle.edif_keywords.specs.declared.keyword.Keyword.{Keyword}
+use Rattle.edif_keywords.specs.declared.keyword.Keyword.TheVariants as k
+use Rattle.edif_keywords.specs.Keywords.{same_keyword}
+use Rattle.edif_keywords.specs.Language.{Edif}
+use Rattle.edif_keywords.specs.Grammar.{word, string, integer, closing, choice, begin, items, form_or}
+use Rattle.edif_names.specs.Grammar.{name, port_name, property}
+use Rattle.edif_status.specs.Grammar.{note, note_keywords}
+use Rattle.edif_nets.specs.declared.port.PortItem.{PortItem}
+use Rattle.edif_nets.specs.declared.port.PortItem.TheVariants as port_items
+use Rattle.edif_nets.specs.declared.port.Port.{Port}
+use Rattle.edif_nets.specs.declared.instance.InstanceItem.{InstanceItem}
+use Rattle.edif_nets.specs.declared.instance.InstanceItem.TheVariants as instance_items
+use Rattle.edif_nets.specs.declared.instance.Instance.{Instance}
+use Rattle.edif_nets.specs.declared.net.PortRef.{PortRef}
+use Rattle.edif_nets.specs.declared.net.NetItem.{NetItem}
+use Rattle.edif_nets.specs.declared.net.NetItem.TheVariants as net_items
+use Rattle.edif_nets.specs.declared.net.Net.{Net}
+
+-- designator= ( designator STR )
+unfoldable pub designator : Edif (List ℕ)
+designator = do
+  s ← string
+  _ ← closing
+  gives s
+
+-- ---- ports
+
+-- DIR is INPUT, OUTPUT or INOUT
+abbrev pub direction_words : List (List ℕ × Dir)
+direction_words = (codes "INPUT", dirs.Input) ∷ (codes "OUTPUT", dirs.Output) ∷ (codes "INOUT", dirs.Inout) ∷ []
+
+-- direction = ( direction DIR )
+unfoldable pub direction : Edif PortItem
+direction = do
+  d ← choice direction_words
+  _ ← closing
+  gives (port_items.Direction d)
+
+-- a property of a port
+unfoldable pub port_property : Edif PortItem
+port_property = do
+  p ← property
+  gives (port_items.Property p)
+
+-- a designator of a port
+unfoldable pub port_designator : Edif PortItem
+port_designator = do
+  s ← designator
+  gives (port_items.Designator s)
+
+-- a note of a port
+unfoldable pub port_note : Keyword → Edif PortItem
+port_note q = do
+  n ← note q
+  gives (port_items.Note n)
+
+-- direction | property | designator | note
+abbrev pub port_item : Keyword → Edif PortItem
+port_item q =
+    if same_keyword q k.Direction then direction
+    else (if same_keyword q k.Property then port_property
+    else (if same_keyword q k.Designator then port_designator else port_note q))
+
+-- whether an item is a direction
+abbrev pub is_direction : PortItem → Bool
+is_direction (port_items.Direction d) = true
+is_direction (port_items.Property p) = false
+is_direction (port_items.Designator s) = false
+is_direction (port_items.Note n) = false
+
+-- whether some items have a direction
+unfoldable pub has_direction : List PortItem → Bool
+has_direction is = list_any is_direction is
+
+-- the keywords that may stand in a port, which has a direction already or not: at most one direction
+abbrev pub port_keywords : Bool → List Keyword
+port_keywords false = k.Direction ∷ k.Property ∷ k.Designator ∷ note_keywords
+port_keywords true = k.Property ∷ k.Designator ∷ note_keywords
+
+-- {direction | property | designator | note} ), after some
+unfoldable pub port_rest : List PortItem → Edif (List PortItem)
+port_rest = items (λ so_far. port_keywords (has_direction so_far)) port_item
+
+-- port      = ( port PORTNAME {direction | property | designator | note} )
+unfoldable pub port : Edif Port
+port = do
+  n ← port_name
+  is ← port_rest []
+  gives (record { name = n; items = is })
+
+-- ---- instances
+
+-- IDENT ) ), after `( libraryRef`: with the `)` of the form around it
+unfoldable pub library_named : Edif (Option (List ℕ))
+library_named = do
+  w ← word
+  _ ← closing
+  _ ← closing
+  gives (Some w)
+
+-- ), where no library is named
+unfoldable pub no_library : Edif (Option (List ℕ))
+no_library = do
+  _ ← closing
+  gives None
+
+-- [( libraryRef IDENT )] ), with the `)` of the form around it
+unfoldable pub maybe_library : Edif (Option (List ℕ))
+maybe_library = form_or (k.LibraryRef ∷ []) (λ _. library_named) no_library
+
+-- a property of an instance
+unfoldable pub instance_property : Edif InstanceItem
+instance_property = do
+  p ← property
+  gives (instance_items.Property p)
+
+-- a designator of an instance
+unfoldable pub instance_designator : Edif InstanceItem
+instance_designator = do
+  s ← designator
+  gives (instance_items.Designator s)
+
+-- a note of an instance
+unfoldable pub instance_note : Keyword → Edif InstanceItem
+instance_note q = do
+  n ← note q
+  gives (instance_items.Note n)
+
+-- property | designator | note
+abbrev pub instance_item : Keyword → Edif InstanceItem
+instance_item q = if same_keyword q k.Property then instance_property else (if same_keyword q k.Designator then instance_designator else instance_note q)
+
+-- {property | designator | note} ), after some
+unfoldable pub instance_rest : List InstanceItem → Edif (List InstanceItem)
+instance_rest = items (λ _. k.Property ∷ k.Designator ∷ note_keywords) instance_item
+
+-- instance  = ( instance NAME ( viewRef IDENT ( cellRef IDENT [( libraryRef IDENT )] ) ) {property | designator | note} )
+unfoldable pub instance : Edif Instance
+instance = do
+  n ← name
+  _ ← begin (k.ViewRef ∷ [])
+  v ← word
+  _ ← begin (k.CellRef ∷ [])
+  c ← word
+  l ← maybe_library
+  _ ← closing
+  is ← instance_rest []
+  gives (record { name = n; view = v; cell = c; library = l; items = is })
+
+-- ---- nets
+
+-- IDENT INT ), after `( member`
+unfoldable pub member : Edif (List ℕ × Option ℤ)
+member = do
+  w ← word
+  i ← integer
+  _ ← closing
+  gives (w, Some i)
+
+-- IDENT as a reference to a whole port
+unfoldable pub whole_port : Edif (List ℕ × Option ℤ)
+whole_port = do
+  w ← word
+  gives (w, None)
+
+-- PREF      = IDENT | ( member IDENT INT )
+unfoldable pub port_or_member : Edif (List ℕ × Option ℤ)
+port_or_member = form_or (k.Member ∷ []) (λ _. member) whole_port
+
+-- IDENT ) ), after `( instanceRef`: with the `)` of the form around it
+unfoldable pub instance_named : Edif (Option (List ℕ))
+instance_named = do
+  w ← word
+  _ ← closing
+  _ ← closing
+  gives (Some w)
+
+-- ), where no instance is named
+unfoldable pub no_instance : Edif (Option (List ℕ))
+no_instance = do
+  _ ← closing
+  gives None
+
+-- [( instanceRef IDENT )] ), with the `)` of the form around it
+unfoldable pub maybe_instance : Edif (Option (List ℕ))
+maybe_instance = form_or (k.InstanceRef ∷ []) (λ _. instance_named) no_instance
+
+-- portRef   = ( portRef PREF [( instanceRef IDENT )] )
+unfoldable pub port_ref : Edif PortRef
+port_ref = do
+  p ← port_or_member
+  u ← maybe_instance
+  gives (record { port = p.0; member = p.1; instance = u })
+
+-- {portRef} ), after some
+unfoldable pub joined_rest : List PortRef → Edif (List PortRef)
+joined_rest = items (λ _. k.PortRef ∷ []) (λ _. port_ref)
+
+-- ( joined {portRef} )
+unfoldable pub joined : Edif (List PortRef)
+joined = do
+  _ ← begin (k.Joined ∷ [])
+  joined_rest []
+
+-- a property of a net
+unfoldable pub net_property : Edif NetItem
+net_property = do
+  p ← property
+  gives (net_items.Property p)
+
+-- a note of a net
+unfoldable pub net_note : Keyword → Edif NetItem
+net_note q = do
+  n ← note q
+  gives (net_items.Note n)
+
+-- property | note
+abbrev pub net_item : Keyword → Edif NetItem
+net_item q = if same_keyword q k.Property then net_property else net_note q
+
+-- {property | note} ), after some
+unfoldable pub net_rest : List NetItem → Edif (List NetItem)
+net_rest = items (λ _. k.Property ∷ note_keywords) net_item
+
+-- net       = ( net NAME ( joined {portRef} ) {property | note} )
+unfoldable pub net : Edif Net
+net = do
+  n ← name
+  j ← joined
+  is ← net_rest []
+  gives (record { name = n; joined = j; items = is })
