@@ -1,6 +1,6 @@
 -- The productions of user data, notes and status (EDIF 2 0 0, forms userData, comment, status, written, timeStamp, author, program, version,
 -- dataOrigin). Each reads on after its keyword, up to the `)` of the form.
-use Rattle.std.specs.Prelude.{ℕ, zero, suc, Bool, true, false, List, [], ◌∷◌, ◌++◌, Option, Some, None, if◌then◌else◌}
+use Rattle.std.specs.Prelude.{ℕ, zero, suc, Bool, true, false, List, [], ◌∷◌, ◌++◌, Option, Some, None, cond}
 use Rattle.grammar.specs.Part.{Glance, takes, leaves, refuses, gives, sequence, ◌>>=◌}
 use Rattle.readers.specs.Parts.{while_next}
 use Rattle.nl_base.specs.declared.fault.Reason.{Reason}
@@ -79,7 +79,7 @@ user_note = do
 
 -- note      = comment | userData
 abbrev pub note : Keyword → Edif Note
-note q = if same_keyword q k.Comment then remark else user_note
+note q = cond (same_keyword q k.Comment) remark user_note
 
 -- the keywords of a note
 abbrev pub note_keywords : List Keyword
@@ -147,9 +147,7 @@ written_note q = do
 -- wItem     = ( author STR ) | ( program STR [( version STR )] ) | ( dataOrigin STR [( version STR )] ) | note
 abbrev pub written_item : Keyword → Edif WrittenItem
 written_item q =
-    if same_keyword q k.Author then author
-    else (if same_keyword q k.Program then program
-    else (if same_keyword q k.DataOrigin then data_origin else written_note q))
+    cond (same_keyword q k.Author) author (cond (same_keyword q k.Program) program (cond (same_keyword q k.DataOrigin) data_origin (written_note q)))
 
 -- the keywords that may stand in written
 abbrev pub written_keywords : List Keyword
@@ -181,7 +179,7 @@ status_note q = do
 
 -- written | note
 abbrev pub status_item : Keyword → Edif StatusItem
-status_item q = if same_keyword q k.Written then status_written else status_note q
+status_item q = cond (same_keyword q k.Written) status_written (status_note q)
 
 -- {written | note} ), after some
 unfoldable pub status_rest : List StatusItem → Edif (List StatusItem)
