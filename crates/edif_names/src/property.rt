@@ -42,7 +42,7 @@ pub fn read_property<S: Source>(
     Ok(Property { name, value, tail })
 }
 
-#[tactic(auto, using(edif_keywords::proofs::Forms::item_loops), unfolding(crate::specs::Grammar::tails))]
+#[tactic(auto, using(edif_keywords::proofs::Forms::item_loops), unfolding(crate::specs::Grammar::tails, crate::specs::Grammar::tail_item))]
 fn read_tails<S: Source>(
     alloc: Global,
     cursor: &mut Cursor,
