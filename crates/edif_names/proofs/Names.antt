@@ -1,5 +1,5 @@
 -- The name and the range of an array, by what the split of its text answers.
-use Rattle.std.proofs.Common.{◌≡◌, ◌∙◌, sym, ap, refl, ℕ, List, take, length, Option, Some, None, option_map, pos}
+use Rattle.std.proofs.Common.{◌≡◌, ◌∙◌, ap, refl, ℕ, List, take, length, Option, Some, None, option_map, pos}
 use Rattle.std.proofs.Math.Seq.{take-append_seam}
 use Rattle.nl_base.specs.Ranges.{Bounds, bracketed}
 use Rattle.nl_base.specs.RangeForm.{range_form}

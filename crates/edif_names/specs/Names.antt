@@ -1,5 +1,5 @@
 -- The original names of objects and of ports (EDIF 2 0 0, rename and array).
-use Rattle.std.specs.Prelude.{ℕ, ◌≤◌, ◌-◌, List, Option, Some, None, ℤ, pos, negsuc, ◌-ℤ◌, ⊤}
+use Rattle.std.specs.Prelude.{ℕ, ◌≤◌, List, Option, Some, None, ℤ, pos, negsuc, ◌-ℤ◌, ⊤}
 use Rattle.nl_base.specs.Ranges.{Bounds}
 use Rattle.nl_base.specs.RangeForm.{range_form}
 use Rattle.edif_names.specs.declared.name.NameDef.{NameDef}
