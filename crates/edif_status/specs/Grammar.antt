@@ -1,6 +1,6 @@
 -- The productions of user data, notes and status (EDIF 2 0 0, forms userData, comment, status, written, timeStamp, author, program, version,
 -- dataOrigin). Each reads on after its keyword, up to the `)` of the form.
-use Rattle.std.specs.Prelude.{ℕ, zero, suc, Bool, true, false, List, [], ◌∷◌, ◌++◌, Option, Some, None, Result, Ok, Err, ℤ}
+use Rattle.std.specs.Prelude.{ℕ, zero, suc, Bool, true, false, List, [], ◌∷◌, ◌++◌, Option, Some, None, Result, Ok, Err, ℤ, cond}
 use Rattle.grammar.specs.Part.{Glance, takes, leaves, refuses, gives, sequence, ◌>>=◌}
 use Rattle.readers.specs.Parts.{one, while_next}
 use Rattle.nl_base.specs.declared.fault.Reason.{Reason}
@@ -25,11 +25,6 @@ use Rattle.edif_status.specs.declared.written.Written.{Written}
 use Rattle.edif_status.specs.declared.status.StatusItem.{StatusItem}
 use Rattle.edif_status.specs.declared.status.StatusItem.TheVariants as status_items
 use Rattle.edif_status.specs.declared.status.Status.{Status}
-
--- one part or the other
-abbrev pub either : {A : Type 0} → Bool → Edif A → Edif A → Edif A
-either true p q = p
-either false p q = q
 
 -- ---- user data
 
@@ -147,7 +142,7 @@ user_note = do
 
 -- note      = comment | userData
 abbrev pub note : Keyword → Edif Note
-note q = either (same_keyword q k.Comment) remark user_note
+note q = cond (same_keyword q k.Comment) remark user_note
 
 -- the keywords of a note
 abbrev pub note_keywords : List Keyword
@@ -219,7 +214,7 @@ written_note q = do
 
 -- wItem     = ( author STR ) | ( program STR [( version STR )] ) | ( dataOrigin STR [( version STR )] ) | note
 abbrev pub written_item : Keyword → Edif WrittenItem
-written_item q = either (same_keyword q k.Author) author (either (same_keyword q k.Program) program (either (same_keyword q k.DataOrigin) data_origin (written_note q)))
+written_item q = cond (same_keyword q k.Author) author (cond (same_keyword q k.Program) program (cond (same_keyword q k.DataOrigin) data_origin (written_note q)))
 
 -- the keywords that may stand in written
 abbrev pub written_keywords : List Keyword
@@ -255,7 +250,7 @@ status_note q = do
 
 -- written | note
 abbrev pub status_item : Keyword → Edif StatusItem
-status_item q = either (same_keyword q k.Written) status_written (status_note q)
+status_item q = cond (same_keyword q k.Written) status_written (status_note q)
 
 -- the keywords that may stand in a status
 abbrev pub status_keywords : List Keyword

@@ -39,7 +39,7 @@ pub fn read_status<S: Source>(
 }
 
 /// Reads the parts of a status, up to the end of its form.
-#[tactic(auto, using(edif_keywords::proofs::Forms::item_loops), unfolding(crate::specs::Grammar::status_rest))]
+#[tactic(auto, using(edif_keywords::proofs::Forms::item_loops), unfolding(crate::specs::Grammar::status_rest, crate::specs::Grammar::status_part))]
 fn read_status_items<S: Source>(
     alloc: Global,
     cursor: &mut Cursor,

@@ -95,7 +95,7 @@ fn read_clock<S: Source>(
 }
 
 /// Reads what is told of a writing, up to the end of its form.
-#[tactic(auto, using(edif_keywords::proofs::Forms::item_loops), unfolding(crate::specs::Grammar::written_rest))]
+#[tactic(auto, using(edif_keywords::proofs::Forms::item_loops), unfolding(crate::specs::Grammar::written_rest, crate::specs::Grammar::written_part))]
 fn read_written_items<S: Source>(
     alloc: Global,
     cursor: &mut Cursor,
@@ -198,7 +198,7 @@ fn read_data_origin<S: Source>(
 }
 
 /// Reads the version of a program or origin, if there is one, and the end of the form around it.
-#[tactic(auto, using(edif_keywords::proofs::Forms::form_or_other), unfolding(crate::specs::Grammar::maybe_version))]
+#[tactic(auto, using(crate::proofs::Due::version_or_end), unfolding(crate::specs::Grammar::maybe_version))]
 fn read_version<S: Source>(
     alloc: Global,
     cursor: &mut Cursor,
