@@ -1,9 +1,9 @@
 -- What trees, a list and a leaf read as, after a look at the next token.
-use Rattle.std.proofs.Common.{◌≡◌, ◌∙◌, sym, ap, refl, subst, ℕ, zero, suc, ◌-◌, ◌<◌, true, false, Bool, List, [], ◌∷◌, ◌++◌, Option, Some, None, option_map, Result, Ok, Err, IsSome, IfSome, ℤ, arith}
+use Rattle.std.proofs.Common.{◌≡◌, ◌∙◌, sym, ap, refl, ℕ, zero, suc, ◌-◌, ◌<◌, true, false, Bool, List, [], ◌∷◌, ◌++◌, Option, Some, None, option_map, Result, Ok, Err, ℤ, arith}
 use Rattle.std.proofs.lemmas.List.{map_push}
 use Rattle.grammar.specs.Part.{gives, sequence, Glance, leaves}
 use Rattle.grammar.specs.Reading.{read, and_then, judged, glanced}
-use Rattle.grammar.specs.Whole.{Terminal, proper, end, Finish}
+use Rattle.grammar.specs.Whole.{Terminal, proper, end}
 use Rattle.nl_base.specs.declared.place.Place.{Place}
 use Rattle.nl_base.specs.declared.fault.Reason.{Reason}
 use Rattle.nl_base.specs.declared.fault.Reason.TheVariants as reasons
@@ -13,8 +13,8 @@ use Rattle.nl_bytes.specs.Bytes.{Window}
 use Rattle.edif_tokens.specs.declared.token.Found.{Found}
 use Rattle.edif_tokens.specs.declared.token.Token.{Token}
 use Rattle.edif_tokens.specs.declared.token.Token.TheVariants.{LeftParen, RightParen, Word, Number, Str}
-use Rattle.readers.specs.Parts.{one, any, if_next, while_next}
-use Rattle.readers.specs.Sources.{Supply, Ahead, IsNear, NearError, follow, tokens_ahead}
+use Rattle.readers.specs.Parts.{one, any, if_next}
+use Rattle.readers.specs.Sources.{Supply, Ahead, tokens_ahead}
 use Rattle.readers.specs.Readers.{Reader, reading, result_of, looking, then_left, stream, stream_of, behind, fault_at, FirstFits, IsNext, IsToken, IsCause}
 use Rattle.readers.proofs.Moving.{near_text, skip_none}
 use Rattle.readers.proofs.Looking.{seen_next, seen_none, cause_looking}
@@ -23,10 +23,10 @@ use Rattle.readers.proofs.Reading.{reading_then, sequences}
 use Rattle.edif_keywords.specs.Aliases.{Alias}
 use Rattle.edif_keywords.specs.Language.{edif, Edif}
 use Rattle.edif_keywords.specs.Reasons.{opens, is_opening, has_string, is_string, word_of}
-use Rattle.edif_keywords.specs.Grammar.{opening, closing, string, integer, word}
+use Rattle.edif_keywords.specs.Grammar.{closing, string, integer, word}
 use Rattle.edif_status.specs.declared.user.UserTree.{UserTree}
 use Rattle.edif_status.specs.declared.user.UserTree.TheVariants as tree
-use Rattle.edif_status.specs.Grammar.{TreeStart, Whole, Opens, tree_start, glance_of, tree_of, tree_rest, tree_by, trees_by, trees, user_tree, user_list, plain_of, leaf_of, plain, leaf, is_tree, is_number, begins_tree, has_number}
+use Rattle.edif_status.specs.Grammar.{TreeStart, tree_start, glance_of, tree_of, tree_rest, tree_by, trees_by, trees, user_tree, user_list, plain_of, leaf_of, plain, leaf, is_tree, is_number, begins_tree, has_number}
 
 -- ---- parts that read alike where the next token is known
 
