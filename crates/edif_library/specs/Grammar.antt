@@ -1,6 +1,6 @@
 -- The productions of views, cells, libraries, designs and the file (EDIF 2 0 0, forms view, viewType, interface, contents, cell, cellType, library,
 -- external, technology, numberDefinition, scale, unit, design, edif). Each reads on after its keyword, up to the `)` of the form.
-use Rattle.std.specs.Prelude.{ℕ, Bool, true, false, List, [], ◌∷◌, ◌×◌, codes, if◌then◌else◌}
+use Rattle.std.specs.Prelude.{ℕ, Bool, true, false, List, [], ◌∷◌, codes, cond}
 use Rattle.std.specs.List.{list_any}
 use Rattle.grammar.specs.Part.{gives, sequence, under, ◌>>=◌}
 use Rattle.edif_keywords.specs.declared.keyword.Keyword.{Keyword}
@@ -63,9 +63,7 @@ interface_note q = do
 -- port | property | designator | note
 abbrev pub interface_item : Keyword → Edif InterfaceItem
 interface_item q =
-    if same_keyword q k.Port then interface_port
-    else (if same_keyword q k.Property then interface_property
-    else (if same_keyword q k.Designator then interface_designator else interface_note q))
+    cond (same_keyword q k.Port) interface_port (cond (same_keyword q k.Property) interface_property (cond (same_keyword q k.Designator) interface_designator (interface_note q)))
 
 -- {port | property | designator | note} ), after some
 unfoldable pub interface_rest : List InterfaceItem → Edif (List InterfaceItem)
@@ -95,7 +93,7 @@ contents_note q = do
 
 -- instance | net | note
 abbrev pub contents_item : Keyword → Edif ContentsItem
-contents_item q = if same_keyword q k.Instance then contents_instance else (if same_keyword q k.Net then contents_net else contents_note q)
+contents_item q = cond (same_keyword q k.Instance) contents_instance (cond (same_keyword q k.Net) contents_net (contents_note q))
 
 -- {instance | net | note} ), after some
 -- contents  = ( contents {instance | net | note} )
@@ -128,9 +126,7 @@ view_note q = do
 -- contents | property | status | note
 abbrev pub view_item : Keyword → Edif ViewItem
 view_item q =
-    if same_keyword q k.Contents then view_contents
-    else (if same_keyword q k.Property then view_property
-    else (if same_keyword q k.Status then view_status else view_note q))
+    cond (same_keyword q k.Contents) view_contents (cond (same_keyword q k.Property) view_property (cond (same_keyword q k.Status) view_status (view_note q)))
 
 -- whether an item is contents
 abbrev pub is_contents : ViewItem → Bool
@@ -206,9 +202,7 @@ cell_note q = do
 -- view | property | status | note
 abbrev pub cell_item : Keyword → Edif CellItem
 cell_item q =
-    if same_keyword q k.View then cell_view
-    else (if same_keyword q k.Property then cell_property
-    else (if same_keyword q k.Status then cell_status else cell_note q))
+    cond (same_keyword q k.View) cell_view (cond (same_keyword q k.Property) cell_property (cond (same_keyword q k.Status) cell_status (cell_note q)))
 
 -- whether an item is a view
 abbrev pub is_view : CellItem → Bool
@@ -289,7 +283,7 @@ library_note q = do
 
 -- cell | status | note
 abbrev pub library_item : Keyword → Edif LibraryItem
-library_item q = if same_keyword q k.Cell then library_cell else (if same_keyword q k.Status then library_status else library_note q)
+library_item q = cond (same_keyword q k.Cell) library_cell (cond (same_keyword q k.Status) library_status (library_note q))
 
 -- {cell | status | note} ), after some
 unfoldable pub library_rest : List LibraryItem → Edif (List LibraryItem)
@@ -335,7 +329,7 @@ design_note q = do
 
 -- property | status | note
 abbrev pub design_item : Keyword → Edif DesignItem
-design_item q = if same_keyword q k.Property then design_property else (if same_keyword q k.Status then design_status else design_note q)
+design_item q = cond (same_keyword q k.Property) design_property (cond (same_keyword q k.Status) design_status (design_note q))
 
 -- {property | status | note} ), after some
 unfoldable pub design_rest : List DesignItem → Edif (List DesignItem)
@@ -378,10 +372,7 @@ file_note q = do
 -- fileItem  = library | design | status | note
 abbrev pub file_item : Keyword → Edif FileItem
 file_item q =
-    if same_keyword q k.Library then file_library false
-    else (if same_keyword q k.External then file_library true
-    else (if same_keyword q k.Design then file_design
-    else (if same_keyword q k.Status then file_status else file_note q)))
+    cond (same_keyword q k.Library) (file_library false) (cond (same_keyword q k.External) (file_library true) (cond (same_keyword q k.Design) file_design (cond (same_keyword q k.Status) file_status (file_note q))))
 
 -- {fileItem} ), after some
 unfoldable pub file_rest : List FileItem → Edif (List FileItem)

@@ -1,6 +1,6 @@
 -- The productions of names and properties (EDIF 2 0 0, forms rename, array, property, string, integer, number, boolean, owner). A production
 -- whose form has a keyword of its own reads on after it, up to the `)` of the form.
-use Rattle.std.specs.Prelude.{Bool, true, false, List, [], ◌∷◌, Some, None, pos, if◌then◌else◌}
+use Rattle.std.specs.Prelude.{Bool, true, false, List, [], ◌∷◌, Some, None, pos, cond}
 use Rattle.grammar.specs.Part.{gives, sequence, ◌>>=◌}
 use Rattle.nl_base.specs.declared.number.Scaled.{Scaled}
 use Rattle.nl_base.specs.declared.value.PropValue.{PropValue}
@@ -14,7 +14,7 @@ use Rattle.edif_names.specs.declared.name.NameDef.{NameDef}
 use Rattle.edif_names.specs.declared.name.PortName.{PortName}
 use Rattle.edif_names.specs.declared.name.PortName.TheVariants.{Single, Array}
 use Rattle.edif_names.specs.declared.property.PropTail.{PropTail}
-use Rattle.edif_names.specs.declared.property.PropTail.TheVariants as tails
+use Rattle.edif_names.specs.declared.property.PropTail.TheVariants as tail
 use Rattle.edif_names.specs.declared.property.Property.{Property}
 
 -- ---- names
@@ -118,9 +118,7 @@ boolean_value = do
 -- the rest of a value, by its keyword
 abbrev pub value_form : Keyword → Edif PropValue
 value_form q =
-    if same_keyword q k.String then string_value
-    else (if same_keyword q k.Integer then integer_value
-    else (if same_keyword q k.Number then number_value else boolean_value))
+    cond (same_keyword q k.String) string_value (cond (same_keyword q k.Integer) integer_value (cond (same_keyword q k.Number) number_value boolean_value))
 
 -- VALUE     = ( string STR ) | ( integer INT ) | ( number SCALED ) | ( boolean ( true ) ) | ( boolean ( false ) )
 unfoldable pub value : Edif PropValue
@@ -133,17 +131,17 @@ unfoldable pub owner : Edif PropTail
 owner = do
   s ← string
   _ ← closing
-  gives (tails.Owner s)
+  gives (tail.Owner s)
 
 -- a comment behind the value of a property
 unfoldable pub remark : Edif PropTail
 remark = do
   ts ← comment
-  gives (tails.Comment ts)
+  gives (tail.Comment ts)
 
 -- owner or comment, after its keyword
 abbrev pub tail_form : Keyword → Edif PropTail
-tail_form q = if same_keyword q k.Owner then owner else remark
+tail_form q = cond (same_keyword q k.Owner) owner remark
 
 -- {( owner STR ) | comment} ), after some
 unfoldable pub tails : List PropTail → Edif (List PropTail)

@@ -1,6 +1,6 @@
 -- The productions of ports, instances and nets (EDIF 2 0 0, forms port, direction, designator, instance, viewRef, cellRef, libraryRef, net,
 -- joined, portRef, member, instanceRef). Each reads on after its keyword, up to the `)` of the form.
-use Rattle.std.specs.Prelude.{ℕ, ℤ, Bool, true, false, List, [], ◌∷◌, ◌×◌, Option, Some, None, codes, if◌then◌else◌}
+use Rattle.std.specs.Prelude.{ℕ, ℤ, Bool, true, false, List, [], ◌∷◌, Option, Some, None, codes, cond}
 use Rattle.std.specs.List.{list_any}
 use Rattle.grammar.specs.Part.{gives, sequence, ◌>>=◌}
 use Rattle.nl_base.specs.declared.value.Dir.{Dir}
@@ -64,9 +64,7 @@ port_note q = do
 -- direction | property | designator | note
 abbrev pub port_item : Keyword → Edif PortItem
 port_item q =
-    if same_keyword q k.Direction then direction
-    else (if same_keyword q k.Property then port_property
-    else (if same_keyword q k.Designator then port_designator else port_note q))
+    cond (same_keyword q k.Direction) direction (cond (same_keyword q k.Property) port_property (cond (same_keyword q k.Designator) port_designator (port_note q)))
 
 -- whether an item is a direction
 abbrev pub is_direction : PortItem → Bool
@@ -135,7 +133,7 @@ instance_note q = do
 
 -- property | designator | note
 abbrev pub instance_item : Keyword → Edif InstanceItem
-instance_item q = if same_keyword q k.Property then instance_property else (if same_keyword q k.Designator then instance_designator else instance_note q)
+instance_item q = cond (same_keyword q k.Property) instance_property (cond (same_keyword q k.Designator) instance_designator (instance_note q))
 
 -- {property | designator | note} ), after some
 unfoldable pub instance_rest : List InstanceItem → Edif (List InstanceItem)
@@ -223,7 +221,7 @@ net_note q = do
 
 -- property | note
 abbrev pub net_item : Keyword → Edif NetItem
-net_item q = if same_keyword q k.Property then net_property else net_note q
+net_item q = cond (same_keyword q k.Property) net_property (net_note q)
 
 -- {property | note} ), after some
 unfoldable pub net_rest : List NetItem → Edif (List NetItem)
