@@ -135,22 +135,38 @@ instance_note q = do
 abbrev pub instance_item : Keyword → Edif InstanceItem
 instance_item q = cond (same_keyword q k.Property) instance_property (cond (same_keyword q k.Designator) instance_designator (instance_note q))
 
+-- the keywords that may stand behind the reference of an instance
+abbrev pub instance_keywords : List Keyword
+instance_keywords = k.Property ∷ k.Designator ∷ note_keywords
+
 -- {property | designator | note} ), after some
 unfoldable pub instance_rest : List InstanceItem → Edif (List InstanceItem)
-instance_rest = items (λ _. k.Property ∷ k.Designator ∷ note_keywords) instance_item
+instance_rest = items (λ _. instance_keywords) instance_item
+
+-- ( cellRef IDENT [( libraryRef IDENT )] )
+unfoldable pub cell_ref : Edif (List ℕ × Option (List ℕ))
+cell_ref = do
+  _ ← begin (k.CellRef ∷ [])
+  c ← word
+  l ← maybe_library
+  gives (c, l)
+
+-- ( viewRef IDENT ( cellRef IDENT [( libraryRef IDENT )] ) )
+unfoldable pub view_ref : Edif (List ℕ × List ℕ × Option (List ℕ))
+view_ref = do
+  _ ← begin (k.ViewRef ∷ [])
+  v ← word
+  c ← cell_ref
+  _ ← closing
+  gives (v, c.0, c.1)
 
 -- instance  = ( instance NAME ( viewRef IDENT ( cellRef IDENT [( libraryRef IDENT )] ) ) {property | designator | note} )
 unfoldable pub instance : Edif Instance
 instance = do
   n ← name
-  _ ← begin (k.ViewRef ∷ [])
-  v ← word
-  _ ← begin (k.CellRef ∷ [])
-  c ← word
-  l ← maybe_library
-  _ ← closing
+  v ← view_ref
   is ← instance_rest []
-  gives (record { name = n; view = v; cell = c; library = l; items = is })
+  gives (record { name = n; view = v.0; cell = v.1; library = v.2; items = is })
 
 -- ---- nets
 
@@ -197,9 +213,13 @@ port_ref = do
   u ← maybe_instance
   gives (record { port = p.0; member = p.1; instance = u })
 
+-- the keyword that may stand in joined
+abbrev pub joined_keywords : List Keyword
+joined_keywords = k.PortRef ∷ []
+
 -- {portRef} ), after some
 unfoldable pub joined_rest : List PortRef → Edif (List PortRef)
-joined_rest = items (λ _. k.PortRef ∷ []) (λ _. port_ref)
+joined_rest = items (λ _. joined_keywords) (λ _. port_ref)
 
 -- ( joined {portRef} )
 unfoldable pub joined : Edif (List PortRef)
@@ -223,9 +243,13 @@ net_note q = do
 abbrev pub net_item : Keyword → Edif NetItem
 net_item q = cond (same_keyword q k.Property) net_property (net_note q)
 
+-- the keywords that may stand behind what a net joins
+abbrev pub net_keywords : List Keyword
+net_keywords = k.Property ∷ note_keywords
+
 -- {property | note} ), after some
 unfoldable pub net_rest : List NetItem → Edif (List NetItem)
-net_rest = items (λ _. k.Property ∷ note_keywords) net_item
+net_rest = items (λ _. net_keywords) net_item
 
 -- net       = ( net NAME ( joined {portRef} ) {property | note} )
 unfoldable pub net : Edif Net
