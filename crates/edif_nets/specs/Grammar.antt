@@ -62,12 +62,12 @@ port_note q = do
   gives (port_items.Note n)
 
 -- direction | property | designator | note
-abbrev pub port_item : Keyword → Edif PortItem
+unfoldable pub port_item : Keyword → Edif PortItem
 port_item q =
     cond (same_keyword q k.Direction) direction (cond (same_keyword q k.Property) port_property (cond (same_keyword q k.Designator) port_designator (port_note q)))
 
 -- whether an item is a direction
-abbrev pub is_direction : PortItem → Bool
+unfoldable pub is_direction : PortItem → Bool
 is_direction (port_items.Direction d) = true
 is_direction (port_items.Property p) = false
 is_direction (port_items.Designator s) = false
@@ -78,7 +78,7 @@ unfoldable pub has_direction : List PortItem → Bool
 has_direction is = list_any is_direction is
 
 -- the keywords that may stand in a port, which has a direction already or not: at most one direction
-abbrev pub port_keywords : Bool → List Keyword
+unfoldable pub port_keywords : Bool → List Keyword
 port_keywords false = k.Direction ∷ k.Property ∷ k.Designator ∷ note_keywords
 port_keywords true = k.Property ∷ k.Designator ∷ note_keywords
 
@@ -132,7 +132,7 @@ instance_note q = do
   gives (instance_items.Note n)
 
 -- property | designator | note
-abbrev pub instance_item : Keyword → Edif InstanceItem
+unfoldable pub instance_item : Keyword → Edif InstanceItem
 instance_item q = cond (same_keyword q k.Property) instance_property (cond (same_keyword q k.Designator) instance_designator (instance_note q))
 
 -- the keywords that may stand behind the reference of an instance
@@ -240,7 +240,7 @@ net_note q = do
   gives (net_items.Note n)
 
 -- property | note
-abbrev pub net_item : Keyword → Edif NetItem
+unfoldable pub net_item : Keyword → Edif NetItem
 net_item q = cond (same_keyword q k.Property) net_property (net_note q)
 
 -- the keywords that may stand behind what a net joins

@@ -85,7 +85,7 @@ fn cell_ref<S: Source>(
 }
 
 /// The library of a cell where one is named, with the `)` of the form around it.
-#[tactic(auto, using(edif_keywords::proofs::Forms::form_or_other), unfolding(crate::specs::Grammar::maybe_library))]
+#[tactic(auto, using(crate::proofs::Parts::form_or_token), unfolding(crate::specs::Grammar::maybe_library))]
 fn maybe_library<S: Source>(
     alloc: Global,
     cursor: &mut Cursor,
@@ -164,7 +164,7 @@ fn instance_item<S: Source>(
 }
 
 /// The rest of an item of an instance, by its keyword.
-#[tactic(auto, using(readers::proofs::Reading::sequences))]
+#[tactic(auto, using(crate::proofs::Parts::by_keyword))]
 fn instance_form<S: Source>(
     alloc: Global,
     cursor: &mut Cursor,

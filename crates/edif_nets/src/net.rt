@@ -117,7 +117,7 @@ fn port_ref<S: Source>(
 }
 
 /// A port, and the index of its member where one is named.
-#[tactic(auto, using(edif_keywords::proofs::Forms::form_or_other), unfolding(crate::specs::Grammar::port_or_member))]
+#[tactic(auto, using(crate::proofs::Parts::form_or_token), unfolding(crate::specs::Grammar::port_or_member))]
 fn port_or_member<S: Source>(
     alloc: Global,
     cursor: &mut Cursor,
@@ -160,7 +160,7 @@ fn whole_port<S: Source>(
 }
 
 /// The instance of a reference where one is named, with the `)` of the form around it.
-#[tactic(auto, using(edif_keywords::proofs::Forms::form_or_other), unfolding(crate::specs::Grammar::maybe_instance))]
+#[tactic(auto, using(crate::proofs::Parts::form_or_token), unfolding(crate::specs::Grammar::maybe_instance))]
 fn maybe_instance<S: Source>(
     alloc: Global,
     cursor: &mut Cursor,
@@ -234,7 +234,7 @@ fn net_item<S: Source>(
 }
 
 /// The rest of an item of a net, by its keyword.
-#[tactic(auto, using(readers::proofs::Reading::sequences))]
+#[tactic(auto, using(crate::proofs::Parts::by_keyword))]
 fn net_form<S: Source>(
     alloc: Global,
     cursor: &mut Cursor,

@@ -1,4 +1,4 @@
-ghost use Rattle.std.specs.Prelude.{◌≡◌, [], or};
+ghost use Rattle.std.specs.Prelude.{◌≡◌, [], ◌||◌};
 ghost use Rattle.readers.specs.Sources.{supply};
 ghost use Rattle.readers.specs.Readers.{same, Reads};
 ghost use Rattle.edif_keywords.specs.Language.{edif};
@@ -58,7 +58,7 @@ pub fn read_designator<S: Source>(
     Ok(text)
 }
 
-#[tactic(auto, using(edif_keywords::proofs::Forms::item_loops), unfolding(crate::specs::Grammar::port_rest))]
+#[tactic(auto, using(crate::proofs::Parts::port_loops), unfolding(crate::specs::Grammar::port_rest))]
 fn port_rest<S: Source>(
     alloc: Global,
     cursor: &mut Cursor,
@@ -92,7 +92,7 @@ fn port_item<S: Source>(
 }
 
 /// The rest of an item of a port, by its keyword.
-#[tactic(auto, using(readers::proofs::Reading::sequences))]
+#[tactic(auto, using(crate::proofs::Parts::by_keyword))]
 fn port_form<S: Source>(
     alloc: Global,
     cursor: &mut Cursor,
@@ -176,6 +176,7 @@ fn direction_words() -> &'static [(&'static [u8], Dir)]
 }
 
 /// The keywords that may stand in a port that has a direction already or not.
+#[tactic(auto, unfolding(crate::specs::Grammar::port_keywords))]
 fn port_keywords(directed: bool) -> &'static [Keyword]
     ensures { result.now ≡ port_keywords directed }
 {
@@ -197,8 +198,9 @@ fn port_keywords(directed: bool) -> &'static [Keyword]
 }
 
 /// Whether there is a direction among some items and one more.
+#[tactic(auto, unfolding(crate::specs::Grammar::is_direction))]
 fn is_directed(directed: bool, item: &PortItem) -> bool
-    ensures { result ≡ or directed (is_direction item.now) }
+    ensures { result ≡ (directed || is_direction item.now) }
 {
     directed || matches!(item, PortItem::Direction(_))
 }
