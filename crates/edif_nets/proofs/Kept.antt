@@ -1,5 +1,5 @@
 -- What ports, instances and nets spell from the tokens of a text are values that can be written.
-use Rattle.std.proofs.Common.{◌≡◌, ◌∙◌, sym, refl, subst, ℕ, ℤ, ◌≤◌, Bool, true, false, cond, List, [], ◌∷◌, ◌++◌, length, append-nil, Option, Some, None, IfSome, arith}
+use Rattle.std.proofs.Common.{◌≡◌, refl, subst, Bool, true, false, cond, List, [], ◌∷◌, ◌++◌, append-nil, Some, None, IfSome, arith}
 use Rattle.std.specs.List.{AllByRecursion, cons_option}
 use Rattle.std.proofs.lemmas.List.Elements.{filter_map-append}
 use Rattle.nl_base.specs.declared.value.Dir.{Dir}
@@ -11,9 +11,7 @@ use Rattle.edif_keywords.specs.Values.{IsWord, IsInteger, IsString}
 use Rattle.edif_keywords.specs.Grammar.{closing, choice, begin}
 use Rattle.edif_keywords.proofs.Same.{spelled_alike}
 use Rattle.edif_keywords.proofs.Kept.{Kept, kept_gives, kept_then, kept_after, kept_cond, kept_weaker, kept_word, kept_string, kept_integer, kept_form_or, kept_items, kept_all}
-use Rattle.edif_names.specs.Values.{IsProperty}
 use Rattle.edif_names.proofs.Kept.{kept_name, kept_port_name, kept_property}
-use Rattle.edif_status.specs.Values.{IsNote}
 use Rattle.edif_status.proofs.Kept.{kept_note}
 use Rattle.edif_nets.specs.declared.port.PortItem.{PortItem}
 use Rattle.edif_nets.specs.declared.port.PortItem.TheVariants as port_items
