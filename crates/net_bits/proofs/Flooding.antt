@@ -1,5 +1,5 @@
 -- the state of a flood, and what each turn of its loops makes of it
-use Rattle.std.proofs.Common.{◌≡◌, ℕ, ◌+◌, ◌<◌, ◌++◌, List, [], ◌∷◌, Option, Some, None, length, get_or, set, refl, sym, ◌∙◌, ap, subst, inl, inr, arith, rules, Bool, true, false, not, below_more, get_or-set_same, All, length-set}
+use Rattle.std.proofs.Common.{◌≡◌, ℕ, ◌+◌, ◌<◌, ◌++◌, List, [], ◌∷◌, Option, Some, None, length, get_or, set, refl, sym, ◌∙◌, subst, subst₂, inl, inr, arith, rules, Bool, true, below_more, get_or-set_same, All, length-set}
 use Rattle.std.proofs.lemmas.List.{get_or_past, get_or_default, length_push}
 use Rattle.std.proofs.lemmas.List.Elements.{All-cons, All-nil, All-head, All-tail, All-pop, All-push, All-weaker, All-contains}
 use Rattle.std.proofs.lemmas.List.Sums.{sum_by_push}
@@ -71,13 +71,9 @@ flooding-below lists numbers root class v work i =
 pub next_at : (lists : List (List ℕ)) (v k w : ℕ) → k < length (get_or lists v []) → w ≡ get_or (get_or lists v []) k 0 → IsNext lists v w
 next_at lists v k w h e = (k, h, get_or_default (get_or lists v []) k w 0 h ∙ sym e)
 
-pub some_of : (o : Option ℕ) (b : Bool) → is_some o ≡ not b → b ≡ false → (c : ℕ) × (o ≡ Some c)
-some_of None b e f = absurd (let r : not b ≡ true = ap not f in cc)
+pub some_of : (o : Option ℕ) (b : Bool) → is_some o ≡ b → b ≡ true → (c : ℕ) × (o ≡ Some c)
+some_of None b e f = absurd (cc)
 some_of (Some c) b e f = (c, refl)
-
-pub none_of : (o : Option ℕ) (b : Bool) → is_some o ≡ not b → b ≡ true → o ≡ None
-none_of None b e f = refl
-none_of (Some c) b e f = absurd (let r : not b ≡ false = ap not f in cc)
 
 -- a neighbour that has a number has the number of the class
 pub flooding-same : (lists : List (List ℕ)) (numbers : List (Option ℕ)) (root class : ℕ) (v w c : ℕ) (work : List ℕ)
@@ -98,40 +94,38 @@ pub record IsVisiting (lists : List (List ℕ)) (numbers : List (Option ℕ)) (r
   pub spends : owed lists work + unspent numbers lists ≡ total
   pub waits : length work + unnumbered numbers ≡ many
 
--- one more place of the list of `v`, where the node at it had no number
-pub visiting-none : (lists : List (List ℕ)) (numbers : List (Option ℕ)) (root class v w place : ℕ) (b : Bool) (work : List ℕ) (total many : ℕ)
-    → AreMutual lists
-    → place < length (get_or lists v []) → w ≡ get_or (get_or lists v []) place 0
-    → is_some (number numbers w) ≡ not b → b ≡ true
-    → IsVisiting lists numbers root class v place work total many
-    → IsVisiting lists (set numbers w (Some class)) root class v (place + 1) (work ++ w ∷ []) total many
-visiting-none lists numbers root class v w place b work total many each h e s t i =
-    let next = next_at lists v place w h e in
-    let none = none_of (number numbers w) b s t in
-    let inside : w < length numbers = omega (arith, i.flooding.len, each.below v w next) in record {
-      flooding = flooding-more lists numbers root class v w work each next (each.below v w next) none i.flooding;
-      seen = below_more (λ k. number (set numbers w (Some class)) (get_or (get_or lists v []) k 0) ≡ Some class) place
-          (λ k l. kept (IsNext lists) numbers w class inside none (get_or (get_or lists v []) k 0) class (i.seen k l))
-          (subst (λ x. number (set numbers w (Some class)) x ≡ Some class) e (get_or-set_same numbers w (Some class) None inside));
-      spends = omega (arith, i.spends, sum_by_push (degree_of lists) work w, unspent-set numbers lists w class inside i.flooding.len none);
-      waits = omega (arith, i.waits, length_push work w, unnumbered-set numbers w class inside none);
-    }
+module _ (lists : List (List ℕ)) (numbers : List (Option ℕ)) (root class v w place : ℕ) (work : List ℕ) (total many : ℕ) (each : AreMutual lists)
+    (h : place < length (get_or lists v [])) (e : w ≡ get_or (get_or lists v []) place 0) (i : IsVisiting lists numbers root class v place work total many) where
+  -- one more place of the list of `v`, where the node at it had no number
+  visiting-none : number numbers w ≡ None → IsVisiting lists (set numbers w (Some class)) root class v (place + 1) (work ++ w ∷ []) total many
+  visiting-none none =
+      let next = next_at lists v place w h e in
+      let inside : w < length numbers = omega (arith, i.flooding.len, each.below v w next) in record {
+        flooding = flooding-more lists numbers root class v w work each next (each.below v w next) none i.flooding;
+        seen = below_more (λ k. number (set numbers w (Some class)) (get_or (get_or lists v []) k 0) ≡ Some class) place
+            (λ k l. kept (IsNext lists) numbers w class inside none (get_or (get_or lists v []) k 0) class (i.seen k l))
+            (subst (λ x. number (set numbers w (Some class)) x ≡ Some class) e (get_or-set_same numbers w (Some class) None inside));
+        spends = omega (arith, i.spends, sum_by_push (degree_of lists) work w, unspent-set numbers lists w class inside i.flooding.len none);
+        waits = omega (arith, i.waits, length_push work w, unnumbered-set numbers w class inside none);
+      }
 
--- and where it had one
-pub visiting-some : (lists : List (List ℕ)) (numbers : List (Option ℕ)) (root class v w place : ℕ) (b : Bool) (work : List ℕ) (total many : ℕ)
-    → AreMutual lists
-    → place < length (get_or lists v []) → w ≡ get_or (get_or lists v []) place 0
-    → is_some (number numbers w) ≡ not b → b ≡ false
-    → IsVisiting lists numbers root class v place work total many
-    → IsVisiting lists numbers root class v (place + 1) work total many
-visiting-some lists numbers root class v w place b work total many each h e s f i =
-    let r = some_of (number numbers w) b s f in record {
-      flooding = i.flooding;
-      seen = below_more (λ k. number numbers (get_or (get_or lists v []) k 0) ≡ Some class) place i.seen
-          (subst (λ x. number numbers x ≡ Some class) e (flooding-same lists numbers root class v w r.0 work each (next_at lists v place w h e) r.1 i.flooding));
-      spends = i.spends;
-      waits = i.waits;
-    }
+  -- and where it had one
+  visiting-some : (c : ℕ) → number numbers w ≡ Some c → IsVisiting lists numbers root class v (place + 1) work total many
+  visiting-some c known = record {
+    flooding = i.flooding;
+    seen = below_more (λ k. number numbers (get_or (get_or lists v []) k 0) ≡ Some class) place i.seen
+        (subst (λ x. number numbers x ≡ Some class) e (flooding-same lists numbers root class v w c work each (next_at lists v place w h e) known i.flooding));
+    spends = i.spends;
+    waits = i.waits;
+  }
+
+  pub visiting-turn : (new : List (Option ℕ)) (waits : List ℕ) → ((c : ℕ) → number numbers w ≡ Some c → (new ≡ numbers) × (waits ≡ work))
+      → (number numbers w ≡ None → (new ≡ set numbers w (Some class)) × (waits ≡ work ++ w ∷ [])) → IsVisiting lists new root class v (place + 1) waits total many
+  visiting-turn new waits known unknown = by (number numbers w) refl
+    where
+      by : (o : Option ℕ) → number numbers w ≡ o → IsVisiting lists new root class v (place + 1) waits total many
+      by None none = subst₂ (λ ns ws. IsVisiting lists ns root class v (place + 1) ws total many) (sym (unknown none).0) (sym (unknown none).1) (visiting-none none)
+      by (Some c) some = subst₂ (λ ns ws. IsVisiting lists ns root class v (place + 1) ws total many) (sym (known c some).0) (sym (known c some).1) (visiting-some c some)
 
 pub flooding-popped : (lists : List (List ℕ)) (numbers : List (Option ℕ)) (root class : ℕ) (old work : List ℕ) (v n : ℕ)
     → old ≡ work ++ v ∷ [] → n ≡ v → IsFlooding lists numbers root class old → IsFlooding lists numbers root class (n ∷ work)

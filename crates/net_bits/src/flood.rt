@@ -1,4 +1,4 @@
-ghost use Rattle.std.specs.Prelude.{◌≡◌, ℕ, ◌+◌, ◌*◌, ◌<◌, ◌≤◌, ◌^◌, List, [], ◌∷◌, None, Some, length, map, slice_index, slice_index_or, sum_by, IfOk, OnOk};
+ghost use Rattle.std.specs.Prelude.{◌≡◌, ℕ, ◌+◌, ◌*◌, ◌<◌, ◌≤◌, ◌^◌, List, [], ◌∷◌, None, Some, length, map, slice_index, slice_index_or, sum_by, IfOk, OnOk, OnErr, slice_set, ◌++◌};
 ghost use Rattle.net_bits.specs.Flood.{AreNumbered, AreMutual, IsNext, IsNumbered, number, unspent};
 
 use crate::adjacency::Adjacency;
@@ -6,6 +6,26 @@ use crate::steps::Steps;
 use nl_base::NoMemory;
 use std::alloc::Global;
 use std::sync::ledger::Ledger;
+
+// Gives the number `class` to the node and lets it wait, where it has no number yet.
+fn number_node(
+    numbers: &mut [Option<u32>],
+    work: &mut Vec<u32>,
+    node: u32,
+    class: u32,
+) -> Result<(), NoMemory>
+    requires { node < length numbers.old }
+    ensures known { OnOk result ((c : ℕ) → number numbers.old node ≡ Some c → (numbers.new ≡ numbers.old) × (work.new.items ≡ work.old.items)) }
+    ensures unknown { OnOk result (number numbers.old node ≡ None → (numbers.new ≡ slice_set numbers.old node (Some class)) × (work.new.items ≡ work.old.items ++ node ∷ [])) }
+    ensures kept { OnErr result (numbers.new ≡ numbers.old) }
+{
+    if numbers[node as usize].is_some() {
+        return Ok(());
+    }
+    work.push(node)?;
+    numbers[node as usize] = Some(class);
+    Ok(())
+}
 
 /// Gives the number `class` to the root and to all nodes that are connected to it.
 fn flood<L: Ledger>(
@@ -26,15 +46,11 @@ fn flood<L: Ledger>(
     ensures cost { steps.new + unspent numbers.new adjacency.now.lists ≤ steps.old + unspent numbers.old adjacency.now.lists }
 {
     let mut work = Vec::new(alloc);
-    numbers[root as usize] = Some(class);
-    work.push(root)?;
+    number_node(numbers, &mut work, root, class)?;
     while let Some(node) = work.pop() {
         for place in 0..adjacency.degree(node) {
             let other = adjacency.neighbour(node, place, steps);
-            if numbers[other as usize].is_none() {
-                numbers[other as usize] = Some(class);
-                work.push(other)?;
-            }
+            number_node(numbers, &mut work, other, class)?;
         }
     }
     Ok(())
@@ -72,6 +88,33 @@ pub fn number_classes<L: Ledger>(
     Ok((numbers, count))
 }
 
+// Floods from the root, where it has no class yet, and answers how many classes there are then.
+fn flood_root<L: Ledger>(
+    alloc: Global,
+    adjacency: &Adjacency,
+    numbers: &mut [Option<u32>],
+    root: u32,
+    class: u32,
+    steps: &mut Steps<L>,
+) -> Result<u32, NoMemory>
+    requires len { length numbers.old ≡ length adjacency.now.lists }
+    requires nodes { length adjacency.now.nodes ≡ length adjacency.now.lists }
+    requires lists { AreMutual adjacency.now.lists }
+    requires root { root < length adjacency.now.lists }
+    requires few { class ≤ root }
+    requires short { length adjacency.now.nodes < 2 ^ 32 }
+    requires numbered { IsNumbered (IsNext adjacency.now.lists) numbers.old root class [] }
+    ensures numbered { IfOk result (λ count. IsNumbered (IsNext adjacency.now.lists) numbers.new (root + 1) count []) }
+    ensures few { IfOk result (λ count. count ≤ root + 1) }
+    ensures cost { steps.new + unspent numbers.new adjacency.now.lists ≤ steps.old + unspent numbers.old adjacency.now.lists }
+{
+    if numbers[root as usize].is_some() {
+        return Ok(class);
+    }
+    flood(alloc, adjacency, numbers, root, class, steps)?;
+    Ok(class + 1)
+}
+
 // Floods from each node that has no class yet, in order.
 fn flood_all<L: Ledger>(
     alloc: Global,
@@ -88,10 +131,7 @@ fn flood_all<L: Ledger>(
     let mut numbers = vec![in alloc; None; count as usize]?;
     let mut class = 0;
     for root in 0..count {
-        if numbers[root as usize].is_none() {
-            flood(alloc, adjacency, &mut numbers, root, class, steps)?;
-            class += 1;
-        }
+        class = flood_root(alloc, adjacency, &mut numbers, root, class, steps)?;
     }
     Ok((numbers, class))
 }

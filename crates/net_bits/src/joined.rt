@@ -1,4 +1,5 @@
-ghost use Rattle.std.specs.Prelude.{◌≡◌, ◌≤◌, ◌<◌, ◌^◌, ◌*◌, ◌↔◌, List, [], Some, Contains, IfOk, length, map, slice_get, sum_by};
+ghost use Rattle.std.specs.Prelude.{◌≡◌, ◌≤◌, ◌<◌, ◌^◌, ◌*◌, ◌↔◌, List, [], Some, Contains, IfOk, OnOk, length, map, slice_get, sum_by};
+ghost use Rattle.indexmap.specs.IndexSet.{insert_key};
 ghost use Rattle.std.specs.List.Sorted.{IsStrictlySortedBy};
 ghost use Rattle.std.specs.Set.{distinct_count};
 ghost use Rattle.net_hier.specs.Nodes.{node_cmp};
@@ -10,6 +11,15 @@ use net_hier::{Join, Node};
 use nl_base::NoMemory;
 use std::alloc::Global;
 
+// Adds both ends of the join.
+fn add_ends(nodes: &mut IndexSet<Node>, join: &Join) -> Result<(), NoMemory>
+    ensures { OnOk result (nodes.new.keys ≡ insert_key ⟦<Node as PartialEq>⟧.eq (insert_key ⟦<Node as PartialEq>⟧.eq nodes.old.keys join.now.a) join.now.b) }
+{
+    nodes.insert(join.a)?;
+    nodes.insert(join.b)?;
+    Ok(())
+}
+
 /// The nodes at the ends of the joins, each once and in order.
 pub fn joined_nodes(alloc: Global, joins: &[Join]) -> Result<IndexSet<Node>, NoMemory>
     ensures in_order { IfOk result (λ nodes. IsStrictlySortedBy node_cmp nodes.keys) }
@@ -18,8 +28,7 @@ pub fn joined_nodes(alloc: Global, joins: &[Join]) -> Result<IndexSet<Node>, NoM
 {
     let mut nodes = IndexSet::new(alloc);
     for join in joins {
-        nodes.insert(join.a)?;
-        nodes.insert(join.b)?;
+        add_ends(&mut nodes, join)?;
     }
     nodes.sort()?;
     Ok(nodes)
@@ -35,6 +44,19 @@ fn number_of(nodes: &IndexSet<Node>, node: &Node) -> u32
         Some(number) => number as u32,
         None => unreachable!(),
     }
+}
+
+// The numbers of the two ends of the join.
+fn ends_of(nodes: &IndexSet<Node>, join: &Join) -> (u32, u32)
+    requires a { Contains nodes.now.keys join.now.a }
+    requires b { Contains nodes.now.keys join.now.b }
+    requires few { length nodes.now.keys < 2 ^ 32 }
+    ensures a { slice_get nodes.now.keys result.0 ≡ Some join.now.a }
+    ensures b { slice_get nodes.now.keys result.1 ≡ Some join.now.b }
+{
+    let a = number_of(nodes, &join.a);
+    let b = number_of(nodes, &join.b);
+    (a, b)
 }
 
 /// For each node the numbers of the nodes at the other ends of its joins, in the order of the joins.
@@ -54,8 +76,7 @@ pub fn neighbour_lists(
         lists.push(Vec::new(alloc))?;
     }
     for join in joins {
-        let a = number_of(nodes, &join.a);
-        let b = number_of(nodes, &join.b);
+        let (a, b) = ends_of(nodes, join);
         lists[a as usize].push(b)?;
         lists[b as usize].push(a)?;
     }

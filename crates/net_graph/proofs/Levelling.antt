@@ -1,7 +1,6 @@
 -- The walk that finds levels, and what levels show.
 use Rattle.std.proofs.Common.{◌≡◌, ℕ, zero, suc, ◌+◌, ◌<◌, ◌≤◌, Bool, true, false, List, [], ◌∷◌, ◌++◌, length, get_or, replicate, set, slice_get, Some, refl, sym, ◌∙◌, ap, subst, arith}
 use Rattle.std.proofs.lemmas.List.{length-replicate}
-use Rattle.std.proofs.lemmas.Option.{slice_get_read}
 use Rattle.std.proofs.Math.ListN.{length-set}
 use Rattle.net_graph.specs.Graph.{HasList, IsAbove, IsInRange, ReachesItself}
 use Rattle.net_graph.specs.Levels.{FallsAt, LevelsFall, level_at}
@@ -40,10 +39,9 @@ module _ (graph : List (List ℕ)) (in_range : IsInRange graph) where
     stack_in = subst (Each (λ v. v.number < length graph)) (sym f) (each_more (λ v. v.number < length graph) stack (record { number = number; followed = 0 }) s.stack_in lt);
   }
 
-  pub below_within : (number : ℕ) (list numbers : List ℕ) (followed d : ℕ) → number < length graph → list ≡ get_or graph number list → numbers ≡ list → followed < length numbers → get_or numbers followed d < length graph
-  below_within number list numbers followed d lt is same h =
-      let has : HasList graph number list = slice_get_read graph (length graph) number list refl lt is in
-      in_range number (get_or numbers followed d) (record { numbers = list; are_below = has; place = followed; is_there = subst (λ l. slice_get l followed ≡ Some (get_or numbers followed d)) same (read_within numbers followed d h) })
+  pub below_within : (number : ℕ) (list : List ℕ) (followed d : ℕ) → HasList graph number list → followed < length list → get_or list followed d < length graph
+  below_within number list followed d has h =
+      in_range number (get_or list followed d) (record { numbers = list; are_below = has; place = followed; is_there = read_within list followed d h })
     where
       read_within : (xs : List ℕ) (i e : ℕ) → i < length xs → slice_get xs i ≡ Some (get_or xs i e)
       read_within [] i e h = absurd (omega arith)

@@ -380,19 +380,17 @@ within graph top seen listed order stack rest visit k e = each_last (λ v. v.num
 pub read_at : {A : Type 0} (xs : List A) (i : ℕ) (x : A) → i < length xs → x ≡ get_or xs i x → slice_get xs i ≡ Some x
 read_at xs i x lt e = slice_get_read xs (length xs) i x refl lt e
 
-pub record Turn (graph : List (List ℕ)) (visit : Visit) (list : List ℕ) (instances : List ℕ) (d : ℕ) : Type 0 where
+pub record Turn (graph : List (List ℕ)) (visit : Visit) (list : List ℕ) (d : ℕ) : Type 0 where
   pub is_list : HasList graph visit.number list
   pub is_next : visit.followed < length list
-  pub there : slice_get list visit.followed ≡ Some (get_or instances visit.followed d)
-  pub below_in : get_or instances visit.followed d < length graph
+  pub there : slice_get list visit.followed ≡ Some (get_or list visit.followed d)
+  pub below_in : get_or list visit.followed d < length graph
 
-pub turn_of : (graph : List (List ℕ)) (top : ℕ) (seen listed : List Bool) (order : List ℕ) (stack rest : List Visit) (visit : Visit) (list : List ℕ) (instances : List ℕ) (d : ℕ) → IsInRange graph →
-    Keeps graph top seen listed order stack → stack ≡ rest ++ visit ∷ [] → list ≡ get_or graph visit.number list → instances ≡ list → visit.followed < length instances → Turn graph visit list instances d
-turn_of graph top seen listed order stack rest visit list instances d in_range k e is same lt =
-    let is_list : HasList graph visit.number list = read_at graph visit.number list (within graph top seen listed order stack rest visit k e) is in
-    let next_lt : visit.followed < length list = subst (λ l. visit.followed < length l) same lt in
-    let there : slice_get list visit.followed ≡ Some (get_or instances visit.followed d) = subst (λ l. slice_get l visit.followed ≡ Some (get_or instances visit.followed d)) same (slice_get-get_or instances visit.followed d lt) in
-    record { is_list = is_list; is_next = next_lt; there = there; below_in = in_range visit.number (get_or instances visit.followed d) (record { numbers = list; are_below = is_list; place = visit.followed; is_there = there }) }
+pub turn_of : (graph : List (List ℕ)) (top : ℕ) (seen listed : List Bool) (order : List ℕ) (stack rest : List Visit) (visit : Visit) (list : List ℕ) (d : ℕ) → IsInRange graph →
+    Keeps graph top seen listed order stack → stack ≡ rest ++ visit ∷ [] → HasList graph visit.number list → visit.followed < length list → Turn graph visit list d
+turn_of graph top seen listed order stack rest visit list d in_range k e is_list lt =
+    let there : slice_get list visit.followed ≡ Some (get_or list visit.followed d) = slice_get-get_or list visit.followed d lt in
+    record { is_list = is_list; is_next = lt; there = there; below_in = in_range visit.number (get_or list visit.followed d) (record { numbers = list; are_below = is_list; place = visit.followed; is_there = there }) }
 
 -- what is read within the list does not depend on the default
 pub read_or : (bs : List Bool) (i : ℕ) (b : Bool) → i < length bs → b ≡ get_or bs i b → get_or bs i false ≡ b

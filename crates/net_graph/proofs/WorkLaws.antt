@@ -95,15 +95,30 @@ module _ (old : List Bool) (waiting numbers : List ℕ) (new : List Bool) (waits
       }
 
 -- the turn in which the number at i is marked
-pub mark_turn_known : (old : List Bool) (waiting numbers : List ℕ) (i d : ℕ) → i < length numbers → (new : List Bool) (waits : List ℕ) → MarksNumbers old waiting (take i numbers) new waits → is_marked new (get_or numbers i d) ≡ true
+mark_turn_known : (old : List Bool) (waiting numbers : List ℕ) (i d : ℕ) → i < length numbers → (new : List Bool) (waits : List ℕ) → MarksNumbers old waiting (take i numbers) new waits → is_marked new (get_or numbers i d) ≡ true
     → MarksNumbers old waiting (take (i + 1) numbers) new waits
 mark_turn_known old waiting numbers i d within new waits so_far known =
     subst (λ ns. MarksNumbers old waiting ns new waits) (sym (take_more numbers i d within)) (marks_known old waiting (take i numbers) new waits so_far (get_or numbers i d) known)
 
-pub mark_turn_new : (old : List Bool) (waiting numbers : List ℕ) (i d : ℕ) → i < length numbers → (new : List Bool) (waits : List ℕ) → MarksNumbers old waiting (take i numbers) new waits → is_marked new (get_or numbers i d) ≡ false
+mark_turn_new : (old : List Bool) (waiting numbers : List ℕ) (i d : ℕ) → i < length numbers → (new : List Bool) (waits : List ℕ) → MarksNumbers old waiting (take i numbers) new waits → is_marked new (get_or numbers i d) ≡ false
     → get_or numbers i d < length new → MarksNumbers old waiting (take (i + 1) numbers) (set new (get_or numbers i d) true) (waits ++ get_or numbers i d ∷ [])
 mark_turn_new old waiting numbers i d within new waits so_far unknown fits =
     subst (λ ns. MarksNumbers old waiting ns (set new (get_or numbers i d) true) (waits ++ get_or numbers i d ∷ [])) (sym (take_more numbers i d within)) (marks_one_more old waiting (take i numbers) new waits so_far (get_or numbers i d) unknown fits)
+
+marks_along : (old : List Bool) (waiting numbers : List ℕ) (new made : List Bool) (waits kept : List ℕ) → MarksNumbers old waiting numbers new waits → made ≡ new → kept ≡ waits → MarksNumbers old waiting numbers made kept
+marks_along old waiting numbers new made waits kept m e f =
+    subst (λ n. MarksNumbers old waiting numbers n kept) (sym e) (subst (λ ws. MarksNumbers old waiting numbers new ws) (sym f) m)
+
+-- the turn in which the number at i is looked at
+pub mark_turn : (old : List Bool) (waiting numbers : List ℕ) (i d : ℕ) → i < length numbers → (marks : List Bool) (waits : List ℕ) → MarksNumbers old waiting (take i numbers) marks waits → get_or numbers i d < length marks
+    → (new : List Bool) (kept : List ℕ) → (is_marked marks (get_or numbers i d) ≡ true → (new ≡ marks) × (kept ≡ waits))
+    → (is_marked marks (get_or numbers i d) ≡ false → (new ≡ set marks (get_or numbers i d) true) × (kept ≡ waits ++ get_or numbers i d ∷ []))
+    → MarksNumbers old waiting (take (i + 1) numbers) new kept
+mark_turn old waiting numbers i d within marks waits so_far fits new kept known unknown = by (is_marked marks (get_or numbers i d)) refl
+  where
+    by : (b : Bool) → is_marked marks (get_or numbers i d) ≡ b → MarksNumbers old waiting (take (i + 1) numbers) new kept
+    by true e = marks_along _ _ _ _ _ _ _ (mark_turn_known old waiting numbers i d within marks waits so_far e) (known e).0 (known e).1
+    by false e = marks_along _ _ _ _ _ _ _ (mark_turn_new old waiting numbers i d within marks waits so_far e fits) (unknown e).0 (unknown e).1
 
 has_at : (xs : List ℕ) (place x : ℕ) → slice_get xs place ≡ Some x → has xs x ≡ true
 has_at [] place x e = absurd (cc)
@@ -200,7 +215,7 @@ module _ (graph : List (List ℕ)) (before : List Bool) (start : ℕ) where
       omega (arith, under.long)
 
   -- the start is marked already
-  pub work_start_known : length before ≡ length graph → AreClosed graph before → is_marked before start ≡ true → IsUnderWay graph before start before []
+  work_start_known : length before ≡ length graph → AreClosed graph before → is_marked before start ≡ true → IsUnderWay graph before start before []
   work_start_known long closed known = record {
     long = long;
     kept = λ k h. h;
@@ -212,7 +227,7 @@ module _ (graph : List (List ℕ)) (before : List Bool) (start : ℕ) where
   }
 
   -- the start is marked, and waits
-  pub work_start_new : length before ≡ length graph → AreClosed graph before → start < length graph → IsUnderWay graph before start (set before start true) (start ∷ [])
+  work_start_new : length before ≡ length graph → AreClosed graph before → start < length graph → IsUnderWay graph before start (set before start true) (start ∷ [])
   work_start_new long closed within =
       let at_start : is_marked (set before start true) start ≡ true = get_or-set_same before start true false (subst (λ m. start < m) (sym long) within) in
       let the_start : (k : ℕ) → has (start ∷ []) k ≡ true → start ≡ k = λ k h. elim (has_push [] start k h) [ inl e ↦ absurd (false≢true e) | inr e ↦ e ] in
@@ -229,25 +244,27 @@ module _ (graph : List (List ℕ)) (before : List Bool) (start : ℕ) where
         ];
       }
 
+under_along : (graph : List (List ℕ)) (before : List Bool) (start : ℕ) (marks made : List Bool) (waiting kept : List ℕ) → IsUnderWay graph before start marks waiting → made ≡ marks → kept ≡ waiting → IsUnderWay graph before start made kept
+under_along graph before start marks made waiting kept u e f =
+    subst (λ ms. IsUnderWay graph before start ms kept) (sym e) (subst (λ ws. IsUnderWay graph before start marks ws) (sym f) u)
+
+pub work_start : (graph : List (List ℕ)) (before : List Bool) (start : ℕ) (waiting : List ℕ) (marks : List Bool) (waits : List ℕ) → length before ≡ length graph → AreClosed graph before → start < length graph → waiting ≡ []
+    → (is_marked before start ≡ true → (marks ≡ before) × (waits ≡ waiting)) → (is_marked before start ≡ false → (marks ≡ set before start true) × (waits ≡ waiting ++ start ∷ [])) → IsUnderWay graph before start marks waits
+work_start graph before start waiting marks waits long closed within none known unknown = by (is_marked before start) refl
+  where
+    by : (b : Bool) → is_marked before start ≡ b → IsUnderWay graph before start marks waits
+    by true e = under_along graph before start before marks [] waits (work_start_known graph before start long closed e) (known e).0 ((known e).1 ∙ none)
+    by false e = under_along graph before start (set before start true) marks (start ∷ []) waits (work_start_new graph before start long closed within) (unknown e).0 ((unknown e).1 ∙ ap (λ ws. ws ++ start ∷ []) none)
+
 pub no_items : (xs : List ℕ) → length xs ≡ 0 → xs ≡ []
 no_items [] h = refl
 no_items (x ∷ xs) h = absurd (omega arith)
-
--- the numbers below one
-pub below_at : (graph : List (List ℕ)) (number : ℕ) (item : List ℕ) → number < length graph → item ≡ get_or graph number item → item ≡ get_or graph number []
-below_at [] number item within is_item = absurd (omega arith)
-below_at (numbers ∷ graph) zero item within is_item = is_item
-below_at (numbers ∷ graph) (suc number) item within is_item = below_at graph number item (omega arith) is_item
 
 -- the work that is left falls
 pub work_smaller : (marks new : List Bool) (waiting rest waits numbers : List ℕ) (number : ℕ) → waiting ≡ rest ++ number ∷ [] → MarksNumbers marks rest numbers new waits
     → length waits + (length new - count new) < length waiting + (length marks - count marks)
 work_smaller marks new waiting rest waits numbers number taken done =
     omega (arith, ap length taken, length-append rest (number ∷ []), done.same_work, done.long, count_within marks, count_within new)
-
-pub marks_along : (old : List Bool) (waiting numbers : List ℕ) (new made : List Bool) (waits kept : List ℕ) → MarksNumbers old waiting numbers new waits → made ≡ new → kept ≡ waits → MarksNumbers old waiting numbers made kept
-marks_along old waiting numbers new made waits kept m e f =
-    subst (λ n. MarksNumbers old waiting numbers n kept) (sym e) (subst (λ ws. MarksNumbers old waiting numbers new ws) (sym f) m)
 
 -- no mark is on
 pub none_closed : (graph : List (List ℕ)) (n : ℕ) → AreClosed graph (replicate n false)
@@ -258,7 +275,3 @@ pub reached_marks : (graph : List (List ℕ)) (start : ℕ) → start < length g
 reached_marks graph start within in_range marks long are =
     marks_are graph start within (λ outer number b. in_range outer number (has_above graph outer number b)) marks long
     (λ k h. marked_by_reach graph start k ((are k).0 h)) (λ k h. (are k).1 (reached_by_marks graph start k h))
-
-pub under_along : (graph : List (List ℕ)) (before : List Bool) (start : ℕ) (marks made : List Bool) (waiting kept : List ℕ) → IsUnderWay graph before start marks waiting → made ≡ marks → kept ≡ waiting → IsUnderWay graph before start made kept
-under_along graph before start marks made waiting kept u e f =
-    subst (λ ms. IsUnderWay graph before start ms kept) (sym e) (subst (λ ws. IsUnderWay graph before start marks ws) (sym f) u)

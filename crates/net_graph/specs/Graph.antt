@@ -51,6 +51,11 @@ pub record IsClosing (graph : List (List ℕ)) (number place : ℕ) : Type 0 whe
   pub closes : IsReached graph inner number
   pub first_place : (earlier other : ℕ) → earlier < place → slice_get numbers earlier ≡ Some other → ¬ IsReached graph other number
 
+-- the named number is this one, and the place is its closing place
+pub record IsRecursionAt (graph : List (List ℕ)) (number named place : ℕ) : Type 0 where
+  pub same_number : named ≡ number
+  pub closing : IsClosing graph named place
+
 -- the least number that reaches itself, and its closing place
 pub record IsFirstRecursion (graph : List (List ℕ)) (number place : ℕ) : Type 0 where
   pub closing : IsClosing graph number place

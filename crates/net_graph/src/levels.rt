@@ -5,6 +5,7 @@ ghost use Rattle.std.specs.Prelude.{ℕ, ◌≡◌, ◌<◌, ◌↔◌, ◌^◌,
 ghost use Rattle.net_graph.specs.Graph.{IsInRange};
 ghost use Rattle.net_graph.specs.Levels.{AreBelow, AreUpTo, FallsAt, IsFirstKept, LevelsFall, level_at};
 
+use crate::below::numbers_below;
 use crate::order::Visit;
 use nl_base::{NoMemory, Seq};
 use std::alloc::Global;
@@ -116,7 +117,7 @@ pub(crate) fn levels_from(
     seen[start as usize] = true;
     components.enter(start)?;
     while let Some(visit) = stack.pop() {
-        let numbers = graph[visit.number as usize].items();
+        let numbers = numbers_below(graph, visit.number);
         if visit.followed < numbers.len() {
             let below = numbers[visit.followed];
             stack.push(Visit {

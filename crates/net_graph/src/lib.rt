@@ -8,6 +8,7 @@
 // IEEE 1364-2005, clause 12 (module instances).
 #![tactic(auto)]
 
+mod below;
 pub mod levels;
 pub mod order;
 pub mod reach;

@@ -2,6 +2,7 @@
 ghost use Rattle.std.specs.Prelude.{ℕ, ◌≡◌, ◌<◌, length, IfOk, IsSome, MatchOption};
 ghost use Rattle.net_graph.specs.Graph.{IsInRange, IsPostorder, IsReached, ReachesItself};
 
+use crate::below::numbers_below;
 use nl_base::{NoMemory, Seq};
 use std::alloc::Global;
 
@@ -34,7 +35,7 @@ pub fn postorder(
     })?;
     seen[start as usize] = true;
     while let Some(visit) = stack.pop() {
-        let numbers = graph[visit.number as usize].items();
+        let numbers = numbers_below(graph, visit.number);
         if visit.followed < numbers.len() {
             let below = numbers[visit.followed];
             stack.push(Visit {

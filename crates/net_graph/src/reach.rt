@@ -1,11 +1,27 @@
 // Which numbers of a graph are reached.
-ghost use Rattle.std.specs.Prelude.{◌≡◌, ◌<◌, ◌↔◌, ◌⊎◌, ℕ, true, All, length, vec_len, IfOk, OnOk};
+ghost use Rattle.std.specs.Prelude.{◌≡◌, ◌<◌, ◌↔◌, ◌⊎◌, ◌++◌, ◌∷◌, [], ℕ, true, false, All, length, vec_len, IfOk, OnOk, slice_set};
 ghost use Rattle.net_graph.specs.Graph.{IsInRange, IsReached};
 ghost use Rattle.net_graph.specs.Marks.{is_marked, marks_of};
 ghost use Rattle.net_graph.specs.WorkList.{AreClosed, MarksNumbers};
 
+use crate::below::numbers_below;
 use nl_base::{NoMemory, Seq};
 use std::alloc::Global;
+
+// Marks the number, and lets it wait where it had no mark.
+fn mark(marks: &mut Vec<bool>, waiting: &mut Vec<u32>, number: u32) -> Result<(), NoMemory>
+    requires { number < vec_len marks.old }
+    ensures known { OnOk result (is_marked marks.old.items number ≡ true → (marks.new.items ≡ marks.old.items) × (waiting.new.items ≡ waiting.old.items)) }
+    ensures unknown { OnOk result (is_marked marks.old.items number ≡ false → (marks.new.items ≡ slice_set marks.old.items number true) × (waiting.new.items ≡ waiting.old.items ++ number ∷ [])) }
+{
+    let place = number as usize;
+    if marks[place] {
+        return Ok(());
+    }
+    marks[place] = true;
+    waiting.push(number)?;
+    Ok(())
+}
 
 // Marks the numbers, and lets those wait that had no mark.
 fn mark_numbers(
@@ -17,14 +33,7 @@ fn mark_numbers(
     ensures { OnOk result (MarksNumbers marks.old.items waiting.old.items numbers.now marks.new.items waiting.new.items) }
 {
     for number in numbers {
-        let place = *number as usize;
-        if !marks[place] {
-            marks[place] = true;
-            match waiting.push(*number) {
-                Ok(()) => (),
-                Err(_) => return Err(NoMemory),
-            }
-        }
+        mark(marks, waiting, *number)?;
     }
     Ok(())
 }
@@ -45,12 +54,9 @@ pub fn mark_reached(
     ensures marks { OnOk result ((number : ℕ) → (is_marked marks.new.items number ≡ true) ↔ ((is_marked marks.old.items number ≡ true) ⊎ IsReached graph.now start number)) }
 {
     let mut waiting = Vec::new(alloc);
-    if !marks[start as usize] {
-        marks[start as usize] = true;
-        waiting.push(start)?;
-    }
+    mark(marks, &mut waiting, start)?;
     while let Some(number) = waiting.pop() {
-        mark_numbers(marks, &mut waiting, graph[number as usize].items())?;
+        mark_numbers(marks, &mut waiting, numbers_below(graph, number))?;
     }
     Ok(())
 }

@@ -1,7 +1,8 @@
 // Which numbers of a graph reach themselves.
 ghost use Rattle.std.specs.Prelude.{ℕ, ◌<◌, ◌^◌, length, IfOk, MatchOption};
-ghost use Rattle.net_graph.specs.Graph.{IsClosing, IsFirstRecursion, IsInRange, ReachesItself};
+ghost use Rattle.net_graph.specs.Graph.{IsClosing, IsFirstRecursion, IsInRange, IsRecursionAt, ReachesItself};
 
+use crate::below::numbers_below;
 use crate::levels::{first_kept, levels_fall, levels_from};
 use crate::reach::mark_reached;
 use nl_base::{NoMemory, Seq};
@@ -20,7 +21,7 @@ fn closing_place(alloc: Global, graph: &[Seq<u32>], number: u32) -> Result<Optio
     requires within { number < length graph.now }
     ensures { IfOk result (λ found. MatchOption found (¬ ReachesItself graph.now number) (λ place. IsClosing graph.now number place)) }
 {
-    let numbers = graph[number as usize].items();
+    let numbers = numbers_below(graph, number);
     let mut marks = vec![in alloc; false; graph.len()]?;
     for place in 0..numbers.len() {
         mark_reached(alloc, graph, numbers[place], &mut marks)?;
@@ -31,6 +32,22 @@ fn closing_place(alloc: Global, graph: &[Seq<u32>], number: u32) -> Result<Optio
     Ok(None)
 }
 
+// The number with its closing place, or nothing exactly where it does not reach itself.
+fn recursion_at(
+    alloc: Global,
+    graph: &[Seq<u32>],
+    number: u32,
+) -> Result<Option<Recursion>, NoMemory>
+    requires in_range { IsInRange graph.now }
+    requires within { number < length graph.now }
+    ensures { IfOk result (λ found. MatchOption found (¬ ReachesItself graph.now number) (λ recursion. IsRecursionAt graph.now number recursion.number recursion.place)) }
+{
+    let Some(place) = closing_place(alloc, graph, number)? else {
+        return Ok(None);
+    };
+    Ok(Some(Recursion { number, place }))
+}
+
 // The same as `first_recursion`, by a search from each number.
 fn search_recursion(alloc: Global, graph: &[Seq<u32>]) -> Result<Option<Recursion>, NoMemory>
     requires in_range { IsInRange graph.now }
@@ -38,8 +55,8 @@ fn search_recursion(alloc: Global, graph: &[Seq<u32>]) -> Result<Option<Recursio
     ensures { IfOk result (λ found. MatchOption found ((number : ℕ) → ¬ ReachesItself graph.now number) (λ recursion. IsFirstRecursion graph.now recursion.number recursion.place)) }
 {
     for number in 0..graph.len() as u32 {
-        if let Some(place) = closing_place(alloc, graph, number)? {
-            return Ok(Some(Recursion { number, place }));
+        if let Some(recursion) = recursion_at(alloc, graph, number)? {
+            return Ok(Some(recursion));
         }
     }
     Ok(None)
@@ -63,8 +80,8 @@ pub fn first_recursion(
         let Some(number) = first_kept(graph, levels.as_slice()) else {
             return Ok(None);
         };
-        if let Some(place) = closing_place(alloc, graph, number)? {
-            return Ok(Some(Recursion { number, place }));
+        if let Some(recursion) = recursion_at(alloc, graph, number)? {
+            return Ok(Some(recursion));
         }
     }
     let found = search_recursion(alloc, graph)?;

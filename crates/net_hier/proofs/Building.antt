@@ -1,12 +1,13 @@
 -- Cells as a graph.
-use Rattle.std.proofs.Common.{◌≡◌, ℕ, ◌<◌, ◌≤◌, List, length, slice_get, Some, sym, ◌∙◌, ap, subst, arith, option_map}
+use Rattle.std.proofs.Common.{◌≡◌, ℕ, ◌<◌, ◌≤◌, List, length, slice_get, Some, refl, sym, ◌∙◌, ap, subst, arith, option_map}
 use Rattle.std.proofs.lemmas.List.{length-map}
 use Rattle.std.proofs.lemmas.Option.{slice_get-map, slice_get_within}
-use Rattle.net_graph.specs.Graph.{HasList, IsFirstRecursion, IsInRange, IsReached, ReachesItself}
+use Rattle.net_graph.specs.Graph.{HasList, IsFirstRecursion, IsInRange, IsPostorder, IsReached, ReachesItself}
 use Rattle.net_graph.proofs.ListLaws.{element_there, same_element}
-use Rattle.net_hier.specs.Build.{IsOrderOf}
+use Rattle.net_hier.specs.Build.{IsBuilt, IsOrderOf, IsPostorderOf, IsTooBig}
 use Rattle.net_hier.specs.Design.{IsCell, below_of, cells_below}
-use Rattle.net_hier.specs.Valid.{CellsFit, Each, IsGoodCell, IsHier, count_limit}
+use Rattle.net_hier.specs.Units.{units}
+use Rattle.net_hier.specs.Valid.{CellsFit, Each, IsGoodCell, IsHier, count_limit, unit_limit}
 use Rattle.net_hier.specs.declared.cells.HCell.{HCell}
 use Rattle.net_hier.specs.declared.cells.HInst.{HInst}
 use Rattle.net_hier.specs.declared.cells.HProp.{HProp}
@@ -85,6 +86,18 @@ pub place_within : (graph : List (List ℕ)) (number place : ℕ) → IsFirstRec
 place_within graph number place first few =
     omega (arith, slice_get_within first.closing.numbers place first.closing.inner first.closing.is_there, few number first.closing.numbers first.closing.are_below)
 
+-- the postorder, where the units are within the limit
+pub order_kept : (cells : List HCell) (top : ℕ) (list order : List ℕ) → IsPostorderOf cells top list → order ≡ list → units cells ≤ unit_limit → IsOrderOf cells top order
+order_kept cells top list order is_postorder same few = record {
+  no_recursion = is_postorder.no_recursion;
+  few_units = few;
+  postorder = subst (IsPostorder (cells_below cells) top) (sym same) is_postorder.postorder;
+}
+
+-- the units, where they pass the limit
+pub too_big : (cells : List HCell) (top : ℕ) (list : List ℕ) (count : ℕ) → IsPostorderOf cells top list → count ≡ units cells → unit_limit < count → IsTooBig cells count
+too_big cells top list count is_postorder is_count passes = record { no_recursion = is_postorder.no_recursion; is_count = is_count; passes = passes }
+
 -- cells that fit, with their order, are a design
 pub hier_of : (cells : List HCell) (top : ℕ) (props : List HProp) (order : List ℕ) → CellsFit cells top → IsOrderOf cells top order → IsHier (record { cells = cells; top = top; props = props; order = order })
 hier_of cells top props order fit is_order = record {
@@ -92,3 +105,7 @@ hier_of cells top props order fit is_order = record {
   few_parts = fit.few_parts;
   few_units = is_order.few_units;
 }
+
+-- and it has these cells, this top and these properties
+pub built : (cells : List HCell) (top : ℕ) (props : List HProp) (order : List ℕ) → CellsFit cells top → IsOrderOf cells top order → IsBuilt cells top props (record { cells = cells; top = top; props = props; order = order })
+built cells top props order fit is_order = record { same_cells = refl; same_top = refl; same_props = refl; is_hier = hier_of cells top props order fit is_order }

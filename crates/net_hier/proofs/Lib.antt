@@ -1,6 +1,7 @@
 pub mod Back
 pub mod Building
 pub mod Example
+pub mod ExampleValid
 pub mod FactsAgree
 pub mod Fitting
 pub mod Forth

@@ -27,6 +27,11 @@ IsFaultOf cells (Recursion cell instance) = IsFirstRecursion (cells_below cells)
 IsFaultOf cells (TooBig count) = IsTooBig cells count
 IsFaultOf cells NoMemory = Unit {0}
 
+-- no cell reaches itself, and the order is the postorder of the walk from the top
+pub record IsPostorderOf (cells : List HCell) (top : ℕ) (order : List ℕ) : Type 0 where
+  pub no_recursion : (number : ℕ) → ¬ ReachesItself (cells_below cells) number
+  pub postorder : IsPostorder (cells_below cells) top order
+
 -- the order of cells of which none reaches itself, and whose units are within the limit
 pub record IsOrderOf (cells : List HCell) (top : ℕ) (order : List ℕ) : Type 0 where
   pub no_recursion : (number : ℕ) → ¬ ReachesItself (cells_below cells) number

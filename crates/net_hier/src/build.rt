@@ -1,7 +1,7 @@
 // Whether cells that fit are a design.
 ghost use Rattle.std.specs.Prelude.{ℕ, ◌≡◌, ◌<◌, ◌≤◌, ◌^◌, List, length, MatchResult};
 ghost use Rattle.net_graph.specs.Graph.{HasList, IsInRange, ReachesItself};
-ghost use Rattle.net_hier.specs.Build.{IsFaultOf, IsOrderOf, IsRecursionFault};
+ghost use Rattle.net_hier.specs.Build.{IsFaultOf, IsOrderOf, IsPostorderOf, IsRecursionFault};
 ghost use Rattle.net_hier.specs.Valid.{CellsFit, count_limit};
 ghost use Rattle.net_hier.specs.declared.build.BuildFault.TheVariants.{NoMemory};
 
@@ -54,16 +54,26 @@ fn recursion_fault(alloc: Global, graph: &[Seq<u32>], top: u32) -> BuildFault
     }
 }
 
-/// The order of cells that fit, or why they are no design.
-pub fn order_of(alloc: Global, cells: &[HCell], top: u32) -> Result<Seq<u32>, BuildFault>
+// The postorder of cells that fit, or why there is none.
+fn postorder_of(alloc: Global, cells: &[HCell], top: u32) -> Result<Vec<u32>, BuildFault>
     requires { CellsFit cells.now top }
-    ensures { MatchResult result (IsOrderOf cells.now top) (IsFaultOf cells.now) }
+    ensures { MatchResult result (λ order. IsPostorderOf cells.now top order.items) (IsFaultOf cells.now) }
 {
     let graph = graph_of(alloc, cells)?;
     let Some(order) = postorder(alloc, graph.as_slice(), top)? else {
         return Err(recursion_fault(alloc, graph.as_slice(), top));
     };
-    let units = units_of(cells);
+    Ok(order)
+}
+
+/// The order of cells that fit, or why they are no design.
+#[tactic(auto, using(crate::proofs::Building::order_kept, crate::proofs::Building::too_big))]
+pub fn order_of(alloc: Global, cells: &Seq<HCell>, top: u32) -> Result<Seq<u32>, BuildFault>
+    requires { CellsFit cells.now top }
+    ensures { MatchResult result (IsOrderOf cells.now top) (IsFaultOf cells.now) }
+{
+    let order = postorder_of(alloc, cells.items(), top)?;
+    let units = units_of(cells.items());
     if units > UNIT_LIMIT {
         return Err(BuildFault::TooBig(units));
     }

@@ -34,6 +34,7 @@ impl Model for Hier {
 
 impl Hier {
     /// The design of these cells, this top and these properties, where no cell reaches itself and the units are at most 33,554,432.
+    #[tactic(auto, using(crate::proofs::Building::built, crate::proofs::Building::hier_of))]
     pub fn build(
         alloc: Global,
         cells: Seq<HCell>,
@@ -43,7 +44,7 @@ impl Hier {
         requires { CellsFit cells top }
         ensures { MatchResult result (IsBuilt cells top props) (IsFaultOf cells) }
     {
-        let order = order_of(alloc, cells.items(), top)?;
+        let order = order_of(alloc, &cells, top)?;
         Ok(Hier {
             cells,
             top,

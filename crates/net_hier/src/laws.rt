@@ -13,8 +13,10 @@ pub fn same_cells_give_same_design()
 {}
 
 /// A cell whose port is joined to the constant zero is the same as one whose port a net joins to an added instance of `GND`, and
-/// it is no longer the same design once the join is dropped: the definitions are neither empty nor trivial.
+/// it is no longer the same design once the join is dropped: the definitions are neither empty nor trivial. All three designs are
+/// valid, so the premises of `same_cells_give_same_design` hold of the first two.
 pub fn example_designs()
+    ensures valid { IsValid tied_design × IsValid translated_design × IsValid untied_design }
     ensures same { SameCells usual_names tied_design translated_design (Some 1) }
     ensures other { ¬ SameDesign usual_names tied_design untied_design }
 {}

@@ -111,6 +111,38 @@ fn a_cell_that_is_not_reached(rt: HostRuntime) -> Result<(), Fail> {
     Ok(())
 }
 
+// 100,000 cells, each with one instance of the next. The last has one of the cell `back`, if there is one.
+fn chain(alloc: Global, back: Option<u32>) -> Result<Seq<HCell>, NoMemory> {
+    let mut made = Seq::empty(alloc);
+    for number in 1..100_000 {
+        made.push(cell(alloc, &[(b"u", number)])?)?;
+    }
+    match back {
+        Some(number) => made.push(cell(alloc, &[(b"u", number)])?)?,
+        None => made.push(cell(alloc, &[])?)?,
+    }
+    Ok(made)
+}
+
+fn chained(alloc: Global, back: Option<u32>) -> Result<Answer, NoMemory> {
+    let cells = chain(alloc, back)?;
+    let answer = answer_of(alloc, cells, 0)?;
+    Ok(answer)
+}
+
+// The time of `build` is in proportion to the cells: a search from each cell would not end here in a test's time.
+#[test]
+fn deep_chains(rt: HostRuntime) -> Result<(), Fail> {
+    for (back, answer) in [
+        (None, Answer::Design([99_999, 99_998])),
+        (Some(0), Answer::Recursion(0, 0)),
+        (Some(99_999), Answer::Recursion(99_999, 0)),
+    ] {
+        assert_eq!(rt; chained(rt.alloc(), back)?, answer);
+    }
+    Ok(())
+}
+
 fn const_name(alloc: Global, cell: &[u8]) -> Result<ConstName, NoMemory> {
     let cell = Text::copy(alloc, cell)?;
     let port = Text::copy(alloc, b"Y")?;

@@ -1,4 +1,4 @@
-use Rattle.std.proofs.Common.{arith}
+use Rattle.std.proofs.Common.{refl, arith}
 use Rattle.net_hier.specs.contracts.nodes.NodeEq.TheImpl.Laws.{laws-law}
 use Rattle.net_hier.specs.declared.nodes.Node.TheVariants.{Port}
 use Rattle.net_bits.specs.Neighbours.{ends}
@@ -7,7 +7,7 @@ use Rattle.net_bits.proofs.joined.joined_nodes.Goals as goal
 
 pub loop-join-preserved : goal.loop-join-preserved
 loop-join-preserved c = joined_turn laws-law c.args.joins.now c.loop-join.join-index (record { a = Port 0 0; b = Port 0 0 }) (omega arith)
-    c.loop-join.nodes.keys c.insert.new.self.keys c.insert-in-loop-join.new.self.keys c.in_ok-insert.ensures.keys c.in_ok-insert-2.ensures.keys c.loop-join.invariant
+    c.loop-join.nodes.keys _ c.add_ends.new.nodes.keys refl c.in_ok-add_ends.ensures c.loop-join.invariant
 
 pub returns-clause-in_order : goal.returns-clause-in_order
 returns-clause-in_order c = sorted_keys c.sort.new.self.keys c.in_ok-sort.ensures.sorted c.in_ok-sort.ensures.unique

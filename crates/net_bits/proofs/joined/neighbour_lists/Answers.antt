@@ -6,27 +6,27 @@ use Rattle.net_bits.proofs.EndLists.{join_more}
 use Rattle.net_bits.proofs.EndSets.{end_a, end_b}
 use Rattle.net_bits.proofs.joined.neighbour_lists.Goals as goal
 
-pub number_of-a-requires-clause-member : goal.number_of-a-requires-clause-member
-number_of-a-requires-clause-member c = c.requires.members _ (end_a c.args.joins.now c.loop-join.join-index _ (omega arith))
+pub ends_of-a-requires-clause-a : goal.ends_of-a-requires-clause-a
+ends_of-a-requires-clause-a c = c.requires.members _ (end_a c.args.joins.now c.loop-join.join-index _ (omega arith))
 
-pub number_of-b-requires-clause-member : goal.number_of-b-requires-clause-member
-number_of-b-requires-clause-member c = c.requires.members _ (end_b c.args.joins.now c.loop-join.join-index _ (omega arith))
+pub ends_of-a-requires-clause-b : goal.ends_of-a-requires-clause-b
+ends_of-a-requires-clause-b c = c.requires.members _ (end_b c.args.joins.now c.loop-join.join-index _ (omega arith))
 
 pub index_mut-requires : goal.index_mut-requires
 index_mut-requires c =
     let items = c.loop-join.lists.items in
-    omega (arith, slice_get_within c.args.nodes.now.keys c.number_of-a.result _ c.number_of-a.ensures, c.loop-join.invariant.lists.len, length-map items (λ (v : Vec ℕ Global). v.items), c.loop-join.lists.ok.0)
+    omega (arith, slice_get_within c.args.nodes.now.keys c.ends_of-a.result.0 _ c.ends_of-a.ensures.a, c.loop-join.invariant.lists.len, length-map items (λ (v : Vec ℕ Global). v.items), c.loop-join.lists.ok.0)
 
 pub index_mut-requires-in-loop-join : goal.index_mut-requires-in-loop-join
 index_mut-requires-in-loop-join c =
     let items = c.loop-join.lists.items in
-    omega (arith, slice_get_within c.args.nodes.now.keys c.number_of-b.result _ c.number_of-b.ensures, c.loop-join.invariant.lists.len, length-map items (λ (v : Vec ℕ Global). v.items), c.loop-join.lists.ok.0)
+    omega (arith, slice_get_within c.args.nodes.now.keys c.ends_of-a.result.1 _ c.ends_of-a.ensures.b, c.loop-join.invariant.lists.len, length-map items (λ (v : Vec ℕ Global). v.items), c.loop-join.lists.ok.0)
 
 pub loop-join-preserved : goal.loop-join-preserved
 loop-join-preserved c =
     let r = join_more c.args.nodes.now.keys c.requires.in_order c.args.joins.now c.loop-join.join-index (record { a = Port 0 0; b = Port 0 0 })
-    c.number_of-a.result c.number_of-b.result c.loop-join.lists.items
+    c.ends_of-a.result.0 c.ends_of-a.result.1 c.loop-join.lists.items
     c.index_mut.result.now c.push-in-loop-join.new.self c.index_mut-in-loop-join.result.now c.push-in-loop-join-2.new.self
-    (omega arith) c.number_of-a.ensures c.number_of-b.ensures c.loop-join.invariant.lists c.loop-join.invariant.degrees
+    (omega arith) c.ends_of-a.ensures.a c.ends_of-a.ensures.b c.loop-join.invariant.lists c.loop-join.invariant.degrees
     (search rules) c.in_ok-push-2.ensures.items (search rules) c.in_ok-push-3.ensures.items in
     record { lists = r.0; degrees = r.1 }

@@ -1,45 +1,32 @@
-use Rattle.std.proofs.Common.{◌≡◌, ◌<◌, false, [], ◌∷◌, ◌++◌, length, get_or, sym, ap, ◌∙◌, subst, arith}
-use Rattle.std.proofs.lemmas.List.{get_or_read}
-use Rattle.net_graph.specs.Marks.{is_marked}
+use Rattle.std.proofs.Common.{◌≡◌, ◌<◌, [], length, get_or, sym, subst, arith}
+use Rattle.std.proofs.lemmas.Option.{get_or_from_slice_get}
 use Rattle.net_graph.specs.WorkList.{IsUnderWay}
-use Rattle.net_graph.proofs.WorkLaws.{all_closed, below_at, no_items, under_along, work_bound, work_fits, work_marks, work_smaller, work_start_known, work_start_new, work_turn}
+use Rattle.net_graph.proofs.WorkLaws.{all_closed, no_items, work_bound, work_fits, work_marks, work_smaller, work_start, work_turn}
 use Rattle.net_graph.proofs.reach.mark_reached.Goals as goal
-use Rattle.net_graph.proofs.reach.mark_reached.Goals.{then-not-index+in_ok-push, else-not-index}
 
 pub loop-number-init : goal.loop-number-init
 loop-number-init c =
     let long : length c.args.marks.now.items ≡ length c.args.graph.now = omega (arith, c.args.marks.now.ok.0, c.requires.long) in
-    let fits : c.args.start < length c.args.marks.now.items = omega (arith, long, c.requires.within) in
-    let read : c.index.result.now ≡ is_marked c.args.marks.now.items c.args.start = get_or_read c.args.marks.now.items _ _ fits c.index.ensures false in
-    elim c.if-not-index.branch [
-      | then-not-index+in_ok-push w ↦ under_along _ _ _ _ _ _ _
-          (work_start_new c.args.graph.now c.args.marks.now.items c.args.start long c.requires.closed c.requires.within)
-          (ap (λ v. v.items) w.marks-is) (ap (λ v. v.items) w.waiting-is ∙ (w.in_ok-push.ensures.items ∙ ap (λ ws. ws ++ c.args.start ∷ []) c.new-waiting.ensures.items))
-      | else-not-index w ↦ under_along _ _ _ _ _ _ _
-          (work_start_known c.args.graph.now c.args.marks.now.items c.args.start long c.requires.closed (sym read ∙ w.if-not-index.false))
-          (ap (λ v. v.items) w.marks-is) (ap (λ v. v.items) w.waiting-is ∙ c.new-waiting.ensures.items)
-    ]
+    work_start c.args.graph.now c.args.marks.now.items c.args.start c.new-waiting.result.items c.mark.new.marks.items c.mark.new.waiting.items long c.requires.closed c.requires.within c.new-waiting.ensures.items c.in_ok-mark.ensures.known c.in_ok-mark.ensures.unknown
 
-pub bounds-graph-number : goal.bounds-graph-number
-bounds-graph-number c = work_bound _ _ _ _ _ _ _ c.loop-number.invariant c.in-Some.ensures.items
+pub numbers_below-requires : goal.numbers_below-requires
+numbers_below-requires c = work_bound _ _ _ _ _ _ _ c.loop-number.invariant c.in-Some.ensures.items
 
 pub mark_numbers-requires : goal.mark_numbers-requires
 mark_numbers-requires c k d h =
-    let b : c.in-Some.number < length c.args.graph.now = work_bound _ _ _ _ _ _ _ c.loop-number.invariant c.in-Some.ensures.items in
-    let r : get_or c.items.result.now k d < length c.loop-number.marks.items =
-    work_fits c.args.graph.now c.args.marks.now.items c.args.start c.loop-number.marks.items c.loop-number.waiting.items c.loop-number.invariant c.requires.in_range c.in-Some.number c.items.result.now
-    (c.items.ensures ∙ below_at c.args.graph.now c.in-Some.number c.index-graph-number.result b c.index-graph-number.is) k d h in
+    let r : get_or c.numbers_below.result.now k d < length c.loop-number.marks.items =
+    work_fits c.args.graph.now c.args.marks.now.items c.args.start c.loop-number.marks.items c.loop-number.waiting.items c.loop-number.invariant c.requires.in_range c.in-Some.number c.numbers_below.result.now
+    (sym (get_or_from_slice_get c.args.graph.now c.in-Some.number c.numbers_below.result.now [] c.numbers_below.ensures)) k d h in
     omega (arith, r, c.loop-number.marks.ok.0)
 
 pub loop-number-smaller : goal.loop-number-smaller
 loop-number-smaller c =
-    work_smaller c.loop-number.marks.items c.mark_numbers.new.marks.items c.loop-number.waiting.items c.pop.new.self.items c.mark_numbers.new.waiting.items c.items.result.now c.in-Some.number c.in-Some.ensures.items c.in_ok-mark_numbers.ensures
+    work_smaller c.loop-number.marks.items c.mark_numbers.new.marks.items c.loop-number.waiting.items c.pop.new.self.items c.mark_numbers.new.waiting.items c.numbers_below.result.now c.in-Some.number c.in-Some.ensures.items c.in_ok-mark_numbers.ensures
 
 pub loop-number-preserved : goal.loop-number-preserved
 loop-number-preserved c =
-    let b : c.in-Some.number < length c.args.graph.now = work_bound _ _ _ _ _ _ _ c.loop-number.invariant c.in-Some.ensures.items in
-    work_turn c.args.graph.now c.args.marks.now.items c.args.start c.loop-number.marks.items c.mark_numbers.new.marks.items c.loop-number.waiting.items c.pop.new.self.items c.mark_numbers.new.waiting.items c.items.result.now c.in-Some.number c.loop-number.invariant c.in-Some.ensures.items
-    (c.items.ensures ∙ below_at c.args.graph.now c.in-Some.number c.index-graph-number.result b c.index-graph-number.is) c.in_ok-mark_numbers.ensures
+    work_turn c.args.graph.now c.args.marks.now.items c.args.start c.loop-number.marks.items c.mark_numbers.new.marks.items c.loop-number.waiting.items c.pop.new.self.items c.mark_numbers.new.waiting.items c.numbers_below.result.now c.in-Some.number c.loop-number.invariant c.in-Some.ensures.items
+    (sym (get_or_from_slice_get c.args.graph.now c.in-Some.number c.numbers_below.result.now [] c.numbers_below.ensures)) c.in_ok-mark_numbers.ensures
 
 pub returns-clause-closed : goal.returns-clause-closed
 returns-clause-closed c =

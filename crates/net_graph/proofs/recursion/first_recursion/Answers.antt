@@ -1,4 +1,5 @@
-use Rattle.std.proofs.Common.{subst}
+use Rattle.std.proofs.Common.{◌<◌, subst}
+use Rattle.net_graph.specs.Graph.{IsRecursionAt}
 use Rattle.net_graph.specs.Levels.{FallsAt, LevelsFall}
 use Rattle.net_graph.proofs.Levelling.{falls_free}
 use Rattle.net_graph.proofs.ListLaws.{said_of_some}
@@ -13,9 +14,10 @@ returns-in_default c number reaches =
 pub returns-in-Some-2 : goal.returns-in-Some-2
 returns-in-Some-2 c =
     let fall : LevelsFall c.args.graph.now c.in_ok-levels.levels.items = subst (LevelsFall c.args.graph.now) c.as_slice.ensures.value (c.levels_fall.ensures.0 c.if-levels_fall.true) in
+    let at : IsRecursionAt c.args.graph.now c.in-Some.number c.in-Some-2.recursion.number c.in-Some-2.recursion.place = said_of_some c.in_ok-recursion.field-0 _ _ c.in-Some-2.recursion c.in-Some-2.is c.in_ok-recursion.ensures in
     record {
-      closing = said_of_some c.in_ok-place.field-0 _ _ c.in-Some-2.place c.in-Some-2.is c.in_ok-place.ensures;
+      closing = at.closing;
       first_number = λ earlier lt reaches.
-          let falls : FallsAt c.args.graph.now c.in_ok-levels.levels.items earlier = subst (λ levels. FallsAt c.args.graph.now levels earlier) c.as_slice-then-levels_fall.ensures.value (c.in-Some.ensures.first earlier lt) in
+          let falls : FallsAt c.args.graph.now c.in_ok-levels.levels.items earlier = subst (λ levels. FallsAt c.args.graph.now levels earlier) c.as_slice-then-levels_fall.ensures.value (c.in-Some.ensures.first earlier (subst (λ n. earlier < n) at.same_number lt)) in
           falls_free c.args.graph.now c.in_ok-levels.levels.items earlier fall falls reaches;
     }

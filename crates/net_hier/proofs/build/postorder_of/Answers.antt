@@ -1,10 +1,10 @@
-use Rattle.std.proofs.Common.{◌≡◌, ℕ, ◌≤◌, List, length, sym, ◌∙◌, subst, arith}
+use Rattle.std.proofs.Common.{◌≡◌, ℕ, ◌≤◌, List, length, sym, ◌∙◌, subst}
 use Rattle.net_graph.specs.Graph.{HasList, IsInRange, IsPostorder, IsReached, ReachesItself}
 use Rattle.net_hier.specs.Design.{cells_below}
 use Rattle.net_hier.specs.Valid.{count_limit}
 use Rattle.net_graph.proofs.ListLaws.{said_of_some, some_is}
 use Rattle.net_hier.proofs.Building.{few, in_range, none_reaches}
-use Rattle.net_hier.proofs.build.order_of.Goals as goal
+use Rattle.net_hier.proofs.build.postorder_of.Goals as goal
 
 pub postorder-requires-clause-in_range : goal.postorder-requires-clause-in_range
 postorder-requires-clause-in_range c =
@@ -21,17 +21,6 @@ recursion_fault-requires-clause-few c =
     let is_graph : c.as_slice-in_default.result.now ≡ cells_below c.args.cells.now = c.as_slice-in_default.ensures.value ∙ c.in_ok-graph.ensures in
     subst (λ graph. (number : ℕ) (numbers : List ℕ) → HasList graph number numbers → length numbers ≤ count_limit) (sym is_graph) (few c.args.cells.now c.args.top c.requires)
 
-pub returns-then-units-gt-UNIT_LIMIT : goal.returns-then-units-gt-UNIT_LIMIT
-returns-then-units-gt-UNIT_LIMIT c =
-    let is_graph : c.as_slice.result.now ≡ cells_below c.args.cells.now = c.as_slice.ensures.value ∙ c.in_ok-graph.ensures in
-    let free : (number : ℕ) → IsReached (cells_below c.args.cells.now) c.args.top number → ¬ ReachesItself (cells_below c.args.cells.now) number =
-    subst (λ graph. (number : ℕ) → IsReached graph c.args.top number → ¬ ReachesItself graph number) is_graph (c.in_ok-order.ensures.free (some_is _ _ c.in-Some.is)) in
-    record {
-      no_recursion = none_reaches c.args.cells.now c.args.top c.requires free;
-      is_count = c.units_of-units.ensures;
-      passes = omega (arith, c.if-units-gt-UNIT_LIMIT.true);
-    }
-
 pub returns : goal.returns
 returns c =
     let is_graph : c.as_slice.result.now ≡ cells_below c.args.cells.now = c.as_slice.ensures.value ∙ c.in_ok-graph.ensures in
@@ -40,6 +29,5 @@ returns c =
     let listed : IsPostorder c.as_slice.result.now c.args.top c.in-Some.order.items = said_of_some c.in_ok-order.field-0 _ _ c.in-Some.order c.in-Some.is c.in_ok-order.ensures.order in
     record {
       no_recursion = none_reaches c.args.cells.now c.args.top c.requires free;
-      few_units = omega (arith, c.if-units-gt-UNIT_LIMIT.false, c.units_of-units.ensures);
-      postorder = subst (λ order. IsPostorder (cells_below c.args.cells.now) c.args.top order) (sym c.of.ensures) (subst (λ graph. IsPostorder graph c.args.top c.in-Some.order.items) is_graph listed);
+      postorder = subst (λ graph. IsPostorder graph c.args.top c.in-Some.order.items) is_graph listed;
     }
