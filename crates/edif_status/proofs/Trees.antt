@@ -93,7 +93,7 @@ module _ (room : ℕ) (inner : Edif (List UserTree)) (so_far : List UserTree) (k
   more_by is =
       reading_while edif (λ _ _ x. tree_of room x.token) (λ so_far c. sequence (tree_rest inner c) (λ t. gives (so_far ++ t ∷ []))) (λ so_far. sequence closing (λ _. gives so_far)) so_far k s
       ∙ at_next begins_tree _ (sequence (one (λ _ x. tree_start room x.token)) (λ c. sequence (sequence (tree_rest inner c) (λ t. gives (so_far ++ t ∷ []))) (trees_by room inner))) k s
-          (λ x ts h. started (λ x. tree_of room x.token) (λ x. tree_start room x.token) _ _ k x ts (tree_begins room x.token h)) is
+      (λ x ts h. started (λ x. tree_of room x.token) (λ x. tree_start room x.token) _ _ k x ts (tree_begins room x.token h)) is
       ∙ reading_round edif (one (λ _ x. tree_start room x.token)) (tree_rest inner) (λ t. so_far ++ t ∷ []) (trees_by room inner) k s
       ∙ sym (reading_then edif (tree_by room inner) (λ t. trees_by room inner (so_far ++ t ∷ [])) k s)
 

@@ -35,11 +35,7 @@ pub fn read_note<S: Source>(
 
 /// Reads on after the keyword `comment`.
 #[tactic(auto, using(readers::proofs::Reading::sequences), unfolding(crate::specs::Grammar::remark))]
-fn remark<S: Source>(
-    alloc: Global,
-    cursor: &mut Cursor,
-    source: &mut S,
-) -> Result<Note, ReadError>
+fn remark<S: Source>(alloc: Global, cursor: &mut Cursor, source: &mut S) -> Result<Note, ReadError>
     ensures { Reads edif same remark result cursor.old cursor.new (supply S.left S.faults source.old) (supply S.left S.faults source.new) }
 {
     let texts = read_comment(alloc, cursor, source)?;

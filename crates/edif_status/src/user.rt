@@ -131,11 +131,7 @@ fn read_plain<S: Source>(
 
 /// Whether there is a next token that begins a tree. It takes nothing.
 #[tactic(auto, using(crate::proofs::Trees::trees_next))]
-fn at_tree<S: Source>(
-    alloc: Global,
-    cursor: &mut Cursor,
-    source: &mut S,
-) -> Result<bool, ReadError>
+fn at_tree<S: Source>(alloc: Global, cursor: &mut Cursor, source: &mut S) -> Result<bool, ReadError>
     ensures { LooksFor edif begins_tree result cursor.old cursor.new (supply S.left S.faults source.old) (supply S.left S.faults source.new) }
 {
     cursor.look(alloc, source)?;

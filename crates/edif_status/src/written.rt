@@ -40,7 +40,7 @@ pub struct Written {
 
 /// Reads on after the keyword `written`: a time stamp, and what is told of the writing.
 #[tactic(auto, using(readers::proofs::Reading::sequences), unfolding(crate::specs::Grammar::written))]
-pub fn read_written<S: Source>(
+pub(crate) fn read_written<S: Source>(
     alloc: Global,
     cursor: &mut Cursor,
     source: &mut S,
