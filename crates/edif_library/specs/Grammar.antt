@@ -11,7 +11,7 @@ use Rattle.edif_keywords.specs.Language.{Edif}
 use Rattle.edif_keywords.specs.Grammar.{word, closing, choice, view_type, begin, items, level, header}
 use Rattle.edif_names.specs.declared.name.NameDef.{NameDef}
 use Rattle.edif_names.specs.Grammar.{name, scaled, property}
-use Rattle.edif_status.specs.declared.status.Note.{Note}
+use Rattle.edif_status.specs.declared.note.Note.{Note}
 use Rattle.edif_status.specs.Grammar.{note, note_keywords, status}
 use Rattle.edif_nets.specs.Grammar.{designator, port, instance, net}
 use Rattle.edif_library.specs.declared.view.InterfaceItem.{InterfaceItem}
