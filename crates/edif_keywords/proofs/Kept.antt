@@ -1,8 +1,8 @@
 -- What the values keep that a part spells from the tokens of a text: one fact for each way in which a part is made.
-use Rattle.std.proofs.Common.{◌≡◌, sym, refl, subst, ap, ℕ, Bool, true, false, List, [], ◌∷◌, ◌++◌, map, Option, Some, None, Result, Ok, Err, ℤ, arith, inl, inr}
+use Rattle.std.proofs.Common.{◌≡◌, sym, refl, subst, ℕ, Bool, true, false, cond, List, [], ◌∷◌, ◌++◌, map, Option, Some, None, Result, Ok, Err, ℤ, inl, inr}
 use Rattle.std.specs.Prelude.{⊤, if◌then◌else◌}
 use Rattle.std.specs.List.{AllByRecursion}
-use Rattle.grammar.specs.Part.{Part, Glance, gives, sequence, takes}
+use Rattle.grammar.specs.Part.{Glance, gives, sequence, takes}
 use Rattle.grammar.specs.Texts.{Spells, Rounds, ends, goes, TakenText}
 use Rattle.grammar.specs.Whole.{Terminal, proper, end}
 use Rattle.nl_base.specs.declared.place.Place.{Place}
@@ -18,8 +18,9 @@ use Rattle.edif_keywords.specs.declared.keyword.Keyword.{Keyword}
 use Rattle.edif_keywords.specs.Keywords.{has}
 use Rattle.edif_keywords.specs.Aliases.{Alias, means}
 use Rattle.edif_keywords.specs.Language.{Edif, last}
+use Rattle.edif_keywords.specs.Values.{IsWord, IsInteger, IsString, AreStrings}
 use Rattle.edif_keywords.specs.Reasons as say
-use Rattle.edif_keywords.specs.Grammar.{word, string, integer, opening, closing, keyword, begin, forms, item, items, strings, form_or}
+use Rattle.edif_keywords.specs.Grammar.{word, string, integer, opening, closing, keyword, begin, forms, item, items, strings, comment, form_or}
 
 -- a token of a text, or the end of the input
 abbrev pub IsSound : Terminal Found Place → Type 0
@@ -66,6 +67,15 @@ kept_after p next = record {
   kept = λ table ts v all spells. let both = split ts spells.1 spells.2 spells.3 all in (next spells.0).kept table spells.2 v both.1 spells.5;
 }
 
+-- one part or another
+pub kept_cond : {A : Type 0} {Good : A → Type 0} (b : Bool) (p q : Edif A) → Kept p Good → Kept q Good → Kept (cond b p q) Good
+kept_cond true p q h l = h
+kept_cond false p q h l = l
+
+-- what is good is so in a weaker sense
+pub kept_weaker : {A : Type 0} {p : Edif A} {P Q : A → Type 0} → Kept p P → ((v : A) → P v → Q v) → Kept p Q
+kept_weaker known next = record { kept = λ table ts v all spells. next v (known.kept table ts v all spells) }
+
 -- one token that says a good value
 pub kept_one : {A : Type 0} {Good : A → Type 0} (f : List Alias → Found → Result A Reason) → ((table : List Alias) (x : Found) (v : A) → IsProper x.token → f table x ≡ Ok v → Good v) → Kept (one f) Good
 unfolding one
@@ -109,18 +119,6 @@ kept_while {A = A} {C = C} {S = S} {Good = Good} Holds f q e round last s holds 
         by table t (taken {Good = Holds} (f s) (q s) table (round s holds table) a t both.0 text) b v both.1 rest
 
 -- ---- tokens
-
--- what a word of a text keeps
-abbrev pub IsWord : List ℕ → Type 0
-IsWord w = IsProper (Word w)
-
--- what a string of a text keeps
-abbrev pub IsString : List ℕ → Type 0
-IsString s = IsProper (Str s)
-
--- what an integer of a text keeps
-abbrev pub IsInteger : ℤ → Type 0
-IsInteger n = IsProper (Number n)
 
 word_is : (t : Token) (w : List ℕ) → IsProper t → say.word_of t ≡ Ok w → IsWord w
 word_is LeftParen w is h = absurd cc
@@ -206,13 +204,13 @@ pub kept_all : {I : Type 0} (Good : I → Type 0) (allowed : List I → List Key
     → ((s : List I) (q : Keyword) → has (allowed s) q ≡ true → Kept (rest q) Good) → (s : List I) → AllByRecursion Good s → Kept (items allowed rest s) (λ is. AllByRecursion Good is)
 kept_all Good allowed rest r s good =
     kept_items (λ is. AllByRecursion Good is) allowed rest (λ so_far all q has_q. kept_weaker (r so_far q has_q) (λ i is. AllByRecursion-push Good so_far i all is)) s good
-  where
-    kept_weaker : {A : Type 0} {p : Edif A} {P Q : A → Type 0} → Kept p P → ((v : A) → P v → Q v) → Kept p Q
-    kept_weaker known next = record { kept = λ table ts v all spells. next v (known.kept table ts v all spells) }
 
 -- the strings of a form
-pub kept_strings : (so_far : List (List ℕ)) → AllByRecursion IsString so_far → Kept (strings so_far) (λ texts. AllByRecursion IsString texts)
+pub kept_strings : (so_far : List (List ℕ)) → AreStrings so_far → Kept (strings so_far) AreStrings
 unfolding strings
 kept_strings so_far all =
-    kept_while (λ (texts : List (List ℕ)). AllByRecursion IsString texts) _ _ _ (λ s all table x t is h. kept_gives (s ++ t ∷ []) (AllByRecursion-push IsString s t all (taken_string_is x.token t is h)))
+    kept_while AreStrings _ _ _ (λ s all table x t is h. kept_gives (s ++ t ∷ []) (AllByRecursion-push IsString s t all (taken_string_is x.token t is h)))
     (λ s all. kept_after closing (λ _. kept_gives s all)) so_far all
+
+pub kept_comment : Kept comment AreStrings
+kept_comment = kept_strings [] tt

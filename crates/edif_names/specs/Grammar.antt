@@ -1,7 +1,7 @@
 -- The productions of names and properties (EDIF 2 0 0, forms rename, array, property, string, integer, number, boolean, owner). A production
 -- whose form has a keyword of its own reads on after it, up to the `)` of the form.
 use Rattle.std.specs.Prelude.{Bool, true, false, List, [], ◌∷◌, Some, None, pos, cond}
-use Rattle.grammar.specs.Part.{gives, sequence, ◌>>=◌}
+use Rattle.grammar.specs.Part.{gives, ◌>>=◌}
 use Rattle.nl_base.specs.declared.number.Scaled.{Scaled}
 use Rattle.nl_base.specs.declared.value.PropValue.{PropValue}
 use Rattle.nl_base.specs.declared.value.PropValue.TheVariants as values
