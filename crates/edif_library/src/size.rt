@@ -97,7 +97,8 @@ impl HasLists for WrittenItem {
 
     fn count(&self) -> u64 {
         match self {
-            WrittenItem::Author(_) | WrittenItem::Program(_, _) | WrittenItem::DataOrigin(_, _) => 0,
+            WrittenItem::Author(_) | WrittenItem::Program(_, _) | WrittenItem::DataOrigin(_, _) =>
+                0,
             WrittenItem::Note(note) => note.count(),
         }
     }
