@@ -1,6 +1,6 @@
 -- The bytes are the text of at most one file, or have at most one first fault, or go on past the limit without one, and never two of these.
 use Rattle.std.proofs.Common.{◌≡◌, ℕ, List, [], refl}
-use Rattle.grammar.specs.Clear.{IsLive, IsClosed}
+use Rattle.grammar.specs.Clear.{IsLive, IsClear, IsClosed}
 use Rattle.grammar.specs.Whole.{Terminal, end, whole}
 use Rattle.grammar.proofs.Whole as grammar
 use Rattle.grammar.proofs.Follow.{clear_fewer}
@@ -16,12 +16,19 @@ use Rattle.edif_library.specs.Grammar.{file}
 use Rattle.edif_library.specs.Text.{EdifReads, EdifFault, EdifCut}
 use Rattle.edif_library.proofs.Live.{live_file, closed_file}
 
+-- From each place in a file some tokens lead to its end.
+pub live : IsLive [] (file [])
+live = live_file [] []
+
+-- No text of a file goes on to another where the end of the input follows it.
+pub clear : IsClear [] (file []) (λ _ t. (p : Place) × (t ≡ end p))
+clear = clear_fewer [] (file []) (λ _ t. (p : Place) × (t ≡ end p)) (λ _ _. Unit {0}) (λ _ _ _. tt) (closed_file [] []).closed
+
 lives : IsLive [] (whole trailing (file []))
-lives = grammar.live_whole trailing [] (file []) place_at_start (live_file [] [])
+lives = grammar.live_whole trailing [] (file []) place_at_start live
 
 closed : IsClosed [] (whole trailing (file []))
-closed = grammar.closed_whole trailing [] (file []) (λ _ t. (p : Place) × (t ≡ end p)) (λ v at. (at, refl))
-    (clear_fewer [] (file []) (λ _ t. (p : Place) × (t ≡ end p)) (λ _ _. Unit {0}) (λ _ _ _. tt) (closed_file [] []).closed)
+closed = grammar.closed_whole trailing [] (file []) (λ _ t. (p : Place) × (t ≡ end p)) (λ v at. (at, refl)) clear
 
 -- The bytes are the text of at most one file.
 pub one_file : (bs : List ℕ) (v w : EdifFile) → EdifReads bs v → EdifReads bs w → v ≡ w
