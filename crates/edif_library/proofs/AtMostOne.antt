@@ -1,7 +1,7 @@
 -- The bytes are the text of at most one file, or have at most one first fault, or go on past the limit without one, and never two of these.
 use Rattle.std.proofs.Common.{◌≡◌, ℕ, List, [], refl}
 use Rattle.grammar.specs.Clear.{IsLive, IsClear, IsClosed}
-use Rattle.grammar.specs.Whole.{Terminal, end, whole}
+use Rattle.grammar.specs.Whole.{end, whole}
 use Rattle.grammar.proofs.Whole as grammar
 use Rattle.grammar.proofs.Follow.{clear_fewer}
 use Rattle.nl_base.specs.Place.{place_at_start}

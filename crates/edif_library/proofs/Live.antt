@@ -1,7 +1,7 @@
 -- From each place in a view, cell, library, design or file some tokens lead to its end, and none of its texts goes on to another.
-use Rattle.std.proofs.Common.{◌≡◌, refl, ℕ, Bool, true, false, cond, List, [], ◌∷◌, pos, codes}
+use Rattle.std.proofs.Common.{◌≡◌, refl, Bool, true, false, cond, List, [], ◌∷◌, pos, codes}
 use Rattle.edif_tokens.specs.declared.token.Token.TheVariants.{Number}
-use Rattle.grammar.specs.Part.{gives, sequence, under}
+use Rattle.grammar.specs.Part.{under}
 use Rattle.readers.proofs.Shapes.{live_one, Shut, shut_gives, shut_one, shut_then}
 use Rattle.edif_keywords.specs.declared.keyword.Keyword.{Keyword}
 use Rattle.edif_keywords.specs.declared.keyword.Keyword.TheVariants as k
@@ -9,7 +9,7 @@ use Rattle.edif_keywords.specs.Keywords.{has, same_keyword}
 use Rattle.edif_keywords.specs.Aliases.{Alias}
 use Rattle.edif_keywords.specs.Language.{Edif}
 use Rattle.edif_keywords.specs.Reasons as say
-use Rattle.edif_keywords.specs.Grammar.{word, choice, view_type, level, header}
+use Rattle.edif_keywords.specs.Grammar.{word, choice, view_type, level}
 use Rattle.edif_keywords.proofs.Live.{Lives, Closes, live_word, live_closing, live_choice, live_view_type, live_keyword, live_begin, closed_closing, closed_begin, seen, live_items, closed_items, live_header, closed_header}
 use Rattle.edif_names.specs.declared.name.NameDef.{NameDef}
 use Rattle.edif_names.proofs.Live.{live_name, closed_name, live_scaled, closed_scaled, live_property, closed_property}

@@ -1,8 +1,9 @@
 -- The exits of the reader of a file.
-use Rattle.std.proofs.Common.{◌≡◌, refl, sym, ap, subst, ℕ, false, List, [], Option, Some, None, IfSome, Result, Ok, Err, arith}
+use Rattle.std.proofs.Common.{◌≡◌, refl, sym, ap, subst, ℕ, List, [], Option, Some, None, IfSome, Result, Ok, Err, arith}
 use Rattle.nl_base.specs.declared.fault.ReadError.{ReadError}
 use Rattle.nl_base.specs.declared.fault.ReadError.TheVariants as errors
 use Rattle.edif_tokens.specs.declared.token.Found.{Found}
+use Rattle.edif_tokens.specs.Streams.{State}
 use Rattle.edif_tokens.specs.Stream as tokens
 use Rattle.readers.specs.Sources.{Supply}
 use Rattle.readers.specs.Readers.{Reader, ReadsWhole, Ends, same}
@@ -39,7 +40,7 @@ no_memory_first i = record {
     by (Some bs) = tt
 
 -- a cursor over a new reader of tokens is a new one
-pub new_is_fresh : (t : tokens.State) (a : Reader (List Alias) Found) → t ≡ tokens.fresh → a ≡ record { window = t.window; ahead = None; context = []; spent = t.spent } → a ≡ fresh Found []
+pub new_is_fresh : (t : State) (a : Reader (List Alias) Found) → t ≡ tokens.fresh → a ≡ record { window = t.window; ahead = None; context = []; spent = t.spent } → a ≡ fresh Found []
 new_is_fresh t a e h = rw (h, e) refl
 
 -- a is a new cursor

@@ -2,7 +2,7 @@
 -- external, technology, numberDefinition, scale, unit, design, edif). Each reads on after its keyword, up to the `)` of the form.
 use Rattle.std.specs.Prelude.{ℕ, Bool, true, false, List, [], ◌∷◌, codes, cond}
 use Rattle.std.specs.List.{list_any}
-use Rattle.grammar.specs.Part.{gives, sequence, under, ◌>>=◌}
+use Rattle.grammar.specs.Part.{gives, under, ◌>>=◌}
 use Rattle.edif_keywords.specs.declared.keyword.Keyword.{Keyword}
 use Rattle.edif_keywords.specs.declared.keyword.Keyword.TheVariants as k
 use Rattle.edif_keywords.specs.Keywords.{same_keyword}

@@ -6,7 +6,6 @@ use Rattle.edif_names.specs.declared.property.Property.{Property}
 use Rattle.edif_status.specs.declared.user.UserTree.{UserTree}
 use Rattle.edif_status.specs.declared.user.UserTree.TheFolds.{fold-UserTree}
 use Rattle.edif_status.specs.declared.user.UserTree.TheOpen.{UserTree-F}
-use Rattle.edif_status.specs.declared.user.UserData.{UserData}
 use Rattle.edif_status.specs.declared.note.Note.{Note}
 use Rattle.edif_status.specs.declared.note.Note.TheVariants as notes
 use Rattle.edif_status.specs.declared.written.WrittenItem.{WrittenItem}

@@ -47,7 +47,7 @@ fn files_are_read(rt: HostRuntime) -> Result<(), Fail> {
         ),
         (
             b"(edif a(edifVersion 2 0 0)(edifLevel 0)(keywordMap(keywordLevel 0))(comment \"a\" \"b\")(userData u(x(y z))))".as_slice(),
-            8,
+            9,
         ),
     ] {
         let mut source = source_of(alloc, text)?;
