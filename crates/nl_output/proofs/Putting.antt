@@ -1,0 +1,66 @@
+-- A put in the course of a text.
+use Rattle.std.proofs.Common.{◌≡◌, ℕ, ◌+◌, ◌≤◌, ◌<◌, List, [], ◌++◌, take, drop, length, Option, Some, None, Result, Ok, Err, refl, sym, ap, ◌∙◌, subst, append_assoc, append-nil, length-append, length-drop, arith, Bool, true, false, add_assoc}
+use Rattle.std.specs.Prelude.{OnOk, OnErr, IfSome, IsNone, IsOk}
+use Rattle.std.proofs.lemmas.List.{take-append-drop}
+use Rattle.nl_io.specs.Causes.{Rose, HasCause}
+use Rattle.nl_io.specs.Sinks.{Gains}
+use Rattle.nl_io.specs.declared.source.Failed.{Failed}
+use Rattle.nl_output.specs.Writing.{Held, State, Begin, Stands, Broke, Stood, Puts, Drains}
+
+-- what a sink took grows by the bytes that it gains
+took_more : (taken taken' : List ℕ → Type 0) (front done : List ℕ) (known : Option (List ℕ)) → Gains taken taken' front
+    → IfSome known (λ before. taken (before ++ done)) → IfSome known (λ before. taken' (before ++ (done ++ front)))
+took_more taken taken' front done None gains took = tt
+took_more taken taken' front done (Some before) gains took = subst taken' (append_assoc before done front) (gains (before ++ done) took)
+
+-- what a sink was known to accept falls by the bytes that it took
+accepts_rest : (accepts accepts' : ℕ → Type 0) (bytes rest : List ℕ) (spare : Option ℕ) → ((n : ℕ) → accepts (length bytes + n) → accepts' n)
+    → IfSome spare (λ n. accepts (length (bytes ++ rest) + n)) → IfSome spare (λ n. accepts' (length rest + n))
+accepts_rest accepts accepts' bytes rest None falls h = tt
+accepts_rest accepts accepts' bytes rest (Some n) falls h =
+    let same : length (bytes ++ rest) + n ≡ length bytes + (length rest + n) = omega (arith, length-append bytes rest) in
+    falls (length rest + n) (subst accepts same h)
+
+-- a sink that failed was not known to accept the bytes
+not_known : (accepts : ℕ → Type 0) (bytes rest : List ℕ) (spare : Option ℕ) → ((n : ℕ) → accepts (length bytes + n) → ⊥)
+    → IfSome spare (λ n. accepts (length (bytes ++ rest) + n)) → IsNone spare
+not_known accepts bytes rest None never h = refl
+not_known accepts bytes rest (Some n) never h =
+    let same : length (bytes ++ rest) + n ≡ length bytes + (length rest + n) = omega (arith, length-append bytes rest) in
+    absurd (never (length rest + n) (subst accepts same h))
+
+later_rose : (a b c : ℕ) → a ≤ b → Rose b c → Rose a c
+later_rose a b c h r = omega arith
+
+some_lost : (n : ℕ) (bytes rest : List ℕ) → n < length bytes → 0 < length (drop n bytes ++ rest)
+some_lost n bytes rest lt = omega (arith, length-append (drop n bytes) rest, length-drop n bytes)
+
+abbrev empty : Bool → Held
+empty failed = record { bytes = []; failed = failed }
+
+-- all the bytes were put
+pub put_whole : (taken taken' : List ℕ → Type 0) (accepts accepts' : ℕ → Type 0) (before after : ℕ) (bytes : List ℕ)
+    → Gains taken taken' bytes → before ≤ after → ((n : ℕ) → accepts (length bytes + n) → accepts' n)
+    → Puts (λ rest. bytes ++ rest) (record { taken = taken; accepts = accepts; faults = before; held = empty false }) (record { taken = taken'; accepts = accepts'; faults = after; held = empty false })
+put_whole taken taken' accepts accepts' before after bytes gains later falls b rest s = record {
+  done = s.done ++ bytes;
+  parts = s.parts ∙ sym (append_assoc s.done bytes rest);
+  took = took_more taken taken' bytes s.done b.taken gains s.took;
+  later = omega (arith, later, s.later);
+  spare = accepts_rest accepts accepts' bytes rest b.spare falls s.spare;
+}
+
+-- the sink failed in the course of the bytes
+pub put_front : (taken taken' : List ℕ → Type 0) (accepts accepts' : ℕ → Type 0) (before after : ℕ) (bytes : List ℕ) (n : ℕ)
+    → n < length bytes → Gains taken taken' (take n bytes) → before ≤ after → Rose before after → ((n : ℕ) → accepts (length bytes + n) → ⊥)
+    → Puts (λ rest. bytes ++ rest) (record { taken = taken; accepts = accepts; faults = before; held = empty false }) (record { taken = taken'; accepts = accepts'; faults = after; held = empty true })
+put_front taken taken' accepts accepts' before after bytes n lt gains later rose never b rest s = record {
+  done = s.done ++ take n bytes;
+  lost = drop n bytes ++ rest;
+  parts = s.parts ∙ ap (λ (z : List ℕ). s.done ++ (z ++ rest)) (sym (take-append-drop n bytes)) ∙ ap (λ (z : List ℕ). s.done ++ z) (append_assoc (take n bytes) (drop n bytes) rest) ∙ sym (append_assoc s.done (take n bytes) (drop n bytes ++ rest));
+  short = some_lost n bytes rest lt;
+  took = took_more taken taken' (take n bytes) s.done b.taken gains s.took;
+  later = omega (arith, later, s.later);
+  rose = later_rose b.faults before after s.later rose;
+  unsure = not_known accepts bytes rest b.spare never s.spare;
+}

@@ -1,0 +1,59 @@
+-- A whole text that was put through an output.
+use Rattle.std.proofs.Common.{◌≡◌, ℕ, ◌+◌, ◌≤◌, ◌<◌, List, [], ◌++◌, take, length, Option, Some, None, Result, Ok, Err, refl, sym, ap, ◌∙◌, subst, append-nil, length-append, arith, Bool, true, false, zero-add}
+use Rattle.std.specs.Prelude.{OnOk, OnErr, IfSome, IsNone, IsOk}
+use Rattle.std.proofs.Math.Seq.{take-append_seam}
+use Rattle.nl_io.specs.Causes.{Rose, HasCause}
+use Rattle.nl_io.specs.Sinks.{Gains}
+use Rattle.nl_io.specs.declared.source.Failed.{Failed}
+use Rattle.nl_output.specs.Writing.{Held, State, state, Begin, Stands, Broke, Puts, Finishes, Writes}
+
+abbrev begin_of : Option (List ℕ) → ℕ → List ℕ → Option ℕ → Begin
+begin_of taken faults whole spare = record { taken = taken; faults = faults; whole = whole; spare = spare }
+
+took_nothing : (taken : List ℕ → Type 0) (known : Option (List ℕ)) → IfSome known taken → IfSome known (λ before. taken (before ++ []))
+took_nothing taken None h = tt
+took_nothing taken (Some before) h = subst taken (sym (append-nil before)) h
+
+abbrev nothing : Held
+nothing = record { bytes = []; failed = false }
+
+-- at the begin of a text
+at_begin : {O : Type 0} (taken : O → List ℕ → Type 0) (accepts : O → ℕ → Type 0) (faults : O → ℕ) (old : O) (known : Option (List ℕ)) (text : List ℕ) (spare : Option ℕ)
+    → IfSome known (λ before. taken old before) → IfSome spare (λ n. accepts old (length text + n))
+    → Stands (begin_of known (faults old) text spare) (state taken accepts faults old nothing) text
+at_begin taken accepts faults old known text spare told sure = record { done = []; parts = refl; took = took_nothing (taken old) known told; later = omega arith; spare = sure }
+
+front_of : (done lost text : List ℕ) → text ≡ done ++ lost → take (length done) text ≡ done
+front_of done lost text is = ap (λ (z : List ℕ). take (length done) z) is ∙ take-append_seam done lost
+
+shorter : (done lost text : List ℕ) → text ≡ done ++ lost → 0 < length lost → length done < length text
+shorter done lost text is some = omega (arith, ap (λ (z : List ℕ). length z) is, length-append done lost)
+
+-- a text that was put through an output, from its begin to its end, was written
+pub writes_whole : {O : Type 0} (taken : O → List ℕ → Type 0) (accepts : O → ℕ → Type 0) (faults : O → ℕ) (old new : O) (mid : State) (last : Held) (text : List ℕ → List ℕ) (result : Result (Unit {0}) Failed)
+    → Puts text (state taken accepts faults old nothing) mid → Finishes mid (state taken accepts faults new last) result → Writes taken accepts faults old new (text []) result
+writes_whole taken accepts faults old new mid last text (Ok u) puts ends =
+    let plain = ends (begin_of None (faults old) (text []) None) (puts (begin_of None (faults old) (text []) None) [] (at_begin taken accepts faults old None (text []) None tt tt)) in
+    record {
+      all = λ before h.
+          let w = ends (begin_of (Some before) (faults old) (text []) None) (puts (begin_of (Some before) (faults old) (text []) None) [] (at_begin taken accepts faults old (Some before) (text []) None h tt)) in
+          subst (λ (z : List ℕ). taken new (before ++ z)) (sym (w.parts ∙ append-nil w.done)) w.took;
+      front = tt;
+      cause = record { later = plain.later; failed = tt };
+      accepted = λ n h.
+          let w = ends (begin_of None (faults old) (text []) (Some n)) (puts (begin_of None (faults old) (text []) (Some n)) [] (at_begin taken accepts faults old None (text []) (Some n) tt h)) in
+          (refl, subst (accepts new) (zero-add n) w.spare);
+    }
+writes_whole taken accepts faults old new mid last text (Err e) puts ends =
+    let plain = ends (begin_of None (faults old) (text []) None) (puts (begin_of None (faults old) (text []) None) [] (at_begin taken accepts faults old None (text []) None tt tt)) in
+    record {
+      all = tt;
+      front = λ before h.
+          let w = ends (begin_of (Some before) (faults old) (text []) None) (puts (begin_of (Some before) (faults old) (text []) None) [] (at_begin taken accepts faults old (Some before) (text []) None h tt)) in
+          (length w.done, shorter w.done w.lost (text []) w.parts w.short, subst (λ (z : List ℕ). taken new (before ++ z)) (sym (front_of w.done w.lost (text []) w.parts)) w.took);
+      cause = record { later = plain.later; failed = plain.rose };
+      accepted = λ n h.
+          let w = ends (begin_of None (faults old) (text []) (Some n)) (puts (begin_of None (faults old) (text []) (Some n)) [] (at_begin taken accepts faults old None (text []) (Some n) tt h)) in
+          let none : true ≡ false = w.unsure in
+          absurd (cc none);
+    }
