@@ -25,6 +25,14 @@ pub record WritesFile {O : Type 0} (taken : O → List ℕ → Type 0) (accepts 
   pub ended : IsAtEnd j.left
   pub written : Writes taken accepts faults old new (edif_text file) result
 
+-- The input was read to its end as a file, whose text was written to a sink.
+abbrev pub WroteFile : {O : Type 0} → (O → List ℕ → Type 0) → (O → ℕ → Type 0) → (O → ℕ) → Supply → Supply → O → O → Type 0
+WroteFile taken accepts faults i j old new = WritesFile taken accepts faults i j old new (Ok tt)
+
+-- The input was read to its end as a file, and a put failed before the whole text of the file was written to a sink.
+abbrev pub BrokeOff : {O : Type 0} → (O → List ℕ → Type 0) → (O → ℕ → Type 0) → (O → ℕ) → Supply → Supply → O → O → Type 0
+BrokeOff taken accepts faults i j old new = (e : Failed) × WritesFile taken accepts faults i j old new (Err e)
+
 -- The input has this first fault, and at most 4,096 bytes behind its stop were taken.
 pub record HasFault (i j : Supply) (fault : TextFault) : Type 0 where
   pub first : IfSome i.left (λ bs. EdifFault bs fault)
@@ -63,10 +71,10 @@ pub record IsDecided (bs : List ℕ) (output_failed : Type 0) (status : Status) 
 
 -- What is done with the input and the output to format a file. Until the whole text is read nothing is put.
 abbrev pub Formats : {O : Type 0} → (O → List ℕ → Type 0) → (O → ℕ → Type 0) → (O → ℕ) → Supply → Supply → O → O → Result (Unit {0}) Failure → Type 0
-Formats taken accepts faults i j old new (Ok u) = WritesFile taken accepts faults i j old new (Ok tt)
+Formats taken accepts faults i j old new (Ok u) = WroteFile taken accepts faults i j old new
 Formats taken accepts faults i j old new (Err (failures.Text f)) = HasFault i j f × (new ≡ old)
 Formats taken accepts faults i j old new (Err failures.ReadFault) = Rose i.faults j.faults × (new ≡ old)
-Formats taken accepts faults i j old new (Err failures.WriteFault) = WritesFile taken accepts faults i j old new (Err Failed)
+Formats taken accepts faults i j old new (Err failures.WriteFault) = BrokeOff taken accepts faults i j old new
 Formats taken accepts faults i j old new (Err failures.Usage) = ⊥
 Formats taken accepts faults i j old new (Err failures.NoMemory) = new ≡ old
 Formats taken accepts faults i j old new (Err failures.InputLimit) = IsTooLong i × (new ≡ old)

@@ -3,7 +3,7 @@ ghost use Rattle.nl_io.specs.Causes.{Rose};
 ghost use Rattle.readers.specs.Sources.{supply};
 ghost use Rattle.netlist_cli.specs.Commands.{command};
 ghost use Rattle.netlist_cli.specs.Lines.{line};
-ghost use Rattle.netlist_cli.specs.Runs.{Formats, FitsBytes, IsDecided, IsTold, IsTooLong, Performs, TellsFault, WritesFile};
+ghost use Rattle.netlist_cli.specs.Runs.{BrokeOff, FitsBytes, Formats, IsDecided, IsTold, IsTooLong, Performs, TellsFault, WroteFile};
 ghost use Rattle.netlist_cli.specs.Statuses.{status_of};
 
 use crate::command::Command;
@@ -49,11 +49,11 @@ pub fn run<S: Source, O: Sink, E: Sink>(
     output: &mut O,
     errors: &mut E,
 ) -> Status
-    ensures done { result ≡ Status.Done → WritesFile O.taken O.accepts O.faults (supply S.left S.faults input.old) (supply S.left S.faults input.new) output.old output.new (Ok tt) }
+    ensures done { result ≡ Status.Done → WroteFile O.taken O.accepts O.faults (supply S.left S.faults input.old) (supply S.left S.faults input.new) output.old output.new }
     ensures text_fault { result ≡ Status.TextFault → TellsFault E.taken E.accepts E.faults (supply S.left S.faults input.old) (supply S.left S.faults input.new) errors.old errors.new }
     ensures refused { result ≢ Status.Refused }
     ensures read_fault { result ≡ Status.ReadFault → Rose (S.faults input.old) (S.faults input.new) }
-    ensures write_fault { result ≡ Status.WriteFault → WritesFile O.taken O.accepts O.faults (supply S.left S.faults input.old) (supply S.left S.faults input.new) output.old output.new (Err Failed) }
+    ensures write_fault { result ≡ Status.WriteFault → BrokeOff O.taken O.accepts O.faults (supply S.left S.faults input.old) (supply S.left S.faults input.new) output.old output.new }
     ensures usage { (result ≡ Status.Usage) ↔ (command words.now ≡ None) }
     ensures limit { result ≡ Status.Limit → IsTooLong (supply S.left S.faults input.old) }
     ensures unread { result ≡ Status.Usage → input.new ≡ input.old }
