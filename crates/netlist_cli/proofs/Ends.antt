@@ -1,5 +1,5 @@
 -- How a run ends, from what was done with the input and the output.
-use Rattle.std.proofs.Common.{◌≡◌, ◌≢◌, ◌⊎◌, ◌↔◌, inl, inr, ℕ, List, [], Option, Some, None, IfSome, Result, Ok, Err, refl, sym, ◌∙◌, subst}
+use Rattle.std.proofs.Common.{◌≡◌, ◌≢◌, ◌⊎◌, ◌↔◌, inl, inr, ℕ, List, [], Option, Some, None, IfSome, Result, Ok, Err, refl, sym, ap, ◌∙◌, subst}
 use Rattle.nl_base.specs.declared.fault.TextFault.{TextFault}
 use Rattle.nl_base.specs.declared.fault.ReadError.{ReadError}
 use Rattle.nl_base.specs.declared.fault.ReadError.TheVariants as errors
@@ -168,3 +168,138 @@ module _ {O : Type 0} (taken : O → List ℕ → Type 0) (accepts : O → ℕ �
     fault = λ f k. absurd (fault_or_cut bs f k cut);
     cut = λ k. inl refl;
   })
+
+-- What a run has done with the input and the output, by its status.
+pub record RunsTo {S O : Type 0} (left : S → Option (List ℕ)) (count : S → ℕ) (taken : O → List ℕ → Type 0) (accepts : O → ℕ → Type 0) (faults : O → ℕ) (c : Option Command) (a b : S) (old new : O) (status : Status) : Type 0 where
+  pub done : status ≡ statuses.Done → WroteFile taken accepts faults (supply left count a) (supply left count b) old new
+  pub refused : status ≢ statuses.Refused
+  pub read_fault : status ≡ statuses.ReadFault → Rose (count a) (count b)
+  pub write_fault : status ≡ statuses.WriteFault → BrokeOff taken accepts faults (supply left count a) (supply left count b) old new
+  pub usage : (status ≡ statuses.Usage) ↔ (c ≡ None)
+  pub limit : status ≡ statuses.Limit → IsTooLong (supply left count a)
+  pub unread : status ≡ statuses.Usage → b ≡ a
+  pub unwritten : status ≢ statuses.Done → status ≢ statuses.WriteFault → new ≡ old
+  pub exact : IfSome (left a) (λ bs. FitsBytes bs status)
+  pub complete : c ≡ Some commands.Format → ¬ Rose (count a) (count b) → IfSome (left a) (λ bs. IsDecided bs (Rose (faults old) (faults new)) status)
+
+never_refused : (r : Result (Unit {0}) Failure) → ending r ≢ statuses.Refused
+never_refused (Ok u) e = cc
+never_refused (Err (failures.Text f)) e = cc
+never_refused (Err failures.ReadFault) e = cc
+never_refused (Err failures.WriteFault) e = cc
+never_refused (Err failures.Usage) e = cc
+never_refused (Err failures.NoMemory) e = cc
+never_refused (Err failures.InputLimit) e = cc
+
+module _ {S O : Type 0} (left : S → Option (List ℕ)) (count : S → ℕ) (taken : O → List ℕ → Type 0) (accepts : O → ℕ → Type 0) (faults : O → ℕ) (a b : S) (old new : O) where
+  abbrev before : Supply
+  before = supply left count a
+
+  abbrev after : Supply
+  after = supply left count b
+
+  abbrev performed : Option Command → Result (Unit {0}) Failure → Type 0
+  performed c r = Performs c a b old new r (Formats taken accepts faults before after old new r)
+
+  no_command : b ≡ a → new ≡ old → RunsTo left count taken accepts faults None a b old new statuses.Usage
+  no_command e d = record {
+    done = λ h. absurd cc;
+    refused = λ h. cc;
+    read_fault = λ h. absurd cc;
+    write_fault = λ h. absurd cc;
+    usage = (λ h. refl, λ h. refl);
+    limit = λ h. absurd cc;
+    unread = λ h. e;
+    unwritten = λ h k. d;
+    exact = any_told (left a) (λ bs. FitsBytes bs statuses.Usage) (of_none taken accepts faults before after old new statuses.Usage (λ h. cc) (λ h. cc) (λ h. cc) (λ h. cc));
+    complete = λ h. absurd cc;
+  }
+
+  -- how a run ends for the command that the words have
+  pub run_ends : (c : Option Command) (r : Result (Unit {0}) Failure) → performed c r → RunsTo left count taken accepts faults c a b old new (ending r)
+  run_ends None r h = rw h.0 (no_command h.1 h.2)
+  run_ends (Some commands.Format) r h = record {
+    done = done_so taken accepts faults before after old new r h;
+    refused = never_refused r;
+    read_fault = rose_so taken accepts faults before after old new r h;
+    write_fault = broke_so taken accepts faults before after old new r h;
+    usage = (λ e. absurd (never_usage taken accepts faults before after old new r h e), λ e. absurd cc);
+    limit = too_long_so taken accepts faults before after old new r h;
+    unread = λ e. absurd (never_usage taken accepts faults before after old new r h e);
+    unwritten = unwritten_so taken accepts faults before after old new r h;
+    exact = fits_bytes taken accepts faults before after old new r h;
+    complete = λ e. is_decided taken accepts faults before after old new r h;
+  }
+
+  -- the same for a status that is known to be the one of the answer
+  pub run_ends_as : (c : Option Command) (r : Result (Unit {0}) Failure) (status : Status) → performed c r → status ≡ ending r → RunsTo left count taken accepts faults c a b old new status
+  run_ends_as c r status h e = subst (λ (z : Status). RunsTo left count taken accepts faults c a b old new z) (sym e) (run_ends c r h)
+
+  -- a text fault is that of the input
+  pub fault_of : (c : Option Command) (f : Failure) → performed c (Err f) → (t : TextFault) → f ≡ failures.Text t → HasFault before after t
+  fault_of None f h t e = let d : Err f ≡ Err failures.Usage = h.0 in absurd cc
+  fault_of (Some commands.Format) (failures.Text f) h t e = let d : f ≡ t = cc in subst (λ (z : TextFault). HasFault before after z) d h.0
+  fault_of (Some commands.Format) failures.ReadFault h t e = absurd cc
+  fault_of (Some commands.Format) failures.WriteFault h t e = absurd cc
+  fault_of (Some commands.Format) failures.Usage h t e = absurd cc
+  fault_of (Some commands.Format) failures.NoMemory h t e = absurd cc
+  fault_of (Some commands.Format) failures.InputLimit h t e = absurd cc
+
+-- ---- the line
+
+-- the failure of a status that tells all of it
+failure_at : Status → Failure
+failure_at statuses.Done = failures.ReadFault
+failure_at statuses.TextFault = failures.ReadFault
+failure_at statuses.Refused = failures.ReadFault
+failure_at statuses.ReadFault = failures.ReadFault
+failure_at statuses.WriteFault = failures.WriteFault
+failure_at statuses.Usage = failures.Usage
+failure_at statuses.NoMemory = failures.NoMemory
+failure_at statuses.Limit = failures.InputLimit
+
+told_by : (f : Failure) → status_of f ≢ statuses.TextFault → failure_at (status_of f) ≡ f
+unfolding failure_at
+told_by (failures.Text f) n = absurd (n refl)
+told_by failures.ReadFault n = refl
+told_by failures.WriteFault n = refl
+told_by failures.Usage n = refl
+told_by failures.NoMemory n = refl
+told_by failures.InputLimit n = refl
+
+-- failures of one status are one, but for faults of the text
+same_failure : (f g : Failure) → status_of f ≡ status_of g → status_of g ≢ statuses.TextFault → f ≡ g
+same_failure f g e n = sym (told_by f (λ d. n (sym e ∙ d))) ∙ ap failure_at e ∙ told_by g n
+
+pub never_done : (f : Failure) → status_of f ≢ statuses.Done
+never_done (failures.Text f) e = cc
+never_done failures.ReadFault e = cc
+never_done failures.WriteFault e = cc
+never_done failures.Usage e = cc
+never_done failures.NoMemory e = cc
+never_done failures.InputLimit e = cc
+
+module _ {E : Type 0} (taken : E → List ℕ → Type 0) (accepts : E → ℕ → Type 0) (faults : E → ℕ) (old new : E) where
+  -- the line that was told is that of the status
+  pub told_so : (status : Status) (g : Failure) → status ≡ status_of g → IsTold taken accepts faults old new (line g) → (f : Failure) → status_of f ≡ status → status ≢ statuses.TextFault → IsTold taken accepts faults old new (line f)
+  told_so status g d h f e n = rw (same_failure f g (e ∙ d) (λ k. n (d ∙ k))) h
+
+  -- the fault that was told is that of the input
+  pub fault_told : (i j : Supply) (status : Status) (f : Failure) → status ≡ status_of f → IsTold taken accepts faults old new (line f) → ((t : TextFault) → f ≡ failures.Text t → HasFault i j t) → status ≡ statuses.TextFault → TellsFault taken accepts faults i j old new
+  fault_told i j status (failures.Text f) d h first e = record { fault = f; is_first = first f refl; told = h }
+  fault_told i j status failures.ReadFault d h first e = absurd cc
+  fault_told i j status failures.WriteFault d h first e = absurd cc
+  fault_told i j status failures.Usage d h first e = absurd cc
+  fault_told i j status failures.NoMemory d h first e = absurd cc
+  fault_told i j status failures.InputLimit d h first e = absurd cc
+
+  -- no fault is told where the work was done
+  pub none_told : (i j : Supply) → statuses.Done ≡ statuses.TextFault → TellsFault taken accepts faults i j old new
+  none_told i j e = absurd cc
+
+  pub nothing_told : (f : Failure) → status_of f ≡ statuses.Done → IsTold taken accepts faults old new (line f)
+  nothing_told f e = absurd (never_done f e)
+
+  -- something was told where the work was not done
+  pub silent_so : (status : Status) (f : Failure) → status ≡ status_of f → status ≡ statuses.Done → new ≡ old
+  silent_so status f d e = absurd (never_done f (sym d ∙ e))
