@@ -1,5 +1,5 @@
 -- How a run ends, from what was done with the input and the output.
-use Rattle.std.proofs.Common.{◌≡◌, ◌≢◌, ◌⊎◌, ◌↔◌, inl, inr, ℕ, List, [], Option, Some, None, IfSome, Result, Ok, Err, refl, sym, ap, ◌∙◌, subst}
+use Rattle.std.proofs.Common.{◌≡◌, ◌≢◌, ◌⊎◌, ◌↔◌, inl, inr, ℕ, List, [], Option, Some, None, IfSome, Result, Ok, Err, refl, sym, ap, ◌∙◌, subst, arith}
 use Rattle.nl_base.specs.declared.fault.TextFault.{TextFault}
 use Rattle.nl_base.specs.declared.fault.ReadError.{ReadError}
 use Rattle.nl_base.specs.declared.fault.ReadError.TheVariants as errors
@@ -9,6 +9,7 @@ use Rattle.nl_output.specs.Writing.{Writes}
 use Rattle.readers.specs.Readers.{same}
 use Rattle.readers.specs.Sources.{Supply, supply}
 use Rattle.readers.specs.Texts.{ReadsText}
+use Rattle.readers.proofs.Moving.{skip_none}
 use Rattle.edif_keywords.specs.Language.{edif}
 use Rattle.edif_keywords.specs.Reasons.{trailing}
 use Rattle.edif_library.specs.declared.file.EdifFile.{EdifFile}
@@ -23,7 +24,7 @@ use Rattle.netlist_cli.specs.declared.status.Status.{Status}
 use Rattle.netlist_cli.specs.declared.status.Status.TheVariants as statuses
 use Rattle.netlist_cli.specs.Statuses.{failure_of, status_of}
 use Rattle.netlist_cli.specs.Lines.{line}
-use Rattle.netlist_cli.specs.Runs.{WritesFile, WroteFile, BrokeOff, HasFault, IsTooLong, IsTold, TellsFault, FitsBytes, IsDecided, Formats, Performs}
+use Rattle.netlist_cli.specs.Runs.{WritesFile, WroteFile, BrokeOff, HasFault, IsTooLong, IsTold, TakesFrom, TellsFault, FitsBytes, IsDecided, Formats, Performs}
 use Rattle.netlist_cli.proofs.Exclusive.{file_or_fault, file_or_cut, fault_or_cut}
 
 -- the status of an answer
@@ -39,6 +40,14 @@ if_told (Some bs) P Q h all = all bs h
 any_told : (left : Option (List ℕ)) (Q : List ℕ → Type 0) → ((bs : List ℕ) → Q bs) → IfSome left Q
 any_told None Q all = tt
 any_told (Some bs) Q all = all bs
+
+-- bytes are taken by a reader of a file
+pub file_takes : (i j : Supply) (r : Result EdifFile ReadError) → ReadsText edif trailing [] same (file []) r i j → TakesFrom i j
+file_takes i j r h = record { taken = h.taken; left = h.left; faults = h.faults }
+
+-- no byte is taken
+pub takes_none : (i : Supply) → TakesFrom i i
+takes_none i = record { taken = 0; left = sym (skip_none 0 i.left); faults = omega arith }
 
 module _ {O : Type 0} (taken : O → List ℕ → Type 0) (accepts : O → ℕ → Type 0) (faults : O → ℕ) (i j : Supply) (old new : O) where
   -- the text of a file that was read is written, or a front of it

@@ -41,6 +41,13 @@ pub record HasFault (i j : Supply) (fault : TextFault) : Type 0 where
   pub left : j.left ≡ skip taken 0 i.left
   pub near : taken ≤ fault.stop + 4096
 
+-- Bytes were taken from the front of the input, and its count of faults did not fall.
+pub record TakesFrom (i j : Supply) : Type 0 where
+  -- as many bytes were taken
+  pub taken : ℕ
+  pub left : j.left ≡ skip taken 0 i.left
+  pub faults : i.faults ≤ j.faults
+
 -- The input goes on past the limit, and has no first fault within it.
 abbrev pub IsTooLong : Supply → Type 0
 IsTooLong i = IfSome i.left (λ bs. EdifCut bs)

@@ -3,7 +3,7 @@ ghost use Rattle.nl_io.specs.Causes.{Rose};
 ghost use Rattle.readers.specs.Sources.{supply};
 ghost use Rattle.netlist_cli.specs.Commands.{command};
 ghost use Rattle.netlist_cli.specs.Lines.{line};
-ghost use Rattle.netlist_cli.specs.Runs.{BrokeOff, FitsBytes, Formats, IsDecided, IsTold, IsTooLong, Performs, TellsFault, WroteFile};
+ghost use Rattle.netlist_cli.specs.Runs.{BrokeOff, FitsBytes, Formats, IsDecided, IsTold, IsTooLong, Performs, TakesFrom, TellsFault, WroteFile};
 ghost use Rattle.netlist_cli.specs.Statuses.{status_of};
 
 use crate::command::Command;
@@ -18,7 +18,8 @@ use std::alloc::Global;
 
 /// Reads an EDIF file and writes its text.
 fn format<S: Source, O: Sink>(alloc: Global, input: &mut S, output: &mut O) -> Result<(), Failure>
-    ensures { Formats O.taken O.accepts O.faults (supply S.left S.faults input.old) (supply S.left S.faults input.new) output.old output.new result }
+    ensures formats { Formats O.taken O.accepts O.faults (supply S.left S.faults input.old) (supply S.left S.faults input.new) output.old output.new result }
+    ensures taken { TakesFrom (supply S.left S.faults input.old) (supply S.left S.faults input.new) }
 {
     match read_edif(alloc, input) {
         Ok(file) => match write_edif(&file, output) {
@@ -31,8 +32,9 @@ fn format<S: Source, O: Sink>(alloc: Global, input: &mut S, output: &mut O) -> R
 
 /// Does what the words ask for.
 fn perform<S: Source, O: Sink>(alloc: Global, words: &Seq<Text>, input: &mut S, output: &mut O) -> Result<(), Failure>
-    ensures { Performs (command words.now) input.old input.new output.old output.new result
+    ensures performs { Performs (command words.now) input.old input.new output.old output.new result
         (Formats O.taken O.accepts O.faults (supply S.left S.faults input.old) (supply S.left S.faults input.new) output.old output.new result) }
+    ensures taken { TakesFrom (supply S.left S.faults input.old) (supply S.left S.faults input.new) }
 {
     match Command::of(words) {
         Some(Command::Format) => format(alloc, input, output),
@@ -56,6 +58,7 @@ pub fn run<S: Source, O: Sink, E: Sink>(
     ensures write_fault { result ≡ Status.WriteFault → BrokeOff O.taken O.accepts O.faults (supply S.left S.faults input.old) (supply S.left S.faults input.new) output.old output.new }
     ensures usage { (result ≡ Status.Usage) ↔ (command words.now ≡ None) }
     ensures limit { result ≡ Status.Limit → IsTooLong (supply S.left S.faults input.old) }
+    ensures taken { TakesFrom (supply S.left S.faults input.old) (supply S.left S.faults input.new) }
     ensures unread { result ≡ Status.Usage → input.new ≡ input.old }
     ensures unwritten { result ≢ Status.Done → result ≢ Status.WriteFault → output.new ≡ output.old }
     ensures silent { result ≡ Status.Done → errors.new ≡ errors.old }

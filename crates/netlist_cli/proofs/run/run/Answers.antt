@@ -7,7 +7,7 @@ use Rattle.netlist_cli.proofs.run.run.Goals as goal
 pub returns-in-Ok : goal.returns-in-Ok
 returns-in-Ok g c =
     let ends = run_ends_as g.S.Source.left g.S.Source.faults g.O.Sink.taken g.O.Sink.accepts g.O.Sink.faults c.args.input.now c.perform.new.input c.args.output.now c.perform.new.output
-        (command c.args.words.now) (Ok tt) _ (rw c.in-Ok.is at c.perform.ensures) refl in
+        (command c.args.words.now) (Ok tt) _ (rw c.in-Ok.is at c.perform.ensures.performs) refl in
     record {
       done = ends.done;
       text_fault = none_told g.E.Sink.taken g.E.Sink.accepts g.E.Sink.faults c.args.errors.now c.args.errors.now
@@ -17,6 +17,7 @@ returns-in-Ok g c =
       write_fault = ends.write_fault;
       usage = ends.usage;
       limit = ends.limit;
+      taken = c.perform.ensures.taken;
       unread = ends.unread;
       unwritten = ends.unwritten;
       silent = λ e. refl;
@@ -27,7 +28,7 @@ returns-in-Ok g c =
 
 pub returns-in-Err : goal.returns-in-Err
 returns-in-Err g c =
-    let performed = rw c.in-Err.is at c.perform.ensures in
+    let performed = rw c.in-Err.is at c.perform.ensures.performs in
     let ends = run_ends_as g.S.Source.left g.S.Source.faults g.O.Sink.taken g.O.Sink.accepts g.O.Sink.faults c.args.input.now c.perform.new.input c.args.output.now c.perform.new.output
         (command c.args.words.now) (Err c.in-Err.failure) c.report.result performed c.report.ensures.status in
     record {
@@ -42,6 +43,7 @@ returns-in-Err g c =
       write_fault = ends.write_fault;
       usage = ends.usage;
       limit = ends.limit;
+      taken = c.perform.ensures.taken;
       unread = ends.unread;
       unwritten = ends.unwritten;
       silent = silent_so g.E.Sink.taken g.E.Sink.accepts g.E.Sink.faults c.args.errors.now c.report.new.errors c.report.result c.in-Err.failure c.report.ensures.status;
