@@ -11,7 +11,8 @@ use nl_io::{Failed, Sink};
 use nl_output::Output;
 
 /// The forms of all commands, those that are still to come among them.
-const USAGE: &[u8] = b"usage: netlist format or vformat or check [--top NAME] or report [--top NAME] [--zero CELL.PORT] [--one CELL.PORT] or to-verilog {--parameter NAME} or to-edif --top NAME [--zero CELL.PORT] [--one CELL.PORT] or generate SEED CELLS or lint [--top NAME] [--zero CELL.PORT] [--one CELL.PORT] or flatten [--top NAME] [--zero CELL.PORT] [--one CELL.PORT] or to-spice [--top NAME]";
+const USAGE: &[u8] =
+    b"usage: netlist format or vformat or check [--top NAME] or report [--top NAME] [--zero CELL.PORT] [--one CELL.PORT] or to-verilog {--parameter NAME} or to-edif --top NAME [--zero CELL.PORT] [--one CELL.PORT] or generate SEED CELLS or lint [--top NAME] [--zero CELL.PORT] [--one CELL.PORT] or flatten [--top NAME] [--zero CELL.PORT] [--one CELL.PORT] or to-spice [--top NAME]";
 
 /// Puts a reason by its name, and behind a blank the word that it carries.
 fn put_reason<E: Sink>(reason: &Reason, output: &mut Output, errors: &mut E)

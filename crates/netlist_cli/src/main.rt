@@ -27,6 +27,8 @@ use std::io::ErrorKind;
 use std::process::ExitCode;
 use std::rt::Env;
 
+#[cfg(test)]
+mod tests;
 
 /// The words behind the program's name. A word that is not UTF-8 is no word of a command.
 fn words(rt: &(impl Env + AllocGlobal)) -> Result<Seq<Text>, Failure> {

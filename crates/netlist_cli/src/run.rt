@@ -31,7 +31,12 @@ fn format<S: Source, O: Sink>(alloc: Global, input: &mut S, output: &mut O) -> R
 }
 
 /// Does what the words ask for.
-fn perform<S: Source, O: Sink>(alloc: Global, words: &Seq<Text>, input: &mut S, output: &mut O) -> Result<(), Failure>
+fn perform<S: Source, O: Sink>(
+    alloc: Global,
+    words: &Seq<Text>,
+    input: &mut S,
+    output: &mut O,
+) -> Result<(), Failure>
     ensures performs { Performs (command words.now) input.old input.new output.old output.new result
         (Formats O.taken O.accepts O.faults (supply S.left S.faults input.old) (supply S.left S.faults input.new) output.old output.new result) }
     ensures taken { TakesFrom (supply S.left S.faults input.old) (supply S.left S.faults input.new) }
