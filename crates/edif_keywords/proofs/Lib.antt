@@ -1,5 +1,6 @@
 pub mod Forms
 pub mod Free
+pub mod Kept
 pub mod Letters
 pub mod Live
 pub mod Looks

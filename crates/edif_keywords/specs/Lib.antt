@@ -5,3 +5,4 @@ pub mod Keywords
 pub mod Language
 pub mod Reasons
 pub mod Slots
+pub mod Values

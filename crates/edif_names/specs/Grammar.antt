@@ -1,7 +1,7 @@
 -- The productions of names and properties (EDIF 2 0 0, forms rename, array, property, string, integer, number, boolean, owner). A production
 -- whose form has a keyword of its own reads on after it, up to the `)` of the form.
 use Rattle.std.specs.Prelude.{Bool, true, false, List, [], ◌∷◌, Some, None, pos, cond}
-use Rattle.grammar.specs.Part.{gives, sequence, ◌>>=◌}
+use Rattle.grammar.specs.Part.{gives, ◌>>=◌}
 use Rattle.nl_base.specs.declared.number.Scaled.{Scaled}
 use Rattle.nl_base.specs.declared.value.PropValue.{PropValue}
 use Rattle.nl_base.specs.declared.value.PropValue.TheVariants as values
@@ -116,7 +116,7 @@ boolean_value = do
   gives (values.Flag (same_keyword q k.True))
 
 -- the rest of a value, by its keyword
-abbrev pub value_form : Keyword → Edif PropValue
+unfoldable pub value_form : Keyword → Edif PropValue
 value_form q =
     cond (same_keyword q k.String) string_value (cond (same_keyword q k.Integer) integer_value (cond (same_keyword q k.Number) number_value boolean_value))
 
@@ -140,8 +140,12 @@ remark = do
   gives (tail.Comment ts)
 
 -- owner or comment, after its keyword
-abbrev pub tail_form : Keyword → Edif PropTail
+unfoldable pub tail_form : Keyword → Edif PropTail
 tail_form q = cond (same_keyword q k.Owner) owner remark
+
+-- ( owner STR ) | comment
+unfoldable pub tail_item : Edif PropTail
+tail_item = item (k.Owner ∷ k.Comment ∷ []) tail_form
 
 -- {( owner STR ) | comment} ), after some
 unfoldable pub tails : List PropTail → Edif (List PropTail)

@@ -1,4 +1,13 @@
-use nl_base::{Ident, Int, Text};
+ghost use Rattle.readers.specs.Sources.{supply};
+ghost use Rattle.readers.specs.Readers.{same, Reads};
+ghost use Rattle.edif_keywords.specs.Language.{edif};
+ghost use Rattle.edif_names.specs.Grammar.{renamed, plain, name, array, renamed_port, plain_port, port_form, port_name};
+
+use edif_keywords::keyword::same_keyword;
+use edif_keywords::{Cursor, Keyword};
+use nl_base::{Ident, Int, ReadError, Text};
+use nl_io::Source;
+use std::alloc::Global;
 
 /// The name of an object: an identifier, and the text that a `rename` gives it (EDIF 2 0 0, rename).
 #[derive(Drop)]
@@ -12,4 +21,120 @@ pub struct NameDef {
 pub enum PortName {
     Single(NameDef),
     Array(NameDef, Int),
+}
+
+/// Reads a name: an identifier, or a `rename` with an identifier and a text.
+#[tactic(auto, using(crate::proofs::Parts::form_or_token), unfolding(crate::specs::Grammar::name))]
+pub fn read_name<S: Source>(
+    alloc: Global,
+    cursor: &mut Cursor,
+    source: &mut S,
+) -> Result<NameDef, ReadError>
+    ensures { Reads edif same name result cursor.old cursor.new (supply S.left S.faults source.old) (supply S.left S.faults source.new) }
+{
+    if cursor.at_form(alloc, source)? {
+        cursor.begin(alloc, &[Keyword::Rename], source)?;
+        return renamed(alloc, cursor, source);
+    }
+    plain(alloc, cursor, source)
+}
+
+/// Reads on after the keyword `rename`.
+#[tactic(auto, using(readers::proofs::Reading::sequences), unfolding(crate::specs::Grammar::renamed))]
+fn renamed<S: Source>(
+    alloc: Global,
+    cursor: &mut Cursor,
+    source: &mut S,
+) -> Result<NameDef, ReadError>
+    ensures { Reads edif same renamed result cursor.old cursor.new (supply S.left S.faults source.old) (supply S.left S.faults source.new) }
+{
+    let ident = cursor.word(alloc, source)?;
+    let text = cursor.string(alloc, source)?;
+    cursor.finish_form(alloc, source)?;
+    Ok(NameDef {
+        ident,
+        text: Some(text),
+    })
+}
+
+#[tactic(auto, using(readers::proofs::Reading::sequences), unfolding(crate::specs::Grammar::plain))]
+fn plain<S: Source>(
+    alloc: Global,
+    cursor: &mut Cursor,
+    source: &mut S,
+) -> Result<NameDef, ReadError>
+    ensures { Reads edif same plain result cursor.old cursor.new (supply S.left S.faults source.old) (supply S.left S.faults source.new) }
+{
+    let ident = cursor.word(alloc, source)?;
+    Ok(NameDef { ident, text: None })
+}
+
+/// Reads the name of a port: a name, or an `array` with a name and a size.
+#[tactic(auto, using(crate::proofs::Parts::form_or_token), unfolding(crate::specs::Grammar::port_name))]
+pub fn read_port_name<S: Source>(
+    alloc: Global,
+    cursor: &mut Cursor,
+    source: &mut S,
+) -> Result<PortName, ReadError>
+    ensures { Reads edif same port_name result cursor.old cursor.new (supply S.left S.faults source.old) (supply S.left S.faults source.new) }
+{
+    if cursor.at_form(alloc, source)? {
+        let keyword = cursor.begin(alloc, &[Keyword::Rename, Keyword::Array], source)?;
+        return port_form(alloc, cursor, same_keyword(keyword, Keyword::Array), source);
+    }
+    plain_port(alloc, cursor, source)
+}
+
+#[tactic(auto, using(readers::proofs::Reading::sequences))]
+fn port_form<S: Source>(
+    alloc: Global,
+    cursor: &mut Cursor,
+    is_array: bool,
+    source: &mut S,
+) -> Result<PortName, ReadError>
+    ensures { Reads edif same (port_form is_array) result cursor.old cursor.new (supply S.left S.faults source.old) (supply S.left S.faults source.new) }
+{
+    if is_array {
+        return array(alloc, cursor, source);
+    }
+    renamed_port(alloc, cursor, source)
+}
+
+/// Reads on after the keyword `array`.
+#[tactic(auto, using(readers::proofs::Reading::sequences), unfolding(crate::specs::Grammar::array))]
+fn array<S: Source>(
+    alloc: Global,
+    cursor: &mut Cursor,
+    source: &mut S,
+) -> Result<PortName, ReadError>
+    ensures { Reads edif same array result cursor.old cursor.new (supply S.left S.faults source.old) (supply S.left S.faults source.new) }
+{
+    let name = read_name(alloc, cursor, source)?;
+    let size = cursor.int(alloc, source)?;
+    cursor.finish_form(alloc, source)?;
+    Ok(PortName::Array(name, size))
+}
+
+#[tactic(auto, using(readers::proofs::Reading::sequences), unfolding(crate::specs::Grammar::renamed_port))]
+fn renamed_port<S: Source>(
+    alloc: Global,
+    cursor: &mut Cursor,
+    source: &mut S,
+) -> Result<PortName, ReadError>
+    ensures { Reads edif same renamed_port result cursor.old cursor.new (supply S.left S.faults source.old) (supply S.left S.faults source.new) }
+{
+    let name = renamed(alloc, cursor, source)?;
+    Ok(PortName::Single(name))
+}
+
+#[tactic(auto, using(readers::proofs::Reading::sequences), unfolding(crate::specs::Grammar::plain_port))]
+fn plain_port<S: Source>(
+    alloc: Global,
+    cursor: &mut Cursor,
+    source: &mut S,
+) -> Result<PortName, ReadError>
+    ensures { Reads edif same plain_port result cursor.old cursor.new (supply S.left S.faults source.old) (supply S.left S.faults source.new) }
+{
+    let name = plain(alloc, cursor, source)?;
+    Ok(PortName::Single(name))
 }

@@ -1,5 +1,16 @@
-use crate::name::NameDef;
-use nl_base::{PropValue, Seq, Text};
+ghost use Rattle.std.specs.Prelude.{[]};
+ghost use Rattle.readers.specs.Sources.{supply};
+ghost use Rattle.readers.specs.Readers.{same, Reads};
+ghost use Rattle.edif_keywords.specs.Language.{edif};
+ghost use Rattle.edif_names.specs.Grammar.{owner, remark, tail_form, tail_item, tails, property};
+
+use crate::name::{NameDef, read_name};
+use crate::value::read_value;
+use edif_keywords::keyword::same_keyword;
+use edif_keywords::{Cursor, Keyword, read_comment};
+use nl_base::{PropValue, ReadError, Seq, Text};
+use nl_io::Source;
+use std::alloc::Global;
 
 /// What may follow the value of a property.
 #[derive(Drop)]
@@ -14,4 +25,90 @@ pub struct Property {
     pub name: NameDef,
     pub value: PropValue,
     pub tail: Seq<PropTail>,
+}
+
+/// Reads on after the keyword `property`: its name, its value, and its owners and comments.
+#[tactic(auto, using(readers::proofs::Reading::sequences), unfolding(crate::specs::Grammar::property))]
+pub fn read_property<S: Source>(
+    alloc: Global,
+    cursor: &mut Cursor,
+    source: &mut S,
+) -> Result<Property, ReadError>
+    ensures { Reads edif same property result cursor.old cursor.new (supply S.left S.faults source.old) (supply S.left S.faults source.new) }
+{
+    let name = read_name(alloc, cursor, source)?;
+    let value = read_value(alloc, cursor, source)?;
+    let tail = read_tails(alloc, cursor, source)?;
+    Ok(Property { name, value, tail })
+}
+
+#[tactic(auto, using(edif_keywords::proofs::Forms::item_loops), unfolding(crate::specs::Grammar::tails, crate::specs::Grammar::tail_item))]
+fn read_tails<S: Source>(
+    alloc: Global,
+    cursor: &mut Cursor,
+    source: &mut S,
+) -> Result<Seq<PropTail>, ReadError>
+    ensures { Reads edif same (tails []) result cursor.old cursor.new (supply S.left S.faults source.old) (supply S.left S.faults source.new) }
+{
+    let mut tail = Seq::empty(alloc);
+    while cursor.at_form(alloc, source)? {
+        let item = tail_item(alloc, cursor, source)?;
+        cursor.add(&mut tail, item)?;
+    }
+    cursor.finish_form(alloc, source)?;
+    Ok(tail)
+}
+
+/// An owner or a comment, from its `(` on.
+#[tactic(auto, using(readers::proofs::Reading::sequences), unfolding(crate::specs::Grammar::tail_item))]
+fn tail_item<S: Source>(
+    alloc: Global,
+    cursor: &mut Cursor,
+    source: &mut S,
+) -> Result<PropTail, ReadError>
+    ensures { Reads edif same tail_item result cursor.old cursor.new (supply S.left S.faults source.old) (supply S.left S.faults source.new) }
+{
+    let keyword = cursor.begin(alloc, &[Keyword::Owner, Keyword::Comment], source)?;
+    tail_form(alloc, cursor, keyword, source)
+}
+
+#[tactic(auto, using(crate::proofs::Parts::by_keyword))]
+fn tail_form<S: Source>(
+    alloc: Global,
+    cursor: &mut Cursor,
+    keyword: Keyword,
+    source: &mut S,
+) -> Result<PropTail, ReadError>
+    ensures { Reads edif same (tail_form keyword) result cursor.old cursor.new (supply S.left S.faults source.old) (supply S.left S.faults source.new) }
+{
+    if same_keyword(keyword, Keyword::Owner) {
+        return owner(alloc, cursor, source);
+    }
+    remark(alloc, cursor, source)
+}
+
+/// Reads on after the keyword `owner`.
+#[tactic(auto, using(readers::proofs::Reading::sequences), unfolding(crate::specs::Grammar::owner))]
+fn owner<S: Source>(
+    alloc: Global,
+    cursor: &mut Cursor,
+    source: &mut S,
+) -> Result<PropTail, ReadError>
+    ensures { Reads edif same owner result cursor.old cursor.new (supply S.left S.faults source.old) (supply S.left S.faults source.new) }
+{
+    let text = cursor.string(alloc, source)?;
+    cursor.finish_form(alloc, source)?;
+    Ok(PropTail::Owner(text))
+}
+
+#[tactic(auto, using(readers::proofs::Reading::sequences), unfolding(crate::specs::Grammar::remark))]
+fn remark<S: Source>(
+    alloc: Global,
+    cursor: &mut Cursor,
+    source: &mut S,
+) -> Result<PropTail, ReadError>
+    ensures { Reads edif same remark result cursor.old cursor.new (supply S.left S.faults source.old) (supply S.left S.faults source.new) }
+{
+    let texts = read_comment(alloc, cursor, source)?;
+    Ok(PropTail::Comment(texts))
 }

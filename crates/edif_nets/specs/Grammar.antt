@@ -62,12 +62,12 @@ port_note q = do
   gives (port_items.Note n)
 
 -- direction | property | designator | note
-abbrev pub port_item : Keyword → Edif PortItem
+unfoldable pub port_item : Keyword → Edif PortItem
 port_item q =
     cond (same_keyword q k.Direction) direction (cond (same_keyword q k.Property) port_property (cond (same_keyword q k.Designator) port_designator (port_note q)))
 
 -- whether an item is a direction
-abbrev pub is_direction : PortItem → Bool
+unfoldable pub is_direction : PortItem → Bool
 is_direction (port_items.Direction d) = true
 is_direction (port_items.Property p) = false
 is_direction (port_items.Designator s) = false
@@ -78,7 +78,7 @@ unfoldable pub has_direction : List PortItem → Bool
 has_direction is = list_any is_direction is
 
 -- the keywords that may stand in a port, which has a direction already or not: at most one direction
-abbrev pub port_keywords : Bool → List Keyword
+unfoldable pub port_keywords : Bool → List Keyword
 port_keywords false = k.Direction ∷ k.Property ∷ k.Designator ∷ note_keywords
 port_keywords true = k.Property ∷ k.Designator ∷ note_keywords
 
@@ -132,25 +132,41 @@ instance_note q = do
   gives (instance_items.Note n)
 
 -- property | designator | note
-abbrev pub instance_item : Keyword → Edif InstanceItem
+unfoldable pub instance_item : Keyword → Edif InstanceItem
 instance_item q = cond (same_keyword q k.Property) instance_property (cond (same_keyword q k.Designator) instance_designator (instance_note q))
+
+-- the keywords that may stand behind the reference of an instance
+abbrev pub instance_keywords : List Keyword
+instance_keywords = k.Property ∷ k.Designator ∷ note_keywords
 
 -- {property | designator | note} ), after some
 unfoldable pub instance_rest : List InstanceItem → Edif (List InstanceItem)
-instance_rest = items (λ _. k.Property ∷ k.Designator ∷ note_keywords) instance_item
+instance_rest = items (λ _. instance_keywords) instance_item
+
+-- ( cellRef IDENT [( libraryRef IDENT )] )
+unfoldable pub cell_ref : Edif (List ℕ × Option (List ℕ))
+cell_ref = do
+  _ ← begin (k.CellRef ∷ [])
+  c ← word
+  l ← maybe_library
+  gives (c, l)
+
+-- ( viewRef IDENT ( cellRef IDENT [( libraryRef IDENT )] ) )
+unfoldable pub view_ref : Edif (List ℕ × List ℕ × Option (List ℕ))
+view_ref = do
+  _ ← begin (k.ViewRef ∷ [])
+  v ← word
+  c ← cell_ref
+  _ ← closing
+  gives (v, c.0, c.1)
 
 -- instance  = ( instance NAME ( viewRef IDENT ( cellRef IDENT [( libraryRef IDENT )] ) ) {property | designator | note} )
 unfoldable pub instance : Edif Instance
 instance = do
   n ← name
-  _ ← begin (k.ViewRef ∷ [])
-  v ← word
-  _ ← begin (k.CellRef ∷ [])
-  c ← word
-  l ← maybe_library
-  _ ← closing
+  v ← view_ref
   is ← instance_rest []
-  gives (record { name = n; view = v; cell = c; library = l; items = is })
+  gives (record { name = n; view = v.0; cell = v.1; library = v.2; items = is })
 
 -- ---- nets
 
@@ -197,9 +213,13 @@ port_ref = do
   u ← maybe_instance
   gives (record { port = p.0; member = p.1; instance = u })
 
+-- the keyword that may stand in joined
+abbrev pub joined_keywords : List Keyword
+joined_keywords = k.PortRef ∷ []
+
 -- {portRef} ), after some
 unfoldable pub joined_rest : List PortRef → Edif (List PortRef)
-joined_rest = items (λ _. k.PortRef ∷ []) (λ _. port_ref)
+joined_rest = items (λ _. joined_keywords) (λ _. port_ref)
 
 -- ( joined {portRef} )
 unfoldable pub joined : Edif (List PortRef)
@@ -220,12 +240,16 @@ net_note q = do
   gives (net_items.Note n)
 
 -- property | note
-abbrev pub net_item : Keyword → Edif NetItem
+unfoldable pub net_item : Keyword → Edif NetItem
 net_item q = cond (same_keyword q k.Property) net_property (net_note q)
+
+-- the keywords that may stand behind what a net joins
+abbrev pub net_keywords : List Keyword
+net_keywords = k.Property ∷ note_keywords
 
 -- {property | note} ), after some
 unfoldable pub net_rest : List NetItem → Edif (List NetItem)
-net_rest = items (λ _. k.Property ∷ note_keywords) net_item
+net_rest = items (λ _. net_keywords) net_item
 
 -- net       = ( net NAME ( joined {portRef} ) {property | note} )
 unfoldable pub net : Edif Net

@@ -1,1 +1,2 @@
+pub mod Directions
 pub mod Grammar

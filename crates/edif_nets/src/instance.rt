@@ -1,6 +1,18 @@
-use edif_names::{NameDef, Property};
-use edif_status::Note;
-use nl_base::{Ident, Seq, Text};
+ghost use Rattle.std.specs.Prelude.{[]};
+ghost use Rattle.readers.specs.Sources.{supply};
+ghost use Rattle.readers.specs.Readers.{same, Reads};
+ghost use Rattle.edif_keywords.specs.Language.{edif};
+ghost use Rattle.edif_keywords.specs.Grammar.{item};
+ghost use Rattle.edif_nets.specs.Grammar.{library_named, no_library, maybe_library, cell_ref, view_ref, instance_property, instance_designator, instance_note, instance_item, instance_keywords, instance_rest, instance};
+
+use crate::port::read_designator;
+use edif_keywords::keyword::same_keyword;
+use edif_keywords::{Cursor, Keyword};
+use edif_names::{NameDef, Property, read_name, read_property};
+use edif_status::{Note, read_note};
+use nl_base::{Ident, ReadError, Seq, Text};
+use nl_io::Source;
+use std::alloc::Global;
 
 /// A part of an instance behind its reference.
 #[derive(Drop)]
@@ -18,4 +30,191 @@ pub struct Instance {
     pub cell: Ident,
     pub library: Option<Ident>,
     pub items: Seq<InstanceItem>,
+}
+
+/// Reads on after the keyword `instance`: its name, the view of a cell that it refers to, and its items.
+#[tactic(auto, using(readers::proofs::Reading::sequences), unfolding(crate::specs::Grammar::instance))]
+pub fn read_instance<S: Source>(
+    alloc: Global,
+    cursor: &mut Cursor,
+    source: &mut S,
+) -> Result<Instance, ReadError>
+    ensures { Reads edif same instance result cursor.old cursor.new (supply S.left S.faults source.old) (supply S.left S.faults source.new) }
+{
+    let name = read_name(alloc, cursor, source)?;
+    let (view, cell, library) = view_ref(alloc, cursor, source)?;
+    let items = instance_rest(alloc, cursor, source)?;
+    Ok(Instance {
+        name,
+        view,
+        cell,
+        library,
+        items,
+    })
+}
+
+/// A `viewRef`, from its `(` on: the view, its cell, and the cell's library where one is named.
+#[tactic(auto, using(readers::proofs::Reading::sequences), unfolding(crate::specs::Grammar::view_ref))]
+fn view_ref<S: Source>(
+    alloc: Global,
+    cursor: &mut Cursor,
+    source: &mut S,
+) -> Result<(Ident, Ident, Option<Ident>), ReadError>
+    ensures { Reads edif same view_ref result cursor.old cursor.new (supply S.left S.faults source.old) (supply S.left S.faults source.new) }
+{
+    cursor.begin(alloc, &[Keyword::ViewRef], source)?;
+    let view = cursor.word(alloc, source)?;
+    let (cell, library) = cell_ref(alloc, cursor, source)?;
+    cursor.finish_form(alloc, source)?;
+    Ok((view, cell, library))
+}
+
+/// A `cellRef`, from its `(` on: the cell, and its library where one is named.
+#[tactic(auto, using(readers::proofs::Reading::sequences), unfolding(crate::specs::Grammar::cell_ref))]
+fn cell_ref<S: Source>(
+    alloc: Global,
+    cursor: &mut Cursor,
+    source: &mut S,
+) -> Result<(Ident, Option<Ident>), ReadError>
+    ensures { Reads edif same cell_ref result cursor.old cursor.new (supply S.left S.faults source.old) (supply S.left S.faults source.new) }
+{
+    cursor.begin(alloc, &[Keyword::CellRef], source)?;
+    let cell = cursor.word(alloc, source)?;
+    let library = maybe_library(alloc, cursor, source)?;
+    Ok((cell, library))
+}
+
+/// The library of a cell where one is named, with the `)` of the form around it.
+#[tactic(auto, using(crate::proofs::Parts::form_or_token), unfolding(crate::specs::Grammar::maybe_library))]
+fn maybe_library<S: Source>(
+    alloc: Global,
+    cursor: &mut Cursor,
+    source: &mut S,
+) -> Result<Option<Ident>, ReadError>
+    ensures { Reads edif same maybe_library result cursor.old cursor.new (supply S.left S.faults source.old) (supply S.left S.faults source.new) }
+{
+    if cursor.at_form(alloc, source)? {
+        cursor.begin(alloc, &[Keyword::LibraryRef], source)?;
+        return library_named(alloc, cursor, source);
+    }
+    no_library(alloc, cursor, source)
+}
+
+/// Reads on after the keyword `libraryRef`, with the `)` of the form around it.
+#[tactic(auto, using(readers::proofs::Reading::sequences), unfolding(crate::specs::Grammar::library_named))]
+fn library_named<S: Source>(
+    alloc: Global,
+    cursor: &mut Cursor,
+    source: &mut S,
+) -> Result<Option<Ident>, ReadError>
+    ensures { Reads edif same library_named result cursor.old cursor.new (supply S.left S.faults source.old) (supply S.left S.faults source.new) }
+{
+    let library = cursor.word(alloc, source)?;
+    cursor.finish_form(alloc, source)?;
+    cursor.finish_form(alloc, source)?;
+    Ok(Some(library))
+}
+
+#[tactic(auto, using(readers::proofs::Reading::sequences), unfolding(crate::specs::Grammar::no_library))]
+fn no_library<S: Source>(
+    alloc: Global,
+    cursor: &mut Cursor,
+    source: &mut S,
+) -> Result<Option<Ident>, ReadError>
+    ensures { Reads edif same no_library result cursor.old cursor.new (supply S.left S.faults source.old) (supply S.left S.faults source.new) }
+{
+    cursor.finish_form(alloc, source)?;
+    Ok(None)
+}
+
+#[tactic(auto, using(edif_keywords::proofs::Forms::item_loops), unfolding(crate::specs::Grammar::instance_rest))]
+fn instance_rest<S: Source>(
+    alloc: Global,
+    cursor: &mut Cursor,
+    source: &mut S,
+) -> Result<Seq<InstanceItem>, ReadError>
+    ensures { Reads edif same (instance_rest []) result cursor.old cursor.new (supply S.left S.faults source.old) (supply S.left S.faults source.new) }
+{
+    let mut items = Seq::empty(alloc);
+    while cursor.at_form(alloc, source)? {
+        let item = instance_item(alloc, cursor, source)?;
+        cursor.add(&mut items, item)?;
+    }
+    cursor.finish_form(alloc, source)?;
+    Ok(items)
+}
+
+/// An item of an instance, from its `(` on.
+#[tactic(auto, using(readers::proofs::Reading::sequences))]
+fn instance_item<S: Source>(
+    alloc: Global,
+    cursor: &mut Cursor,
+    source: &mut S,
+) -> Result<InstanceItem, ReadError>
+    ensures { Reads edif same (item instance_keywords instance_item) result cursor.old cursor.new (supply S.left S.faults source.old) (supply S.left S.faults source.new) }
+{
+    let allowed = [
+        Keyword::Property,
+        Keyword::Designator,
+        Keyword::Comment,
+        Keyword::UserData,
+    ];
+    let keyword = cursor.begin(alloc, &allowed, source)?;
+    instance_form(alloc, cursor, keyword, source)
+}
+
+/// The rest of an item of an instance, by its keyword.
+#[tactic(auto, using(crate::proofs::Parts::by_keyword))]
+fn instance_form<S: Source>(
+    alloc: Global,
+    cursor: &mut Cursor,
+    keyword: Keyword,
+    source: &mut S,
+) -> Result<InstanceItem, ReadError>
+    ensures { Reads edif same (instance_item keyword) result cursor.old cursor.new (supply S.left S.faults source.old) (supply S.left S.faults source.new) }
+{
+    if same_keyword(keyword, Keyword::Property) {
+        return instance_property(alloc, cursor, source);
+    }
+    if same_keyword(keyword, Keyword::Designator) {
+        return instance_designator(alloc, cursor, source);
+    }
+    instance_note(alloc, cursor, keyword, source)
+}
+
+#[tactic(auto, using(readers::proofs::Reading::sequences), unfolding(crate::specs::Grammar::instance_property))]
+fn instance_property<S: Source>(
+    alloc: Global,
+    cursor: &mut Cursor,
+    source: &mut S,
+) -> Result<InstanceItem, ReadError>
+    ensures { Reads edif same instance_property result cursor.old cursor.new (supply S.left S.faults source.old) (supply S.left S.faults source.new) }
+{
+    let property = read_property(alloc, cursor, source)?;
+    Ok(InstanceItem::Property(property))
+}
+
+#[tactic(auto, using(readers::proofs::Reading::sequences), unfolding(crate::specs::Grammar::instance_designator))]
+fn instance_designator<S: Source>(
+    alloc: Global,
+    cursor: &mut Cursor,
+    source: &mut S,
+) -> Result<InstanceItem, ReadError>
+    ensures { Reads edif same instance_designator result cursor.old cursor.new (supply S.left S.faults source.old) (supply S.left S.faults source.new) }
+{
+    let text = read_designator(alloc, cursor, source)?;
+    Ok(InstanceItem::Designator(text))
+}
+
+#[tactic(auto, using(readers::proofs::Reading::sequences), unfolding(crate::specs::Grammar::instance_note))]
+fn instance_note<S: Source>(
+    alloc: Global,
+    cursor: &mut Cursor,
+    keyword: Keyword,
+    source: &mut S,
+) -> Result<InstanceItem, ReadError>
+    ensures { Reads edif same (instance_note keyword) result cursor.old cursor.new (supply S.left S.faults source.old) (supply S.left S.faults source.new) }
+{
+    let note = read_note(alloc, cursor, keyword, source)?;
+    Ok(InstanceItem::Note(note))
 }

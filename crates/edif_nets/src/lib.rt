@@ -1,10 +1,17 @@
-// Ports, instances and nets.
+// Ports, instances and nets of EDIF 2 0 0.
+//
+// The public contract in plain words: each read call goes on behind the keyword of its form and takes the form up to its `)`. It answers the
+// value that the tokens spell, or the form's first fault with its place and reason; a source that fails and want of memory aside, it answers
+// nothing else. A port has at most one direction, and one that has none goes both ways. A net keeps what it joins in the order of the text, each
+// reference with its member and its instance (EDIF 2 0 0, port, instance and net).
 #![tactic(auto)]
 
 pub mod instance;
 pub mod net;
 pub mod port;
+pub mod port_direction;
 
-pub use instance::{Instance, InstanceItem};
-pub use net::{Net, NetItem, PortRef};
-pub use port::{Port, PortItem};
+pub use instance::{Instance, InstanceItem, read_instance};
+pub use net::{Net, NetItem, PortRef, read_net};
+pub use port::{Port, PortItem, read_designator, read_port};
+pub use port_direction::direction;

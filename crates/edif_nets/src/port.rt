@@ -1,6 +1,18 @@
-use edif_names::{PortName, Property};
-use edif_status::Note;
-use nl_base::{Dir, Seq, Text};
+ghost use Rattle.std.specs.Prelude.{◌≡◌, [], ◌||◌};
+ghost use Rattle.readers.specs.Sources.{supply};
+ghost use Rattle.readers.specs.Readers.{same, Reads};
+ghost use Rattle.edif_keywords.specs.Language.{edif};
+ghost use Rattle.edif_keywords.specs.Grammar.{item};
+ghost use Rattle.edif_keywords.specs.Reasons.{rows};
+ghost use Rattle.edif_nets.specs.Grammar.{designator, direction_words, direction, port_property, port_designator, port_note, port_item, is_direction, port_keywords, port_rest, port};
+
+use edif_keywords::keyword::same_keyword;
+use edif_keywords::{Cursor, Keyword};
+use edif_names::{PortName, Property, read_port_name, read_property};
+use edif_status::{Note, read_note};
+use nl_base::{Dir, ReadError, Seq, Text};
+use nl_io::Source;
+use std::alloc::Global;
 
 /// A part of a port behind its name. A port has at most one direction; designators are kept and mean nothing.
 #[derive(Drop)]
@@ -16,4 +28,179 @@ pub enum PortItem {
 pub struct Port {
     pub name: PortName,
     pub items: Seq<PortItem>,
+}
+
+/// Reads on after the keyword `port`: its name and its items.
+#[tactic(auto, using(readers::proofs::Reading::sequences), unfolding(crate::specs::Grammar::port))]
+pub fn read_port<S: Source>(
+    alloc: Global,
+    cursor: &mut Cursor,
+    source: &mut S,
+) -> Result<Port, ReadError>
+    ensures { Reads edif same port result cursor.old cursor.new (supply S.left S.faults source.old) (supply S.left S.faults source.new) }
+{
+    let name = read_port_name(alloc, cursor, source)?;
+    let items = port_rest(alloc, cursor, source)?;
+    Ok(Port { name, items })
+}
+
+/// Reads on after the keyword `designator`.
+#[tactic(auto, using(readers::proofs::Reading::sequences), unfolding(crate::specs::Grammar::designator))]
+pub fn read_designator<S: Source>(
+    alloc: Global,
+    cursor: &mut Cursor,
+    source: &mut S,
+) -> Result<Text, ReadError>
+    ensures { Reads edif same designator result cursor.old cursor.new (supply S.left S.faults source.old) (supply S.left S.faults source.new) }
+{
+    let text = cursor.string(alloc, source)?;
+    cursor.finish_form(alloc, source)?;
+    Ok(text)
+}
+
+#[tactic(auto, using(crate::proofs::Parts::port_loops), unfolding(crate::specs::Grammar::port_rest))]
+fn port_rest<S: Source>(
+    alloc: Global,
+    cursor: &mut Cursor,
+    source: &mut S,
+) -> Result<Seq<PortItem>, ReadError>
+    ensures { Reads edif same (port_rest []) result cursor.old cursor.new (supply S.left S.faults source.old) (supply S.left S.faults source.new) }
+{
+    let mut items = Seq::empty(alloc);
+    let mut directed = false;
+    while cursor.at_form(alloc, source)? {
+        let item = port_item(alloc, cursor, directed, source)?;
+        directed = is_directed(directed, &item);
+        cursor.add(&mut items, item)?;
+    }
+    cursor.finish_form(alloc, source)?;
+    Ok(items)
+}
+
+/// An item of a port that has a direction already or not, from its `(` on.
+#[tactic(auto, using(readers::proofs::Reading::sequences))]
+fn port_item<S: Source>(
+    alloc: Global,
+    cursor: &mut Cursor,
+    directed: bool,
+    source: &mut S,
+) -> Result<PortItem, ReadError>
+    ensures { Reads edif same (item (port_keywords directed) port_item) result cursor.old cursor.new (supply S.left S.faults source.old) (supply S.left S.faults source.new) }
+{
+    let keyword = cursor.begin(alloc, port_keywords(directed), source)?;
+    port_form(alloc, cursor, keyword, source)
+}
+
+/// The rest of an item of a port, by its keyword.
+#[tactic(auto, using(crate::proofs::Parts::by_keyword))]
+fn port_form<S: Source>(
+    alloc: Global,
+    cursor: &mut Cursor,
+    keyword: Keyword,
+    source: &mut S,
+) -> Result<PortItem, ReadError>
+    ensures { Reads edif same (port_item keyword) result cursor.old cursor.new (supply S.left S.faults source.old) (supply S.left S.faults source.new) }
+{
+    if same_keyword(keyword, Keyword::Direction) {
+        return direction_item(alloc, cursor, source);
+    }
+    if same_keyword(keyword, Keyword::Property) {
+        return port_property(alloc, cursor, source);
+    }
+    if same_keyword(keyword, Keyword::Designator) {
+        return port_designator(alloc, cursor, source);
+    }
+    port_note(alloc, cursor, keyword, source)
+}
+
+/// Reads on after the keyword `direction`.
+#[tactic(auto, using(readers::proofs::Reading::sequences), unfolding(crate::specs::Grammar::direction))]
+fn direction_item<S: Source>(
+    alloc: Global,
+    cursor: &mut Cursor,
+    source: &mut S,
+) -> Result<PortItem, ReadError>
+    ensures { Reads edif same direction result cursor.old cursor.new (supply S.left S.faults source.old) (supply S.left S.faults source.new) }
+{
+    let direction = cursor.choose(alloc, direction_words(), source)?;
+    cursor.finish_form(alloc, source)?;
+    Ok(PortItem::Direction(direction))
+}
+
+#[tactic(auto, using(readers::proofs::Reading::sequences), unfolding(crate::specs::Grammar::port_property))]
+fn port_property<S: Source>(
+    alloc: Global,
+    cursor: &mut Cursor,
+    source: &mut S,
+) -> Result<PortItem, ReadError>
+    ensures { Reads edif same port_property result cursor.old cursor.new (supply S.left S.faults source.old) (supply S.left S.faults source.new) }
+{
+    let property = read_property(alloc, cursor, source)?;
+    Ok(PortItem::Property(property))
+}
+
+#[tactic(auto, using(readers::proofs::Reading::sequences), unfolding(crate::specs::Grammar::port_designator))]
+fn port_designator<S: Source>(
+    alloc: Global,
+    cursor: &mut Cursor,
+    source: &mut S,
+) -> Result<PortItem, ReadError>
+    ensures { Reads edif same port_designator result cursor.old cursor.new (supply S.left S.faults source.old) (supply S.left S.faults source.new) }
+{
+    let text = read_designator(alloc, cursor, source)?;
+    Ok(PortItem::Designator(text))
+}
+
+#[tactic(auto, using(readers::proofs::Reading::sequences), unfolding(crate::specs::Grammar::port_note))]
+fn port_note<S: Source>(
+    alloc: Global,
+    cursor: &mut Cursor,
+    keyword: Keyword,
+    source: &mut S,
+) -> Result<PortItem, ReadError>
+    ensures { Reads edif same (port_note keyword) result cursor.old cursor.new (supply S.left S.faults source.old) (supply S.left S.faults source.new) }
+{
+    let note = read_note(alloc, cursor, keyword, source)?;
+    Ok(PortItem::Note(note))
+}
+
+/// The words of a direction.
+fn direction_words() -> &'static [(&'static [u8], Dir)]
+    ensures { rows result.now ≡ direction_words }
+{
+    &[
+        (b"INPUT", Dir::Input),
+        (b"OUTPUT", Dir::Output),
+        (b"INOUT", Dir::Inout),
+    ]
+}
+
+/// The keywords that may stand in a port that has a direction already or not.
+#[tactic(auto, unfolding(crate::specs::Grammar::port_keywords))]
+fn port_keywords(directed: bool) -> &'static [Keyword]
+    ensures { result.now ≡ port_keywords directed }
+{
+    if directed {
+        return &[
+            Keyword::Property,
+            Keyword::Designator,
+            Keyword::Comment,
+            Keyword::UserData,
+        ];
+    }
+    &[
+        Keyword::Direction,
+        Keyword::Property,
+        Keyword::Designator,
+        Keyword::Comment,
+        Keyword::UserData,
+    ]
+}
+
+/// Whether there is a direction among some items and one more.
+#[tactic(auto, unfolding(crate::specs::Grammar::is_direction))]
+fn is_directed(directed: bool, item: &PortItem) -> bool
+    ensures { result ≡ (directed || is_direction item.now) }
+{
+    directed || matches!(item, PortItem::Direction(_))
 }

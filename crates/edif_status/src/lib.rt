@@ -1,8 +1,22 @@
-// User data, notes and status.
+// User data, notes and statuses of EDIF 2 0 0: the forms userData, comment, status, written, timeStamp, author, program, version and
+// dataOrigin.
+//
+// The public contract in plain words: `read_user`, `read_note` and `read_status` read on after the keyword of their form, to its `)`. The
+// value that they answer is the one that the tokens spell by the productions of `specs/Grammar.antt`, and the tokens behind the form are
+// left. A text fault is the first token that no text has there, or the fault of the bytes or the end in its place, with the reason for it;
+// in user data the `(` of a 65th list in one another is refused as TooDeep. A source that fails and want of memory aside, they answer
+// nothing else. What the tokens of a text spell keeps the limits of `specs/Values.antt` (lemmas in `proofs/Kept.antt`).
 #![tactic(auto)]
 
+pub mod note;
 pub mod status;
 pub mod user;
+pub mod written;
 
-pub use status::{Note, Stamp, Status, StatusItem, Written, WrittenItem};
-pub use user::{UserData, UserTree};
+pub use note::{Note, read_note};
+pub use status::{Status, StatusItem, read_status};
+pub use user::{UserData, UserTree, read_user};
+pub use written::{Stamp, Written, WrittenItem};
+
+#[cfg(test)]
+mod tests;

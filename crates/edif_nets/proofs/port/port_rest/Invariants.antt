@@ -1,0 +1,15 @@
+use Rattle.std.specs.Prelude.{◌≡◌, []}
+use Rattle.readers.specs.Sources.{supply}
+use Rattle.readers.specs.Readers.{room}
+use Rattle.readers.proofs.Loops.{Goes}
+use Rattle.edif_keywords.specs.Language.{edif}
+use Rattle.edif_nets.specs.Grammar.{has_direction, port_rest}
+use Rattle.edif_nets.proofs.port.port_rest.Given as goal
+
+abbrev pub invariant-loop-items : goal.invariant-loop-items
+invariant-loop-items g l =
+    Goes edif (port_rest []) (port_rest l.items) l.cursor l.fn.cursor (supply g.S.Source.left g.S.Source.faults l.source) (supply g.S.Source.left g.S.Source.faults l.fn.source)
+    × (l.directed ≡ has_direction l.items)
+
+abbrev pub decreases-loop-items : goal.decreases-loop-items
+decreases-loop-items g l = room l.cursor

@@ -1,0 +1,4 @@
+pub mod Due
+pub mod Kept
+pub mod Live
+pub mod Trees

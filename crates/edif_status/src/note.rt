@@ -1,0 +1,56 @@
+ghost use Rattle.readers.specs.Sources.{supply};
+ghost use Rattle.readers.specs.Readers.{same, Reads};
+ghost use Rattle.edif_keywords.specs.Language.{edif};
+ghost use Rattle.edif_status.specs.Grammar.{remark, user_note, note};
+
+use crate::user::{UserData, read_user};
+use edif_keywords::keyword::same_keyword;
+use edif_keywords::{Cursor, Keyword, read_comment};
+use nl_base::{ReadError, Seq, Text};
+use nl_io::Source;
+use std::alloc::Global;
+
+/// A remark that changes nothing.
+#[derive(Drop)]
+pub enum Note {
+    Comment(Seq<Text>),
+    User(UserData),
+}
+
+/// Reads on after the keyword of a note, which is `comment` or `userData`.
+#[tactic(auto, using(readers::proofs::Reading::sequences))]
+pub fn read_note<S: Source>(
+    alloc: Global,
+    cursor: &mut Cursor,
+    keyword: Keyword,
+    source: &mut S,
+) -> Result<Note, ReadError>
+    ensures { Reads edif same (note keyword) result cursor.old cursor.new (supply S.left S.faults source.old) (supply S.left S.faults source.new) }
+{
+    if same_keyword(keyword, Keyword::Comment) {
+        return remark(alloc, cursor, source);
+    }
+    user_note(alloc, cursor, source)
+}
+
+/// Reads on after the keyword `comment`.
+#[tactic(auto, using(readers::proofs::Reading::sequences), unfolding(crate::specs::Grammar::remark))]
+fn remark<S: Source>(alloc: Global, cursor: &mut Cursor, source: &mut S) -> Result<Note, ReadError>
+    ensures { Reads edif same remark result cursor.old cursor.new (supply S.left S.faults source.old) (supply S.left S.faults source.new) }
+{
+    let texts = read_comment(alloc, cursor, source)?;
+    Ok(Note::Comment(texts))
+}
+
+/// Reads on after the keyword `userData`.
+#[tactic(auto, using(readers::proofs::Reading::sequences), unfolding(crate::specs::Grammar::user_note))]
+fn user_note<S: Source>(
+    alloc: Global,
+    cursor: &mut Cursor,
+    source: &mut S,
+) -> Result<Note, ReadError>
+    ensures { Reads edif same user_note result cursor.old cursor.new (supply S.left S.faults source.old) (supply S.left S.faults source.new) }
+{
+    let data = read_user(alloc, cursor, source)?;
+    Ok(Note::User(data))
+}
