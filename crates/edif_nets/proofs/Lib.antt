@@ -1,2 +1,4 @@
+pub mod Kept
+pub mod Live
 pub mod Parts
 pub mod Told

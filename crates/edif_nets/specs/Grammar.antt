@@ -2,7 +2,7 @@
 -- joined, portRef, member, instanceRef). Each reads on after its keyword, up to the `)` of the form.
 use Rattle.std.specs.Prelude.{ℕ, ℤ, Bool, true, false, List, [], ◌∷◌, Option, Some, None, codes, cond}
 use Rattle.std.specs.List.{list_any}
-use Rattle.grammar.specs.Part.{gives, sequence, ◌>>=◌}
+use Rattle.grammar.specs.Part.{gives, ◌>>=◌}
 use Rattle.nl_base.specs.declared.value.Dir.{Dir}
 use Rattle.nl_base.specs.declared.value.Dir.TheVariants as dirs
 use Rattle.edif_keywords.specs.declared.keyword.Keyword.{Keyword}
