@@ -1,5 +1,5 @@
 -- A written string, a run of bytes that stand for themselves and an escape on.
-use Rattle.std.proofs.Common.{◌≡◌, ℕ, ◌+◌, ◌-◌, ◌<◌, ◌≤◌, Bool, true, false, List, [], ◌∷◌, ◌++◌, length, take, drop, refl, sym, ap, ◌∙◌, arith, zero, suc, length-drop, get_or, drop-cons, add-one}
+use Rattle.std.proofs.Common.{◌≡◌, ℕ, ◌+◌, ◌<◌, ◌≤◌, Bool, true, false, List, [], ◌∷◌, ◌++◌, length, take, drop, refl, sym, ap, ◌∙◌, arith, suc, length-drop, get_or, drop-cons, add-one}
 use Rattle.std.specs.Prelude.{decimal, not}
 use Rattle.std.specs.List.{prefix_len}
 use Rattle.edif_writer.proofs.Steps.{drop_past}

@@ -7,19 +7,13 @@ use Rattle.nl_base.specs.declared.value.PropValue.TheVariants as prop
 use Rattle.edif_names.specs.declared.name.NameDef.{NameDef}
 use Rattle.edif_names.specs.declared.name.PortName.TheVariants as port_name
 use Rattle.edif_names.specs.declared.property.PropTail.TheVariants as prop_tail
-use Rattle.edif_names.specs.declared.property.Property.{Property}
 use Rattle.edif_status.specs.declared.status.Stamp.{Stamp}
 use Rattle.edif_status.specs.declared.status.WrittenItem.TheVariants as written_item
-use Rattle.edif_status.specs.declared.status.Written.{Written}
 use Rattle.edif_status.specs.declared.status.StatusItem.TheVariants as status_item
 use Rattle.edif_status.specs.declared.status.Status.{Status}
 use Rattle.edif_nets.specs.declared.port.PortItem.TheVariants as port_item
-use Rattle.edif_nets.specs.declared.port.Port.{Port}
-use Rattle.edif_nets.specs.declared.net.PortRef.{PortRef}
 use Rattle.edif_nets.specs.declared.net.NetItem.TheVariants as net_item
-use Rattle.edif_nets.specs.declared.net.Net.{Net}
 use Rattle.edif_nets.specs.declared.instance.InstanceItem.TheVariants as instance_item
-use Rattle.edif_nets.specs.declared.instance.Instance.{Instance}
 use Rattle.edif_library.specs.declared.view.View.{View}
 use Rattle.edif_library.specs.declared.cell.CellKind.TheVariants as kind
 use Rattle.edif_library.specs.declared.cell.CellItem.TheVariants as cell_item

@@ -1,5 +1,5 @@
 -- The written text of a file: the form of each value, a line for each.
-use Rattle.std.specs.Prelude.{ℕ, ℤ, pos, zero, suc, negsuc, Bool, true, false, List, [], ◌∷◌, Option, Some, None, codes, if◌then◌else◌}
+use Rattle.std.specs.Prelude.{ℕ, ℤ, pos, zero, suc, negsuc, Bool, List, [], Option, Some, None, codes, if◌then◌else◌}
 use Rattle.edif_keywords.specs.declared.keyword.Keyword.{Keyword}
 use Rattle.edif_keywords.specs.declared.keyword.Keyword.TheVariants as k
 use Rattle.nl_base.specs.declared.number.Scaled.{Scaled}
@@ -58,7 +58,7 @@ use Rattle.edif_library.specs.declared.file.Design.{Design}
 use Rattle.edif_library.specs.declared.file.FileItem.{FileItem}
 use Rattle.edif_library.specs.declared.file.FileItem.TheVariants as file_item
 use Rattle.edif_library.specs.declared.file.EdifFile.{EdifFile}
-use Rattle.edif_writer.specs.Layout.{Form, Word, Number, Str, Line, Group, Forms, none, more, Block, Flat, Deep, Blocks, end, below, together, each, all, laid}
+use Rattle.edif_writer.specs.Layout.{Form, Word, Number, Str, Line, Group, Forms, none, more, Block, Flat, Deep, below, together, each, all, laid}
 
 -- `(keyword part)`
 abbrev pub with_part : Keyword → Form → Form

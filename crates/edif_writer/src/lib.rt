@@ -21,3 +21,6 @@ pub mod string;
 pub mod value;
 
 pub use file::write_edif;
+
+#[cfg(test)]
+mod tests;

@@ -1,6 +1,6 @@
 use Rattle.std.proofs.Common.{ℕ, List, ◌∙◌, ap, subst, drop, take}
 use Rattle.nl_output.specs.Writing.{state, ToCome}
-use Rattle.edif_writer.proofs.Escapes.{plains, others, run_next, run_shortens}
+use Rattle.edif_writer.proofs.Escapes.{run_next, run_shortens}
 use Rattle.edif_writer.proofs.string.write_run.Goals as goal
 
 pub returns-clause-shorter : goal.returns-clause-shorter
