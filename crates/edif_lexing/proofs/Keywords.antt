@@ -1,9 +1,8 @@
 -- Each keyword's spelling is a word.
-use Rattle.std.proofs.Common.{◌≡◌, ◌≤◌, length, true, refl, lit≤}
+use Rattle.std.proofs.Common.{refl, lit≤}
 use Rattle.edif_keywords.specs.declared.keyword.Keyword.{Keyword}
 use Rattle.edif_keywords.specs.declared.keyword.Keyword.TheVariants as k
 use Rattle.edif_keywords.specs.Keywords.{spelling}
-use Rattle.nl_base.specs.Identifiers.{is_identifier}
 use Rattle.edif_tokens.specs.Proper.{IsProper}
 use Rattle.edif_tokens.specs.declared.token.Token.TheVariants as t
 

@@ -1,6 +1,6 @@
 -- The tokens of what is written: white space, parentheses, words, integers and strings.
-use Rattle.std.proofs.Common.{◌≡◌, ℕ, zero, suc, ◌+◌, ◌-◌, ◌*◌, ◌<◌, ◌≤◌, ◌^◌, ◌%◌, Bool, true, false, eqb, List, [], ◌∷◌, ◌++◌, length, Some, Result, Ok, IsTrue, refl, sym, ap, ◌∙◌, subst, arith, length-append}
-use Rattle.std.specs.Prelude.{IfSome, ℤ, pos, negsuc, decimal, neg_ℤ, ◌&&◌, ◌||◌, nat_le}
+use Rattle.std.proofs.Common.{◌≡◌, ℕ, suc, ◌+◌, ◌-◌, ◌*◌, ◌<◌, ◌≤◌, ◌^◌, ◌%◌, Bool, true, false, eqb, List, [], ◌∷◌, ◌++◌, length, Some, Result, Ok, IsTrue, refl, sym, ap, ◌∙◌, subst, arith, length-append}
+use Rattle.std.specs.Prelude.{IfSome, ℤ, pos, negsuc, decimal, neg_ℤ, ◌&&◌, ◌||◌}
 use Rattle.std.specs.Fmt.{signed_decimal}
 use Rattle.std.specs.Char.{is_ascii_digit, is_ascii_alphabetic}
 use Rattle.std.specs.List.{list_all}
@@ -206,4 +206,5 @@ lexes_number (pos n) rest ts good h l =
     digits_after n (decimal n) rest ts good (decimal_spelled n (omega arith)) (omega arith) h l
 lexes_number (negsuc n) rest ts good h l =
     let most = length-decimal-le 20 (suc n) (omega arith) (omega arith) (omega arith) in
-    minus_after n (decimal (suc n)) rest ts good (decimal_spelled (suc n) (omega arith)) (omega arith) h l
+    let small : suc n < 2 ^ 63 = good in
+    minus_after n (decimal (suc n)) rest ts (omega (arith, small)) (decimal_spelled (suc n) (omega arith)) (omega arith) h l

@@ -1,5 +1,5 @@
 -- What is written of a string is read as that string.
-use Rattle.std.proofs.Common.{◌≡◌, ℕ, suc, ◌+◌, ◌-◌, ◌*◌, ◌<◌, ◌≤◌, ◌/◌, ◌%◌, Bool, true, false, eqb, List, [], ◌∷◌, ◌++◌, length, refl, sym, ap, ◌∙◌, arith, length-append, append_assoc, append-nil}
+use Rattle.std.proofs.Common.{◌≡◌, ℕ, suc, ◌+◌, ◌-◌, ◌*◌, ◌<◌, ◌≤◌, ◌/◌, ◌%◌, Bool, true, false, eqb, List, [], ◌∷◌, ◌++◌, length, refl, sym, ap, subst, ◌∙◌, arith, length-append, append_assoc, append-nil}
 use Rattle.std.specs.Prelude.{decimal}
 use Rattle.std.specs.Char.{is_ascii_digit}
 use Rattle.std.specs.List.{AllByRecursion}
@@ -12,7 +12,7 @@ use Rattle.edif_tokens.specs.declared.token.Token.TheVariants as t
 use Rattle.edif_tokens.specs.Spelling.{token_at}
 use Rattle.edif_tokens.specs.Strings.{Within, Escape, Code, string_at, is_full}
 use Rattle.edif_tokens.specs.Strings as within
-use Rattle.edif_tokens.specs.Proper.{AreBytes, IsProper}
+use Rattle.edif_tokens.specs.Proper.{IsProper}
 use Rattle.edif_writer.specs.Strings.{is_plain, quoted, written}
 use Rattle.edif_lexing.specs.Lexing.{Lexes}
 use Rattle.edif_lexing.proofs.Lexing.{piece, lexes_token}
