@@ -1,0 +1,4 @@
+pub mod Keywords
+pub mod Lexing
+pub mod Quoting
+pub mod Laying

@@ -1,0 +1,5 @@
+use Rattle.edif_lexing.proofs.Laying.{text_lexes}
+use Rattle.edif_lexing.proofs.laws.text_lexes.Goals as goal
+
+pub returns : goal.returns
+returns c = text_lexes

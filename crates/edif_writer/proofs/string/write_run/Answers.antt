@@ -1,0 +1,20 @@
+use Rattle.std.proofs.Common.{ℕ, List, ◌∙◌, ap, subst, drop, take}
+use Rattle.nl_output.specs.Writing.{state, ToCome}
+use Rattle.edif_writer.proofs.Escapes.{run_next, run_shortens}
+use Rattle.edif_writer.proofs.string.write_run.Goals as goal
+
+pub returns-clause-shorter : goal.returns-clause-shorter
+returns-clause-shorter g c =
+    run_shortens c.args.bytes.now _ _ c.requires
+    (c.split_at.ensures.back ∙ ap (λ (n : ℕ). drop n c.args.bytes.now) c.plain_front.ensures.count)
+    (c.split_at-2.ensures.back ∙ ap (λ (n : ℕ). drop n c.split_at.result.1.now) c.other_front.ensures.count)
+
+pub returns-clause-puts : goal.returns-clause-puts
+returns-clause-puts g c b rest s =
+    c.write_escape.ensures b _ (c.put.ensures b _
+    (subst (λ (z : List ℕ). ToCome b (state g.O.Sink.taken g.O.Sink.accepts g.O.Sink.faults c.args.sink.now c.args.output.now) z)
+    (run_next c.args.bytes.now c.split_at.result.0.now c.split_at.result.1.now c.split_at-2.result.0.now c.split_at-2.result.1.now rest
+    (c.split_at.ensures.front ∙ ap (λ (n : ℕ). take n c.args.bytes.now) c.plain_front.ensures.count)
+    (c.split_at.ensures.back ∙ ap (λ (n : ℕ). drop n c.args.bytes.now) c.plain_front.ensures.count)
+    (c.split_at-2.ensures.front ∙ ap (λ (n : ℕ). take n c.split_at.result.1.now) c.other_front.ensures.count)
+    (c.split_at-2.ensures.back ∙ ap (λ (n : ℕ). drop n c.split_at.result.1.now) c.other_front.ensures.count)) s))

@@ -1,0 +1,3 @@
+pub mod Strings
+pub mod Layout
+pub mod Forms

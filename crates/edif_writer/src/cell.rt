@@ -1,0 +1,140 @@
+ghost use Rattle.edif_writer.specs.Forms.{cell_block, cell_item_block, contents_item_block, interface_item_block, kind_form, view_block, view_item_block, with_part};
+ghost use Rattle.edif_writer.specs.Layout.{Deep, Flat, all, laid, none};
+ghost use Rattle.edif_keywords.specs.declared.keyword.Keyword.TheVariants as k;
+ghost use Rattle.std.specs.Prelude.{◌≤◌, ◌+◌};
+ghost use Rattle.nl_output.specs.Writing.{state, Puts};
+
+use crate::forms::{OnLines, lay_each, open_block, put_line, write_line};
+use crate::net::lay_designator;
+use edif_library::{Cell, CellItem, CellKind, ContentsItem, InterfaceItem, View, ViewItem};
+use nl_base::Seq;
+use nl_io::Sink;
+use nl_output::Output;
+
+impl OnLines for InterfaceItem {
+    ghost block = { interface_item_block };
+
+    ghost depth = { 0 };
+
+    fn lay<O: Sink>(&self, indent: usize, output: &mut Output, sink: &mut O) {
+        match self {
+            InterfaceItem::Port(port) => write_line(port, indent, output, sink),
+            InterfaceItem::Property(property) => write_line(property, indent, output, sink),
+            InterfaceItem::Designator(text) => lay_designator(text, indent, output, sink),
+            InterfaceItem::Note(note) => write_line(note, indent, output, sink),
+        }
+    }
+}
+
+impl OnLines for ContentsItem {
+    ghost block = { contents_item_block };
+
+    ghost depth = { 4 };
+
+    fn lay<O: Sink>(&self, indent: usize, output: &mut Output, sink: &mut O) {
+        match self {
+            ContentsItem::Instance(instance) => instance.lay(indent, output, sink),
+            ContentsItem::Net(net) => net.lay(indent, output, sink),
+            ContentsItem::Note(note) => write_line(note, indent, output, sink),
+        }
+    }
+}
+
+/// The contents of a view.
+fn lay_contents<O: Sink>(
+    items: &Seq<ContentsItem>,
+    indent: usize,
+    output: &mut Output,
+    sink: &mut O,
+)
+    requires { indent + 6 ≤ 16 }
+    ensures { Puts (laid indent (Deep k.Contents none (all contents_item_block items.now))) (state O.taken O.accepts O.faults sink.old output.old) (state O.taken O.accepts O.faults sink.new output.new) }
+{
+    put_line(indent, b"(contents", output, sink);
+    lay_each(items.items(), indent + 2, output, sink);
+    put_line(indent, b")", output, sink);
+}
+
+/// The interface of a view.
+fn lay_interface<O: Sink>(
+    items: &Seq<InterfaceItem>,
+    indent: usize,
+    output: &mut Output,
+    sink: &mut O,
+)
+    requires { indent + 2 ≤ 16 }
+    ensures { Puts (laid indent (Deep k.Interface none (all interface_item_block items.now))) (state O.taken O.accepts O.faults sink.old output.old) (state O.taken O.accepts O.faults sink.new output.new) }
+{
+    put_line(indent, b"(interface", output, sink);
+    lay_each(items.items(), indent + 2, output, sink);
+    put_line(indent, b")", output, sink);
+}
+
+impl OnLines for ViewItem {
+    ghost block = { view_item_block };
+
+    ghost depth = { 6 };
+
+    fn lay<O: Sink>(&self, indent: usize, output: &mut Output, sink: &mut O) {
+        match self {
+            ViewItem::Contents(items) => lay_contents(items, indent, output, sink),
+            ViewItem::Property(property) => write_line(property, indent, output, sink),
+            ViewItem::Status(status) => status.lay(indent, output, sink),
+            ViewItem::Note(note) => write_line(note, indent, output, sink),
+        }
+    }
+}
+
+impl OnLines for View {
+    ghost block = { view_block };
+
+    ghost depth = { 8 };
+
+    fn lay<O: Sink>(&self, indent: usize, output: &mut Output, sink: &mut O) {
+        open_block(indent, b"(view ", &self.name, output, sink);
+        put_line(indent + 2, b"(viewType NETLIST)", output, sink);
+        lay_interface(&self.interface, indent + 2, output, sink);
+        lay_each(self.items.items(), indent + 2, output, sink);
+        put_line(indent, b")", output, sink);
+    }
+}
+
+impl OnLines for CellItem {
+    ghost block = { cell_item_block };
+
+    ghost depth = { 8 };
+
+    fn lay<O: Sink>(&self, indent: usize, output: &mut Output, sink: &mut O) {
+        match self {
+            CellItem::View(view) => view.lay(indent, output, sink),
+            CellItem::Property(property) => write_line(property, indent, output, sink),
+            CellItem::Status(status) => status.lay(indent, output, sink),
+            CellItem::Note(note) => write_line(note, indent, output, sink),
+        }
+    }
+}
+
+/// The type of a cell.
+fn lay_kind<O: Sink>(kind: CellKind, indent: usize, output: &mut Output, sink: &mut O)
+    requires { indent ≤ 16 }
+    ensures { Puts (laid indent (Flat (with_part k.CellType (kind_form kind)))) (state O.taken O.accepts O.faults sink.old output.old) (state O.taken O.accepts O.faults sink.new output.new) }
+{
+    match kind {
+        CellKind::Generic => put_line(indent, b"(cellType GENERIC)", output, sink),
+        CellKind::Tie => put_line(indent, b"(cellType TIE)", output, sink),
+        CellKind::Ripper => put_line(indent, b"(cellType RIPPER)", output, sink),
+    }
+}
+
+impl OnLines for Cell {
+    ghost block = { cell_block };
+
+    ghost depth = { 10 };
+
+    fn lay<O: Sink>(&self, indent: usize, output: &mut Output, sink: &mut O) {
+        open_block(indent, b"(cell ", &self.name, output, sink);
+        lay_kind(self.kind, indent + 2, output, sink);
+        lay_each(self.items.items(), indent + 2, output, sink);
+        put_line(indent, b")", output, sink);
+    }
+}
