@@ -25,7 +25,7 @@ use Rattle.netlist_cli.specs.declared.status.Status.TheVariants as statuses
 use Rattle.netlist_cli.specs.Statuses.{failure_of, status_of}
 use Rattle.netlist_cli.specs.Lines.{line}
 use Rattle.netlist_cli.specs.Runs.{WritesFile, WroteFile, BrokeOff, HasFault, IsTooLong, IsTold, TakesFrom, TellsFault, FitsBytes, IsDecided, Formats, Performs}
-use Rattle.netlist_cli.proofs.Exclusive.{file_or_fault, file_or_cut, fault_or_cut}
+use Rattle.edif_library.proofs.AtMostOne.{file_or_fault, file_or_cut, fault_or_cut}
 
 -- the status of an answer
 abbrev pub ending : Result (Unit {0}) Failure → Status
