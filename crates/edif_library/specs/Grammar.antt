@@ -2,7 +2,7 @@
 -- external, technology, numberDefinition, scale, unit, design, edif). Each reads on after its keyword, up to the `)` of the form.
 use Rattle.std.specs.Prelude.{ℕ, Bool, true, false, List, [], ◌∷◌, codes, cond}
 use Rattle.std.specs.List.{list_any}
-use Rattle.grammar.specs.Part.{gives, sequence, under, ◌>>=◌}
+use Rattle.grammar.specs.Part.{gives, under, ◌>>=◌}
 use Rattle.edif_keywords.specs.declared.keyword.Keyword.{Keyword}
 use Rattle.edif_keywords.specs.declared.keyword.Keyword.TheVariants as k
 use Rattle.edif_keywords.specs.Keywords.{same_keyword}
@@ -11,7 +11,7 @@ use Rattle.edif_keywords.specs.Language.{Edif}
 use Rattle.edif_keywords.specs.Grammar.{word, closing, choice, view_type, begin, items, level, header}
 use Rattle.edif_names.specs.declared.name.NameDef.{NameDef}
 use Rattle.edif_names.specs.Grammar.{name, scaled, property}
-use Rattle.edif_status.specs.declared.status.Note.{Note}
+use Rattle.edif_status.specs.declared.note.Note.{Note}
 use Rattle.edif_status.specs.Grammar.{note, note_keywords, status}
 use Rattle.edif_nets.specs.Grammar.{designator, port, instance, net}
 use Rattle.edif_library.specs.declared.view.InterfaceItem.{InterfaceItem}
@@ -65,9 +65,13 @@ abbrev pub interface_item : Keyword → Edif InterfaceItem
 interface_item q =
     cond (same_keyword q k.Port) interface_port (cond (same_keyword q k.Property) interface_property (cond (same_keyword q k.Designator) interface_designator (interface_note q)))
 
+-- the keywords that may stand in an interface
+abbrev pub interface_keywords : List Keyword
+interface_keywords = k.Port ∷ k.Property ∷ k.Designator ∷ note_keywords
+
 -- {port | property | designator | note} ), after some
 unfoldable pub interface_rest : List InterfaceItem → Edif (List InterfaceItem)
-interface_rest = items (λ _. k.Port ∷ k.Property ∷ k.Designator ∷ note_keywords) interface_item
+interface_rest = items (λ _. interface_keywords) interface_item
 
 -- interface = ( interface {port | property | designator | note} )
 unfoldable pub interface : Edif (List InterfaceItem)
@@ -95,10 +99,14 @@ contents_note q = do
 abbrev pub contents_item : Keyword → Edif ContentsItem
 contents_item q = cond (same_keyword q k.Instance) contents_instance (cond (same_keyword q k.Net) contents_net (contents_note q))
 
+-- the keywords that may stand in contents
+abbrev pub contents_keywords : List Keyword
+contents_keywords = k.Instance ∷ k.Net ∷ note_keywords
+
 -- {instance | net | note} ), after some
 -- contents  = ( contents {instance | net | note} )
 unfoldable pub contents_rest : List ContentsItem → Edif (List ContentsItem)
-contents_rest = items (λ _. k.Instance ∷ k.Net ∷ note_keywords) contents_item
+contents_rest = items (λ _. contents_keywords) contents_item
 
 -- ---- views
 
@@ -140,7 +148,7 @@ unfoldable pub has_contents : List ViewItem → Bool
 has_contents is = list_any is_contents is
 
 -- the keywords that may stand in a view, which has contents already or not: at most one contents
-abbrev pub view_keywords : Bool → List Keyword
+unfoldable pub view_keywords : Bool → List Keyword
 view_keywords false = k.Contents ∷ k.Property ∷ k.Status ∷ note_keywords
 view_keywords true = k.Property ∷ k.Status ∷ note_keywords
 
@@ -216,7 +224,7 @@ unfoldable pub has_view : List CellItem → Bool
 has_view is = list_any is_view is
 
 -- the keywords that may stand in a cell, which has a view already or not: at most one view
-abbrev pub cell_keywords : Bool → List Keyword
+unfoldable pub cell_keywords : Bool → List Keyword
 cell_keywords false = k.View ∷ k.Property ∷ k.Status ∷ note_keywords
 cell_keywords true = k.Property ∷ k.Status ∷ note_keywords
 
@@ -259,11 +267,19 @@ scales_rest = items (λ _. k.Scale ∷ []) (λ _. scale)
 unfoldable pub notes_rest : List Note → Edif (List Note)
 notes_rest = items (λ _. note_keywords) note
 
--- ( numberDefinition {scale} ), after `( technology`
+-- ( numberDefinition {scale} )
 unfoldable pub number_definition : Edif (List Scale)
 number_definition = do
   _ ← begin (k.NumberDefinition ∷ [])
   scales_rest []
+
+-- ( technology ( numberDefinition {scale} ) {note} )
+unfoldable pub technology : Edif (List Scale × List Note)
+technology = do
+  _ ← begin (k.Technology ∷ [])
+  ss ← number_definition
+  ns ← notes_rest []
+  gives (ss, ns)
 
 -- a cell, a status or a note of a library
 unfoldable pub library_cell : Edif LibraryItem
@@ -285,9 +301,13 @@ library_note q = do
 abbrev pub library_item : Keyword → Edif LibraryItem
 library_item q = cond (same_keyword q k.Cell) library_cell (cond (same_keyword q k.Status) library_status (library_note q))
 
+-- the keywords that may stand in a library
+abbrev pub library_keywords : List Keyword
+library_keywords = k.Cell ∷ k.Status ∷ note_keywords
+
 -- {cell | status | note} ), after some
 unfoldable pub library_rest : List LibraryItem → Edif (List LibraryItem)
-library_rest = items (λ _. k.Cell ∷ k.Status ∷ note_keywords) library_item
+library_rest = items (λ _. library_keywords) library_item
 
 -- LIB       = NAME ( edifLevel 0 ) ( technology ( numberDefinition {scale} ) {note} ) {cell | status | note}
 -- library   = ( library LIB ) | ( external LIB )
@@ -295,11 +315,9 @@ unfoldable pub library : Bool → Edif Library
 library external = do
   n ← name
   _ ← level
-  _ ← begin (k.Technology ∷ [])
-  ss ← number_definition
-  ns ← notes_rest []
+  t ← technology
   is ← library_rest []
-  gives (record { external = external; name = n; scales = ss; notes = ns; items = is })
+  gives (record { external = external; name = n; scales = t.0; notes = t.1; items = is })
 
 -- ---- designs
 
@@ -310,6 +328,15 @@ library_ref = do
   w ← word
   _ ← closing
   gives w
+
+-- ( cellRef IDENT ( libraryRef IDENT ) )
+unfoldable pub cell_ref : Edif (List ℕ × List ℕ)
+cell_ref = do
+  _ ← begin (k.CellRef ∷ [])
+  c ← word
+  l ← library_ref
+  _ ← closing
+  gives (c, l)
 
 -- a property, a status or a note of a design
 unfoldable pub design_property : Edif DesignItem
@@ -331,20 +358,21 @@ design_note q = do
 abbrev pub design_item : Keyword → Edif DesignItem
 design_item q = cond (same_keyword q k.Property) design_property (cond (same_keyword q k.Status) design_status (design_note q))
 
+-- the keywords that may stand in a design
+abbrev pub design_keywords : List Keyword
+design_keywords = k.Property ∷ k.Status ∷ note_keywords
+
 -- {property | status | note} ), after some
 unfoldable pub design_rest : List DesignItem → Edif (List DesignItem)
-design_rest = items (λ _. k.Property ∷ k.Status ∷ note_keywords) design_item
+design_rest = items (λ _. design_keywords) design_item
 
 -- design    = ( design NAME ( cellRef IDENT ( libraryRef IDENT ) ) {property | status | note} )
 unfoldable pub design : Edif Design
 design = do
   n ← name
-  _ ← begin (k.CellRef ∷ [])
-  c ← word
-  l ← library_ref
-  _ ← closing
+  c ← cell_ref
   is ← design_rest []
-  gives (record { name = n; cell = c; library = l; items = is })
+  gives (record { name = n; cell = c.0; library = c.1; items = is })
 
 -- ---- the file
 
@@ -374,9 +402,13 @@ abbrev pub file_item : Keyword → Edif FileItem
 file_item q =
     cond (same_keyword q k.Library) (file_library false) (cond (same_keyword q k.External) (file_library true) (cond (same_keyword q k.Design) file_design (cond (same_keyword q k.Status) file_status (file_note q))))
 
+-- the keywords that may stand in a file
+abbrev pub file_keywords : List Keyword
+file_keywords = k.Library ∷ k.External ∷ k.Design ∷ k.Status ∷ note_keywords
+
 -- {fileItem} ), after some
 unfoldable pub file_rest : List FileItem → Edif (List FileItem)
-file_rest = items (λ _. k.Library ∷ k.External ∷ k.Design ∷ k.Status ∷ note_keywords) file_item
+file_rest = items (λ _. file_keywords) file_item
 
 -- what stands behind the header, under the aliases that it gives
 unfoldable pub file_body : NameDef → Edif EdifFile

@@ -1,2 +1,3 @@
 pub mod Grammar
+pub mod Sizes
 pub mod Text

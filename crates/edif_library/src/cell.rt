@@ -1,7 +1,18 @@
-use crate::view::View;
-use edif_names::{NameDef, Property};
-use edif_status::{Note, Status};
-use nl_base::Seq;
+ghost use Rattle.std.specs.Prelude.{◌≡◌, ◌||◌, [], ◌∷◌};
+ghost use Rattle.readers.specs.Sources.{supply};
+ghost use Rattle.readers.specs.Readers.{same, Reads};
+ghost use Rattle.edif_keywords.specs.Language.{edif};
+ghost use Rattle.edif_keywords.specs.Grammar.{item};
+ghost use Rattle.edif_library.specs.Grammar.{cell_view, cell_property, cell_status, cell_note, cell_item, is_view, cell_keywords, cell_rest, cell_type, cell};
+
+use crate::view::{View, read_view};
+use edif_keywords::keyword::same_keyword;
+use edif_keywords::{Cursor, Keyword};
+use edif_names::{NameDef, Property, read_name, read_property};
+use edif_status::{Note, Status, read_note, read_status};
+use nl_base::{ReadError, Seq};
+use nl_io::Source;
+use std::alloc::Global;
 
 /// The type of a cell. Ties and rippers mean what generic cells mean.
 #[derive(Clone, Copy, PartialEq, Eq)]
@@ -26,4 +37,179 @@ pub struct Cell {
     pub name: NameDef,
     pub kind: CellKind,
     pub items: Seq<CellItem>,
+}
+
+/// Reads on after the keyword `cell`.
+#[tactic(auto, using(readers::proofs::Reading::sequences), unfolding(crate::specs::Grammar::cell))]
+pub(crate) fn read_cell<S: Source>(
+    alloc: Global,
+    cursor: &mut Cursor,
+    source: &mut S,
+) -> Result<Cell, ReadError>
+    ensures { Reads edif same cell result cursor.old cursor.new (supply S.left S.faults source.old) (supply S.left S.faults source.new) }
+{
+    let name = read_name(alloc, cursor, source)?;
+    let kind = cell_type(alloc, cursor, source)?;
+    let items = cell_rest(alloc, cursor, source)?;
+    Ok(Cell { name, kind, items })
+}
+
+/// Reads a `cellType`.
+#[tactic(auto, using(readers::proofs::Reading::sequences), unfolding(crate::specs::Grammar::cell_type))]
+fn cell_type<S: Source>(
+    alloc: Global,
+    cursor: &mut Cursor,
+    source: &mut S,
+) -> Result<CellKind, ReadError>
+    ensures { Reads edif same cell_type result cursor.old cursor.new (supply S.left S.faults source.old) (supply S.left S.faults source.new) }
+{
+    cursor.begin(alloc, &[Keyword::CellType], source)?;
+    let kind = cursor.choose(
+        alloc,
+        &[
+            (b"GENERIC".as_slice(), CellKind::Generic),
+            (b"TIE".as_slice(), CellKind::Tie),
+            (b"RIPPER".as_slice(), CellKind::Ripper),
+        ],
+        source,
+    )?;
+    cursor.finish_form(alloc, source)?;
+    Ok(kind)
+}
+
+/// Reads the parts of a cell up to its `)`. A view may stand there once.
+#[tactic(auto, using(crate::proofs::Once::cell_loops), unfolding(crate::specs::Grammar::cell_rest))]
+fn cell_rest<S: Source>(
+    alloc: Global,
+    cursor: &mut Cursor,
+    source: &mut S,
+) -> Result<Seq<CellItem>, ReadError>
+    ensures { Reads edif same (cell_rest []) result cursor.old cursor.new (supply S.left S.faults source.old) (supply S.left S.faults source.new) }
+{
+    let mut items = Seq::empty(alloc);
+    let mut viewed = false;
+    while cursor.at_form(alloc, source)? {
+        let item = cell_item(alloc, cursor, viewed, source)?;
+        viewed = is_viewed(viewed, &item);
+        cursor.add(&mut items, item)?;
+    }
+    cursor.finish_form(alloc, source)?;
+    Ok(items)
+}
+
+/// Whether a view stands among the parts of a cell, after one more.
+fn is_viewed(so_far: bool, item: &CellItem) -> bool
+    ensures { result ≡ (so_far || is_view item.now) }
+{
+    match item {
+        CellItem::View(_) => true,
+        CellItem::Property(_) | CellItem::Status(_) | CellItem::Note(_) => so_far,
+    }
+}
+
+/// Reads a part of a cell, from its `(` on.
+#[tactic(auto, using(readers::proofs::Reading::sequences))]
+fn cell_item<S: Source>(
+    alloc: Global,
+    cursor: &mut Cursor,
+    viewed: bool,
+    source: &mut S,
+) -> Result<CellItem, ReadError>
+    ensures { Reads edif same (item (cell_keywords viewed) cell_item) result cursor.old cursor.new (supply S.left S.faults source.old) (supply S.left S.faults source.new) }
+{
+    let keyword = cursor.begin(alloc, cell_keywords(viewed), source)?;
+    cell_form(alloc, cursor, keyword, source)
+}
+
+/// The keywords that may stand in a cell, which has a view already or not.
+#[tactic(auto, unfolding(crate::specs::Grammar::cell_keywords))]
+fn cell_keywords(viewed: bool) -> &'static [Keyword]
+    ensures { result.now ≡ cell_keywords viewed }
+{
+    if viewed {
+        return &[
+            Keyword::Property,
+            Keyword::Status,
+            Keyword::Comment,
+            Keyword::UserData,
+        ];
+    }
+    &[
+        Keyword::View,
+        Keyword::Property,
+        Keyword::Status,
+        Keyword::Comment,
+        Keyword::UserData,
+    ]
+}
+
+/// Reads on after the keyword of a part of a cell.
+#[tactic(auto, using(readers::proofs::Reading::sequences))]
+fn cell_form<S: Source>(
+    alloc: Global,
+    cursor: &mut Cursor,
+    keyword: Keyword,
+    source: &mut S,
+) -> Result<CellItem, ReadError>
+    ensures { Reads edif same (cell_item keyword) result cursor.old cursor.new (supply S.left S.faults source.old) (supply S.left S.faults source.new) }
+{
+    if same_keyword(keyword, Keyword::View) {
+        return cell_view(alloc, cursor, source);
+    }
+    if same_keyword(keyword, Keyword::Property) {
+        return cell_property(alloc, cursor, source);
+    }
+    if same_keyword(keyword, Keyword::Status) {
+        return cell_status(alloc, cursor, source);
+    }
+    cell_note(alloc, cursor, keyword, source)
+}
+
+#[tactic(auto, using(readers::proofs::Reading::sequences), unfolding(crate::specs::Grammar::cell_view))]
+fn cell_view<S: Source>(
+    alloc: Global,
+    cursor: &mut Cursor,
+    source: &mut S,
+) -> Result<CellItem, ReadError>
+    ensures { Reads edif same cell_view result cursor.old cursor.new (supply S.left S.faults source.old) (supply S.left S.faults source.new) }
+{
+    let view = read_view(alloc, cursor, source)?;
+    Ok(CellItem::View(view))
+}
+
+#[tactic(auto, using(readers::proofs::Reading::sequences), unfolding(crate::specs::Grammar::cell_property))]
+fn cell_property<S: Source>(
+    alloc: Global,
+    cursor: &mut Cursor,
+    source: &mut S,
+) -> Result<CellItem, ReadError>
+    ensures { Reads edif same cell_property result cursor.old cursor.new (supply S.left S.faults source.old) (supply S.left S.faults source.new) }
+{
+    let property = read_property(alloc, cursor, source)?;
+    Ok(CellItem::Property(property))
+}
+
+#[tactic(auto, using(readers::proofs::Reading::sequences), unfolding(crate::specs::Grammar::cell_status))]
+fn cell_status<S: Source>(
+    alloc: Global,
+    cursor: &mut Cursor,
+    source: &mut S,
+) -> Result<CellItem, ReadError>
+    ensures { Reads edif same cell_status result cursor.old cursor.new (supply S.left S.faults source.old) (supply S.left S.faults source.new) }
+{
+    let status = read_status(alloc, cursor, source)?;
+    Ok(CellItem::Status(status))
+}
+
+#[tactic(auto, using(readers::proofs::Reading::sequences), unfolding(crate::specs::Grammar::cell_note))]
+fn cell_note<S: Source>(
+    alloc: Global,
+    cursor: &mut Cursor,
+    keyword: Keyword,
+    source: &mut S,
+) -> Result<CellItem, ReadError>
+    ensures { Reads edif same (cell_note keyword) result cursor.old cursor.new (supply S.left S.faults source.old) (supply S.left S.faults source.new) }
+{
+    let note = read_note(alloc, cursor, keyword, source)?;
+    Ok(CellItem::Note(note))
 }

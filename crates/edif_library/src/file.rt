@@ -1,7 +1,22 @@
-use crate::library::Library;
-use edif_names::{NameDef, Property};
-use edif_status::{Note, Status};
-use nl_base::{Ident, Seq};
+ghost use Rattle.std.specs.Prelude.{[], ◌∷◌};
+ghost use Rattle.readers.specs.Sources.{supply};
+ghost use Rattle.readers.specs.Readers.{same, Reads, ReadsWhole};
+ghost use Rattle.edif_keywords.specs.Language.{edif};
+ghost use Rattle.readers.specs.Texts.{ReadsText};
+ghost use Rattle.edif_keywords.specs.Reasons.{trailing};
+ghost use Rattle.edif_keywords.specs.Grammar.{item};
+ghost use Rattle.edif_library.specs.Grammar.{file_library, file_design, file_status, file_note, file_item, file_keywords, file_rest, file_body, file};
+
+use crate::design::read_design;
+use crate::library::{Library, read_library};
+use edif_keywords::keyword::same_keyword;
+use edif_keywords::{Cursor, Keyword};
+use edif_names::{NameDef, Property, read_name};
+use edif_status::{Note, Status, read_note, read_status};
+use edif_tokens::Tokens;
+use nl_base::{Ident, ReadError, Seq};
+use nl_io::Source;
+use std::alloc::Global;
 
 /// A part of a design behind its cell.
 #[derive(Drop)]
@@ -34,4 +49,167 @@ pub enum FileItem {
 pub struct EdifFile {
     pub name: NameDef,
     pub items: Seq<FileItem>,
+}
+
+/// Reads a text to its end as an EDIF file. The text has at most 268,435,456 bytes.
+///
+/// # Errors
+/// `Text`: the first fault, with its place, where its stop lies within so many bytes. `TooLong`: the text is longer, and it has no such
+/// fault. `ReadFault`: the source failed. `NoMemory`: memory ran out. It never answers `Spent`.
+pub fn read_edif<S: Source>(alloc: Global, source: &mut S) -> Result<EdifFile, ReadError>
+    ensures { ReadsText edif trailing [] same (file []) result (supply S.left S.faults source.old) (supply S.left S.faults source.new) }
+{
+    let Ok(tokens) = Tokens::new(alloc) else {
+        return Err(ReadError::NoMemory);
+    };
+    let mut cursor = Cursor::new(alloc, tokens);
+    let file = read_file(alloc, &mut cursor, source)?;
+    cursor.end_of_input(alloc, source)?;
+    Ok(file)
+}
+
+/// Reads a file, from its `(` to its `)`.
+#[tactic(auto, using(readers::proofs::Reading::sequences), unfolding(crate::specs::Grammar::file))]
+fn read_file<S: Source>(
+    alloc: Global,
+    cursor: &mut Cursor,
+    source: &mut S,
+) -> Result<EdifFile, ReadError>
+    ensures { ReadsWhole edif same (file cursor.old.context) result cursor.old cursor.new (supply S.left S.faults source.old) (supply S.left S.faults source.new) }
+{
+    cursor.begin(alloc, &[Keyword::Edif], source)?;
+    let name = read_name(alloc, cursor, source)?;
+    cursor.header(alloc, source)?;
+    file_body(alloc, cursor, name, source)
+}
+
+/// Reads on after the header of a file of this name.
+#[tactic(auto, using(readers::proofs::Reading::sequences), unfolding(crate::specs::Grammar::file_body))]
+fn file_body<S: Source>(
+    alloc: Global,
+    cursor: &mut Cursor,
+    name: NameDef,
+    source: &mut S,
+) -> Result<EdifFile, ReadError>
+    ensures { Reads edif same (file_body name) result cursor.old cursor.new (supply S.left S.faults source.old) (supply S.left S.faults source.new) }
+{
+    let items = file_rest(alloc, cursor, source)?;
+    Ok(EdifFile { name, items })
+}
+
+/// Reads the parts of a file up to its `)`.
+#[tactic(auto, using(edif_keywords::proofs::Forms::item_loops), unfolding(crate::specs::Grammar::file_rest))]
+fn file_rest<S: Source>(
+    alloc: Global,
+    cursor: &mut Cursor,
+    source: &mut S,
+) -> Result<Seq<FileItem>, ReadError>
+    ensures { Reads edif same (file_rest []) result cursor.old cursor.new (supply S.left S.faults source.old) (supply S.left S.faults source.new) }
+{
+    let mut items = Seq::empty(alloc);
+    while cursor.at_form(alloc, source)? {
+        let item = file_item(alloc, cursor, source)?;
+        cursor.add(&mut items, item)?;
+    }
+    cursor.finish_form(alloc, source)?;
+    Ok(items)
+}
+
+/// Reads a part of a file, from its `(` on.
+#[tactic(auto, using(readers::proofs::Reading::sequences))]
+fn file_item<S: Source>(
+    alloc: Global,
+    cursor: &mut Cursor,
+    source: &mut S,
+) -> Result<FileItem, ReadError>
+    ensures { Reads edif same (item file_keywords file_item) result cursor.old cursor.new (supply S.left S.faults source.old) (supply S.left S.faults source.new) }
+{
+    let keyword = cursor.begin(
+        alloc,
+        &[
+            Keyword::Library,
+            Keyword::External,
+            Keyword::Design,
+            Keyword::Status,
+            Keyword::Comment,
+            Keyword::UserData,
+        ],
+        source,
+    )?;
+    file_form(alloc, cursor, keyword, source)
+}
+
+/// Reads on after the keyword of a part of a file.
+#[tactic(auto, using(readers::proofs::Reading::sequences))]
+fn file_form<S: Source>(
+    alloc: Global,
+    cursor: &mut Cursor,
+    keyword: Keyword,
+    source: &mut S,
+) -> Result<FileItem, ReadError>
+    ensures { Reads edif same (file_item keyword) result cursor.old cursor.new (supply S.left S.faults source.old) (supply S.left S.faults source.new) }
+{
+    if same_keyword(keyword, Keyword::Library) {
+        return file_library(alloc, cursor, false, source);
+    }
+    if same_keyword(keyword, Keyword::External) {
+        return file_library(alloc, cursor, true, source);
+    }
+    if same_keyword(keyword, Keyword::Design) {
+        return file_design(alloc, cursor, source);
+    }
+    if same_keyword(keyword, Keyword::Status) {
+        return file_status(alloc, cursor, source);
+    }
+    file_note(alloc, cursor, keyword, source)
+}
+
+#[tactic(auto, using(readers::proofs::Reading::sequences), unfolding(crate::specs::Grammar::file_library))]
+fn file_library<S: Source>(
+    alloc: Global,
+    cursor: &mut Cursor,
+    external: bool,
+    source: &mut S,
+) -> Result<FileItem, ReadError>
+    ensures { Reads edif same (file_library external) result cursor.old cursor.new (supply S.left S.faults source.old) (supply S.left S.faults source.new) }
+{
+    let library = read_library(alloc, cursor, external, source)?;
+    Ok(FileItem::Library(library))
+}
+
+#[tactic(auto, using(readers::proofs::Reading::sequences), unfolding(crate::specs::Grammar::file_design))]
+fn file_design<S: Source>(
+    alloc: Global,
+    cursor: &mut Cursor,
+    source: &mut S,
+) -> Result<FileItem, ReadError>
+    ensures { Reads edif same file_design result cursor.old cursor.new (supply S.left S.faults source.old) (supply S.left S.faults source.new) }
+{
+    let design = read_design(alloc, cursor, source)?;
+    Ok(FileItem::Design(design))
+}
+
+#[tactic(auto, using(readers::proofs::Reading::sequences), unfolding(crate::specs::Grammar::file_status))]
+fn file_status<S: Source>(
+    alloc: Global,
+    cursor: &mut Cursor,
+    source: &mut S,
+) -> Result<FileItem, ReadError>
+    ensures { Reads edif same file_status result cursor.old cursor.new (supply S.left S.faults source.old) (supply S.left S.faults source.new) }
+{
+    let status = read_status(alloc, cursor, source)?;
+    Ok(FileItem::Status(status))
+}
+
+#[tactic(auto, using(readers::proofs::Reading::sequences), unfolding(crate::specs::Grammar::file_note))]
+fn file_note<S: Source>(
+    alloc: Global,
+    cursor: &mut Cursor,
+    keyword: Keyword,
+    source: &mut S,
+) -> Result<FileItem, ReadError>
+    ensures { Reads edif same (file_note keyword) result cursor.old cursor.new (supply S.left S.faults source.old) (supply S.left S.faults source.new) }
+{
+    let note = read_note(alloc, cursor, keyword, source)?;
+    Ok(FileItem::Note(note))
 }

@@ -1,12 +1,28 @@
-// Libraries, cells and the file.
+// Views, cells, libraries, designs and the files of EDIF 2 0 0 (ANSI/EIA-548-1988).
+//
+// The public contract in plain words: `read_edif` answers a file only where all the bytes of the source, up to its end, read as that file
+// by the grammar in `specs/Grammar.antt`; a text fault only where the bytes have that first fault, with its place and its reason; and
+// `TooLong` only where more bytes are given than are looked at and no first fault lies within those. A source that fails and want of
+// memory aside, it answers nothing else, and at a fault at most 4,096 bytes past its stop were taken. `laws` has it that these are three
+// cases: a text reads as at most one file, has at most one first fault, and never both. `edif_size` counts the items of all lists.
 #![tactic(auto)]
 
 pub mod cell;
+mod contents;
+mod design;
 pub mod file;
+mod interface;
+pub mod laws;
 pub mod library;
+pub mod size;
+mod technology;
 pub mod view;
 
 pub use cell::{Cell, CellItem, CellKind};
-pub use file::{Design, DesignItem, EdifFile, FileItem};
+pub use file::{Design, DesignItem, EdifFile, FileItem, read_edif};
 pub use library::{Library, LibraryItem, Scale};
+pub use size::edif_size;
 pub use view::{ContentsItem, InterfaceItem, View, ViewItem};
+
+#[cfg(test)]
+mod tests;

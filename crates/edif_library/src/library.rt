@@ -1,7 +1,19 @@
-use crate::cell::Cell;
-use edif_names::NameDef;
-use edif_status::{Note, Status};
-use nl_base::{Ident, Scaled, Seq};
+ghost use Rattle.std.specs.Prelude.{[], ◌∷◌};
+ghost use Rattle.readers.specs.Sources.{supply};
+ghost use Rattle.readers.specs.Readers.{same, Reads};
+ghost use Rattle.edif_keywords.specs.Language.{edif};
+ghost use Rattle.edif_keywords.specs.Grammar.{item};
+ghost use Rattle.edif_library.specs.Grammar.{library_cell, library_status, library_note, library_item, library_keywords, library_rest, library};
+
+use crate::cell::{Cell, read_cell};
+use crate::technology::read_technology;
+use edif_keywords::keyword::same_keyword;
+use edif_keywords::{Cursor, Keyword};
+use edif_names::{NameDef, read_name};
+use edif_status::{Note, Status, read_note, read_status};
+use nl_base::{Ident, ReadError, Scaled, Seq};
+use nl_io::Source;
+use std::alloc::Global;
 
 /// What one number of a kind of unit is worth (EDIF 2 0 0, scale).
 #[derive(Drop)]
@@ -27,4 +39,123 @@ pub struct Library {
     pub scales: Seq<Scale>,
     pub notes: Seq<Note>,
     pub items: Seq<LibraryItem>,
+}
+
+/// Reads on after the keyword `library`, or `external`.
+#[tactic(auto, using(readers::proofs::Reading::sequences), unfolding(crate::specs::Grammar::library))]
+pub(crate) fn read_library<S: Source>(
+    alloc: Global,
+    cursor: &mut Cursor,
+    external: bool,
+    source: &mut S,
+) -> Result<Library, ReadError>
+    ensures { Reads edif same (library external) result cursor.old cursor.new (supply S.left S.faults source.old) (supply S.left S.faults source.new) }
+{
+    let name = read_name(alloc, cursor, source)?;
+    cursor.level(alloc, source)?;
+    let (scales, notes) = read_technology(alloc, cursor, source)?;
+    let items = library_rest(alloc, cursor, source)?;
+    Ok(Library {
+        external,
+        name,
+        scales,
+        notes,
+        items,
+    })
+}
+
+/// Reads the cells, status and notes of a library up to its `)`.
+#[tactic(auto, using(edif_keywords::proofs::Forms::item_loops), unfolding(crate::specs::Grammar::library_rest))]
+fn library_rest<S: Source>(
+    alloc: Global,
+    cursor: &mut Cursor,
+    source: &mut S,
+) -> Result<Seq<LibraryItem>, ReadError>
+    ensures { Reads edif same (library_rest []) result cursor.old cursor.new (supply S.left S.faults source.old) (supply S.left S.faults source.new) }
+{
+    let mut items = Seq::empty(alloc);
+    while cursor.at_form(alloc, source)? {
+        let item = library_item(alloc, cursor, source)?;
+        cursor.add(&mut items, item)?;
+    }
+    cursor.finish_form(alloc, source)?;
+    Ok(items)
+}
+
+/// Reads a part of a library, from its `(` on.
+#[tactic(auto, using(readers::proofs::Reading::sequences))]
+fn library_item<S: Source>(
+    alloc: Global,
+    cursor: &mut Cursor,
+    source: &mut S,
+) -> Result<LibraryItem, ReadError>
+    ensures { Reads edif same (item library_keywords library_item) result cursor.old cursor.new (supply S.left S.faults source.old) (supply S.left S.faults source.new) }
+{
+    let keyword = cursor.begin(
+        alloc,
+        &[
+            Keyword::Cell,
+            Keyword::Status,
+            Keyword::Comment,
+            Keyword::UserData,
+        ],
+        source,
+    )?;
+    library_form(alloc, cursor, keyword, source)
+}
+
+/// Reads on after the keyword of a part of a library.
+#[tactic(auto, using(readers::proofs::Reading::sequences))]
+fn library_form<S: Source>(
+    alloc: Global,
+    cursor: &mut Cursor,
+    keyword: Keyword,
+    source: &mut S,
+) -> Result<LibraryItem, ReadError>
+    ensures { Reads edif same (library_item keyword) result cursor.old cursor.new (supply S.left S.faults source.old) (supply S.left S.faults source.new) }
+{
+    if same_keyword(keyword, Keyword::Cell) {
+        return library_cell(alloc, cursor, source);
+    }
+    if same_keyword(keyword, Keyword::Status) {
+        return library_status(alloc, cursor, source);
+    }
+    library_note(alloc, cursor, keyword, source)
+}
+
+#[tactic(auto, using(readers::proofs::Reading::sequences), unfolding(crate::specs::Grammar::library_cell))]
+fn library_cell<S: Source>(
+    alloc: Global,
+    cursor: &mut Cursor,
+    source: &mut S,
+) -> Result<LibraryItem, ReadError>
+    ensures { Reads edif same library_cell result cursor.old cursor.new (supply S.left S.faults source.old) (supply S.left S.faults source.new) }
+{
+    let cell = read_cell(alloc, cursor, source)?;
+    Ok(LibraryItem::Cell(cell))
+}
+
+#[tactic(auto, using(readers::proofs::Reading::sequences), unfolding(crate::specs::Grammar::library_status))]
+fn library_status<S: Source>(
+    alloc: Global,
+    cursor: &mut Cursor,
+    source: &mut S,
+) -> Result<LibraryItem, ReadError>
+    ensures { Reads edif same library_status result cursor.old cursor.new (supply S.left S.faults source.old) (supply S.left S.faults source.new) }
+{
+    let status = read_status(alloc, cursor, source)?;
+    Ok(LibraryItem::Status(status))
+}
+
+#[tactic(auto, using(readers::proofs::Reading::sequences), unfolding(crate::specs::Grammar::library_note))]
+fn library_note<S: Source>(
+    alloc: Global,
+    cursor: &mut Cursor,
+    keyword: Keyword,
+    source: &mut S,
+) -> Result<LibraryItem, ReadError>
+    ensures { Reads edif same (library_note keyword) result cursor.old cursor.new (supply S.left S.faults source.old) (supply S.left S.faults source.new) }
+{
+    let note = read_note(alloc, cursor, keyword, source)?;
+    Ok(LibraryItem::Note(note))
 }

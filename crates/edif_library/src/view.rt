@@ -1,7 +1,20 @@
-use edif_names::{NameDef, Property};
+ghost use Rattle.std.specs.Prelude.{◌≡◌, ◌||◌, [], ◌∷◌};
+ghost use Rattle.readers.specs.Sources.{supply};
+ghost use Rattle.readers.specs.Readers.{same, Reads};
+ghost use Rattle.edif_keywords.specs.Language.{edif};
+ghost use Rattle.edif_keywords.specs.Grammar.{item};
+ghost use Rattle.edif_library.specs.Grammar.{view_contents, view_property, view_status, view_note, view_item, is_contents, view_keywords, view_rest, netlist, view};
+
+use crate::contents::read_contents;
+use crate::interface::read_interface;
+use edif_keywords::keyword::same_keyword;
+use edif_keywords::{Cursor, Keyword};
+use edif_names::{NameDef, Property, read_name, read_property};
 use edif_nets::{Instance, Net, Port};
-use edif_status::{Note, Status};
-use nl_base::{Seq, Text};
+use edif_status::{Note, Status, read_note, read_status};
+use nl_base::{ReadError, Seq, Text};
+use nl_io::Source;
+use std::alloc::Global;
 
 /// A part of an interface.
 #[derive(Drop)]
@@ -35,4 +48,171 @@ pub struct View {
     pub name: NameDef,
     pub interface: Seq<InterfaceItem>,
     pub items: Seq<ViewItem>,
+}
+
+/// Reads on after the keyword `view`.
+#[tactic(auto, using(readers::proofs::Reading::sequences), unfolding(crate::specs::Grammar::view))]
+pub(crate) fn read_view<S: Source>(
+    alloc: Global,
+    cursor: &mut Cursor,
+    source: &mut S,
+) -> Result<View, ReadError>
+    ensures { Reads edif same view result cursor.old cursor.new (supply S.left S.faults source.old) (supply S.left S.faults source.new) }
+{
+    let name = read_name(alloc, cursor, source)?;
+    netlist(alloc, cursor, source)?;
+    let interface = read_interface(alloc, cursor, source)?;
+    let items = view_rest(alloc, cursor, source)?;
+    Ok(View {
+        name,
+        interface,
+        items,
+    })
+}
+
+/// Reads `viewType`, which is NETLIST.
+#[tactic(auto, using(readers::proofs::Reading::sequences), unfolding(crate::specs::Grammar::netlist))]
+fn netlist<S: Source>(alloc: Global, cursor: &mut Cursor, source: &mut S) -> Result<(), ReadError>
+    ensures { Reads edif same netlist result cursor.old cursor.new (supply S.left S.faults source.old) (supply S.left S.faults source.new) }
+{
+    cursor.begin(alloc, &[Keyword::ViewType], source)?;
+    cursor.view_type(alloc, source)?;
+    cursor.finish_form(alloc, source)
+}
+
+/// Reads the parts of a view up to its `)`. Contents may stand there once.
+#[tactic(auto, using(crate::proofs::Once::view_loops), unfolding(crate::specs::Grammar::view_rest))]
+fn view_rest<S: Source>(
+    alloc: Global,
+    cursor: &mut Cursor,
+    source: &mut S,
+) -> Result<Seq<ViewItem>, ReadError>
+    ensures { Reads edif same (view_rest []) result cursor.old cursor.new (supply S.left S.faults source.old) (supply S.left S.faults source.new) }
+{
+    let mut items = Seq::empty(alloc);
+    let mut filled = false;
+    while cursor.at_form(alloc, source)? {
+        let item = view_item(alloc, cursor, filled, source)?;
+        filled = is_filled(filled, &item);
+        cursor.add(&mut items, item)?;
+    }
+    cursor.finish_form(alloc, source)?;
+    Ok(items)
+}
+
+/// Whether contents stand among the parts of a view, after one more.
+fn is_filled(so_far: bool, item: &ViewItem) -> bool
+    ensures { result ≡ (so_far || is_contents item.now) }
+{
+    match item {
+        ViewItem::Contents(_) => true,
+        ViewItem::Property(_) | ViewItem::Status(_) | ViewItem::Note(_) => so_far,
+    }
+}
+
+/// Reads a part of a view, from its `(` on.
+#[tactic(auto, using(readers::proofs::Reading::sequences))]
+fn view_item<S: Source>(
+    alloc: Global,
+    cursor: &mut Cursor,
+    filled: bool,
+    source: &mut S,
+) -> Result<ViewItem, ReadError>
+    ensures { Reads edif same (item (view_keywords filled) view_item) result cursor.old cursor.new (supply S.left S.faults source.old) (supply S.left S.faults source.new) }
+{
+    let keyword = cursor.begin(alloc, view_keywords(filled), source)?;
+    view_form(alloc, cursor, keyword, source)
+}
+
+/// The keywords that may stand in a view, which has contents already or not.
+#[tactic(auto, unfolding(crate::specs::Grammar::view_keywords))]
+fn view_keywords(filled: bool) -> &'static [Keyword]
+    ensures { result.now ≡ view_keywords filled }
+{
+    if filled {
+        return &[
+            Keyword::Property,
+            Keyword::Status,
+            Keyword::Comment,
+            Keyword::UserData,
+        ];
+    }
+    &[
+        Keyword::Contents,
+        Keyword::Property,
+        Keyword::Status,
+        Keyword::Comment,
+        Keyword::UserData,
+    ]
+}
+
+/// Reads on after the keyword of a part of a view.
+#[tactic(auto, using(readers::proofs::Reading::sequences))]
+fn view_form<S: Source>(
+    alloc: Global,
+    cursor: &mut Cursor,
+    keyword: Keyword,
+    source: &mut S,
+) -> Result<ViewItem, ReadError>
+    ensures { Reads edif same (view_item keyword) result cursor.old cursor.new (supply S.left S.faults source.old) (supply S.left S.faults source.new) }
+{
+    if same_keyword(keyword, Keyword::Contents) {
+        return view_contents(alloc, cursor, source);
+    }
+    if same_keyword(keyword, Keyword::Property) {
+        return view_property(alloc, cursor, source);
+    }
+    if same_keyword(keyword, Keyword::Status) {
+        return view_status(alloc, cursor, source);
+    }
+    view_note(alloc, cursor, keyword, source)
+}
+
+#[tactic(auto, using(readers::proofs::Reading::sequences), unfolding(crate::specs::Grammar::view_contents))]
+fn view_contents<S: Source>(
+    alloc: Global,
+    cursor: &mut Cursor,
+    source: &mut S,
+) -> Result<ViewItem, ReadError>
+    ensures { Reads edif same view_contents result cursor.old cursor.new (supply S.left S.faults source.old) (supply S.left S.faults source.new) }
+{
+    let items = read_contents(alloc, cursor, source)?;
+    Ok(ViewItem::Contents(items))
+}
+
+#[tactic(auto, using(readers::proofs::Reading::sequences), unfolding(crate::specs::Grammar::view_property))]
+fn view_property<S: Source>(
+    alloc: Global,
+    cursor: &mut Cursor,
+    source: &mut S,
+) -> Result<ViewItem, ReadError>
+    ensures { Reads edif same view_property result cursor.old cursor.new (supply S.left S.faults source.old) (supply S.left S.faults source.new) }
+{
+    let property = read_property(alloc, cursor, source)?;
+    Ok(ViewItem::Property(property))
+}
+
+#[tactic(auto, using(readers::proofs::Reading::sequences), unfolding(crate::specs::Grammar::view_status))]
+fn view_status<S: Source>(
+    alloc: Global,
+    cursor: &mut Cursor,
+    source: &mut S,
+) -> Result<ViewItem, ReadError>
+    ensures { Reads edif same view_status result cursor.old cursor.new (supply S.left S.faults source.old) (supply S.left S.faults source.new) }
+{
+    let status = read_status(alloc, cursor, source)?;
+    Ok(ViewItem::Status(status))
+}
+
+#[tactic(auto, using(readers::proofs::Reading::sequences), unfolding(crate::specs::Grammar::view_note))]
+fn view_note<S: Source>(
+    alloc: Global,
+    cursor: &mut Cursor,
+    keyword: Keyword,
+    source: &mut S,
+) -> Result<ViewItem, ReadError>
+    ensures { Reads edif same (view_note keyword) result cursor.old cursor.new (supply S.left S.faults source.old) (supply S.left S.faults source.new) }
+{
+    let note = read_note(alloc, cursor, keyword, source)?;
+    Ok(ViewItem::Note(note))
 }

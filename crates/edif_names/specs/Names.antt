@@ -1,6 +1,6 @@
 -- The original names of objects and of ports (EDIF 2 0 0, rename and array).
-use Rattle.std.specs.Prelude.{ℕ, ◌≤◌, List, Option, Some, None, ℤ, pos, negsuc, ◌-ℤ◌, ⊤}
-use Rattle.nl_base.specs.Ranges.{Bounds}
+use Rattle.std.specs.Prelude.{◌≡◌, ℕ, ◌≤◌, ◌⊎◌, List, Option, Some, None, ℤ, pos, negsuc, ◌-ℤ◌, ⊤}
+use Rattle.nl_base.specs.Ranges.{Bounds, HasRangeForm, HasNoRangeForm}
 use Rattle.nl_base.specs.RangeForm.{range_form}
 use Rattle.edif_names.specs.declared.name.NameDef.{NameDef}
 use Rattle.edif_names.specs.declared.name.PortName.{PortName}
@@ -28,6 +28,11 @@ named_array text size (Some form) = form
 -- the original name and the range of an array of this text and size; member 0 has the left index
 abbrev pub array_name : List ℕ → ℤ → List ℕ × Bounds
 array_name text size = named_array text size (sized_form text size)
+
+-- The base and the range are those of an array of this text and this many bits: of the range form, where the text has it; else the
+-- whole text, and the range SIZE-1:0.
+abbrev pub NamesArray : List ℕ → ℕ → List ℕ → Bounds → Type 0
+NamesArray text size base range = HasRangeForm text size base range ⊎ (HasNoRangeForm text size × (base ≡ text) × (range ≡ record { left = pos size -ℤ pos 1; right = pos 0 }))
 
 -- the original name of a port, and its range where it is an array
 abbrev pub port_original : PortName → List ℕ × Option Bounds

@@ -1,0 +1,112 @@
+// The reader of contents.
+ghost use Rattle.std.specs.Prelude.{[], ◌∷◌};
+ghost use Rattle.readers.specs.Sources.{supply};
+ghost use Rattle.readers.specs.Readers.{same, Reads};
+ghost use Rattle.edif_keywords.specs.Language.{edif};
+ghost use Rattle.edif_keywords.specs.Grammar.{item};
+ghost use Rattle.edif_library.specs.Grammar.{contents_instance, contents_net, contents_note, contents_item, contents_keywords, contents_rest};
+
+use crate::view::ContentsItem;
+use edif_keywords::keyword::same_keyword;
+use edif_keywords::{Cursor, Keyword};
+use edif_nets::{read_instance, read_net};
+use edif_status::read_note;
+use nl_base::{ReadError, Seq};
+use nl_io::Source;
+use std::alloc::Global;
+
+/// Reads on after the keyword `contents`, up to its `)` (EDIF 2 0 0, contents).
+#[tactic(auto, using(edif_keywords::proofs::Forms::item_loops), unfolding(crate::specs::Grammar::contents_rest))]
+pub(crate) fn read_contents<S: Source>(
+    alloc: Global,
+    cursor: &mut Cursor,
+    source: &mut S,
+) -> Result<Seq<ContentsItem>, ReadError>
+    ensures { Reads edif same (contents_rest []) result cursor.old cursor.new (supply S.left S.faults source.old) (supply S.left S.faults source.new) }
+{
+    let mut items = Seq::empty(alloc);
+    while cursor.at_form(alloc, source)? {
+        let item = contents_item(alloc, cursor, source)?;
+        cursor.add(&mut items, item)?;
+    }
+    cursor.finish_form(alloc, source)?;
+    Ok(items)
+}
+
+/// Reads a part of contents, from its `(` on.
+#[tactic(auto, using(readers::proofs::Reading::sequences))]
+fn contents_item<S: Source>(
+    alloc: Global,
+    cursor: &mut Cursor,
+    source: &mut S,
+) -> Result<ContentsItem, ReadError>
+    ensures { Reads edif same (item contents_keywords contents_item) result cursor.old cursor.new (supply S.left S.faults source.old) (supply S.left S.faults source.new) }
+{
+    let keyword = cursor.begin(
+        alloc,
+        &[
+            Keyword::Instance,
+            Keyword::Net,
+            Keyword::Comment,
+            Keyword::UserData,
+        ],
+        source,
+    )?;
+    contents_form(alloc, cursor, keyword, source)
+}
+
+/// Reads on after the keyword of a part of contents.
+#[tactic(auto, using(readers::proofs::Reading::sequences))]
+fn contents_form<S: Source>(
+    alloc: Global,
+    cursor: &mut Cursor,
+    keyword: Keyword,
+    source: &mut S,
+) -> Result<ContentsItem, ReadError>
+    ensures { Reads edif same (contents_item keyword) result cursor.old cursor.new (supply S.left S.faults source.old) (supply S.left S.faults source.new) }
+{
+    if same_keyword(keyword, Keyword::Instance) {
+        return contents_instance(alloc, cursor, source);
+    }
+    if same_keyword(keyword, Keyword::Net) {
+        return contents_net(alloc, cursor, source);
+    }
+    contents_note(alloc, cursor, keyword, source)
+}
+
+#[tactic(auto, using(readers::proofs::Reading::sequences), unfolding(crate::specs::Grammar::contents_instance))]
+fn contents_instance<S: Source>(
+    alloc: Global,
+    cursor: &mut Cursor,
+    source: &mut S,
+) -> Result<ContentsItem, ReadError>
+    ensures { Reads edif same contents_instance result cursor.old cursor.new (supply S.left S.faults source.old) (supply S.left S.faults source.new) }
+{
+    let instance = read_instance(alloc, cursor, source)?;
+    Ok(ContentsItem::Instance(instance))
+}
+
+#[tactic(auto, using(readers::proofs::Reading::sequences), unfolding(crate::specs::Grammar::contents_net))]
+fn contents_net<S: Source>(
+    alloc: Global,
+    cursor: &mut Cursor,
+    source: &mut S,
+) -> Result<ContentsItem, ReadError>
+    ensures { Reads edif same contents_net result cursor.old cursor.new (supply S.left S.faults source.old) (supply S.left S.faults source.new) }
+{
+    let net = read_net(alloc, cursor, source)?;
+    Ok(ContentsItem::Net(net))
+}
+
+#[tactic(auto, using(readers::proofs::Reading::sequences), unfolding(crate::specs::Grammar::contents_note))]
+fn contents_note<S: Source>(
+    alloc: Global,
+    cursor: &mut Cursor,
+    keyword: Keyword,
+    source: &mut S,
+) -> Result<ContentsItem, ReadError>
+    ensures { Reads edif same (contents_note keyword) result cursor.old cursor.new (supply S.left S.faults source.old) (supply S.left S.faults source.new) }
+{
+    let note = read_note(alloc, cursor, keyword, source)?;
+    Ok(ContentsItem::Note(note))
+}

@@ -1,0 +1,142 @@
+// The readers of interfaces and of contents.
+ghost use Rattle.std.specs.Prelude.{[], ◌∷◌};
+ghost use Rattle.readers.specs.Sources.{supply};
+ghost use Rattle.readers.specs.Readers.{same, Reads};
+ghost use Rattle.edif_keywords.specs.Language.{edif};
+ghost use Rattle.edif_keywords.specs.Grammar.{item};
+ghost use Rattle.edif_library.specs.Grammar.{interface_port, interface_property, interface_designator, interface_note, interface_item, interface_keywords, interface_rest, interface};
+
+use crate::view::InterfaceItem;
+use edif_keywords::keyword::same_keyword;
+use edif_keywords::{Cursor, Keyword};
+use edif_names::read_property;
+use edif_nets::{read_designator, read_port};
+use edif_status::read_note;
+use nl_base::{ReadError, Seq};
+use nl_io::Source;
+use std::alloc::Global;
+
+/// Reads an interface, from its `(` on (EDIF 2 0 0, interface).
+#[tactic(auto, using(readers::proofs::Reading::sequences), unfolding(crate::specs::Grammar::interface))]
+pub(crate) fn read_interface<S: Source>(
+    alloc: Global,
+    cursor: &mut Cursor,
+    source: &mut S,
+) -> Result<Seq<InterfaceItem>, ReadError>
+    ensures { Reads edif same interface result cursor.old cursor.new (supply S.left S.faults source.old) (supply S.left S.faults source.new) }
+{
+    cursor.begin(alloc, &[Keyword::Interface], source)?;
+    interface_rest(alloc, cursor, source)
+}
+
+/// Reads the parts of an interface up to its `)`.
+#[tactic(auto, using(edif_keywords::proofs::Forms::item_loops), unfolding(crate::specs::Grammar::interface_rest))]
+fn interface_rest<S: Source>(
+    alloc: Global,
+    cursor: &mut Cursor,
+    source: &mut S,
+) -> Result<Seq<InterfaceItem>, ReadError>
+    ensures { Reads edif same (interface_rest []) result cursor.old cursor.new (supply S.left S.faults source.old) (supply S.left S.faults source.new) }
+{
+    let mut items = Seq::empty(alloc);
+    while cursor.at_form(alloc, source)? {
+        let item = interface_item(alloc, cursor, source)?;
+        cursor.add(&mut items, item)?;
+    }
+    cursor.finish_form(alloc, source)?;
+    Ok(items)
+}
+
+/// Reads a part of an interface, from its `(` on.
+#[tactic(auto, using(readers::proofs::Reading::sequences))]
+fn interface_item<S: Source>(
+    alloc: Global,
+    cursor: &mut Cursor,
+    source: &mut S,
+) -> Result<InterfaceItem, ReadError>
+    ensures { Reads edif same (item interface_keywords interface_item) result cursor.old cursor.new (supply S.left S.faults source.old) (supply S.left S.faults source.new) }
+{
+    let keyword = cursor.begin(
+        alloc,
+        &[
+            Keyword::Port,
+            Keyword::Property,
+            Keyword::Designator,
+            Keyword::Comment,
+            Keyword::UserData,
+        ],
+        source,
+    )?;
+    interface_form(alloc, cursor, keyword, source)
+}
+
+/// Reads on after the keyword of a part of an interface.
+#[tactic(auto, using(readers::proofs::Reading::sequences))]
+fn interface_form<S: Source>(
+    alloc: Global,
+    cursor: &mut Cursor,
+    keyword: Keyword,
+    source: &mut S,
+) -> Result<InterfaceItem, ReadError>
+    ensures { Reads edif same (interface_item keyword) result cursor.old cursor.new (supply S.left S.faults source.old) (supply S.left S.faults source.new) }
+{
+    if same_keyword(keyword, Keyword::Port) {
+        return interface_port(alloc, cursor, source);
+    }
+    if same_keyword(keyword, Keyword::Property) {
+        return interface_property(alloc, cursor, source);
+    }
+    if same_keyword(keyword, Keyword::Designator) {
+        return interface_designator(alloc, cursor, source);
+    }
+    interface_note(alloc, cursor, keyword, source)
+}
+
+#[tactic(auto, using(readers::proofs::Reading::sequences), unfolding(crate::specs::Grammar::interface_port))]
+fn interface_port<S: Source>(
+    alloc: Global,
+    cursor: &mut Cursor,
+    source: &mut S,
+) -> Result<InterfaceItem, ReadError>
+    ensures { Reads edif same interface_port result cursor.old cursor.new (supply S.left S.faults source.old) (supply S.left S.faults source.new) }
+{
+    let port = read_port(alloc, cursor, source)?;
+    Ok(InterfaceItem::Port(port))
+}
+
+#[tactic(auto, using(readers::proofs::Reading::sequences), unfolding(crate::specs::Grammar::interface_property))]
+fn interface_property<S: Source>(
+    alloc: Global,
+    cursor: &mut Cursor,
+    source: &mut S,
+) -> Result<InterfaceItem, ReadError>
+    ensures { Reads edif same interface_property result cursor.old cursor.new (supply S.left S.faults source.old) (supply S.left S.faults source.new) }
+{
+    let property = read_property(alloc, cursor, source)?;
+    Ok(InterfaceItem::Property(property))
+}
+
+#[tactic(auto, using(readers::proofs::Reading::sequences), unfolding(crate::specs::Grammar::interface_designator))]
+fn interface_designator<S: Source>(
+    alloc: Global,
+    cursor: &mut Cursor,
+    source: &mut S,
+) -> Result<InterfaceItem, ReadError>
+    ensures { Reads edif same interface_designator result cursor.old cursor.new (supply S.left S.faults source.old) (supply S.left S.faults source.new) }
+{
+    let text = read_designator(alloc, cursor, source)?;
+    Ok(InterfaceItem::Designator(text))
+}
+
+#[tactic(auto, using(readers::proofs::Reading::sequences), unfolding(crate::specs::Grammar::interface_note))]
+fn interface_note<S: Source>(
+    alloc: Global,
+    cursor: &mut Cursor,
+    keyword: Keyword,
+    source: &mut S,
+) -> Result<InterfaceItem, ReadError>
+    ensures { Reads edif same (interface_note keyword) result cursor.old cursor.new (supply S.left S.faults source.old) (supply S.left S.faults source.new) }
+{
+    let note = read_note(alloc, cursor, keyword, source)?;
+    Ok(InterfaceItem::Note(note))
+}
