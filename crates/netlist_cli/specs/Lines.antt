@@ -1,0 +1,38 @@
+-- The line that is written on errors for a failure. Each text is given with what follows it.
+use Rattle.std.specs.Prelude.{ℕ, List, [], ◌++◌, Option, Some, None, codes}
+use Rattle.std.specs.Fmt.{decimal}
+use Rattle.nl_base.specs.Faults.{reason_name, reason_word}
+use Rattle.nl_base.specs.declared.fault.Reason.{Reason}
+use Rattle.nl_base.specs.declared.fault.TextFault.{TextFault}
+use Rattle.netlist_cli.specs.declared.failure.Failure.{Failure}
+use Rattle.netlist_cli.specs.declared.failure.Failure.TheVariants as failures
+
+-- a blank and the word, where there is one
+abbrev pub word_then : Option (List ℕ) → List ℕ → List ℕ
+word_then None rest = rest
+word_then (Some word) rest = codes " " ++ (word ++ rest)
+
+-- REASON, or REASON WORD
+unfoldable pub reason_then : Reason → List ℕ → List ℕ
+reason_then reason rest = reason_name reason ++ word_then (reason_word reason) rest
+
+-- fault LINE:COLUMN REASON, or fault LINE:COLUMN REASON WORD
+unfoldable pub fault_then : TextFault → List ℕ → List ℕ
+fault_then f rest = codes "fault " ++ (decimal f.place.line ++ (codes ":" ++ (decimal f.place.column ++ (codes " " ++ reason_then f.reason rest))))
+
+-- the forms of all commands
+unfoldable pub usage : List ℕ
+usage = codes "usage: netlist format or vformat or check [--top NAME] or report [--top NAME] [--zero CELL.PORT] [--one CELL.PORT] or to-verilog {--parameter NAME} or to-edif --top NAME [--zero CELL.PORT] [--one CELL.PORT] or generate SEED CELLS or lint [--top NAME] [--zero CELL.PORT] [--one CELL.PORT] or flatten [--top NAME] [--zero CELL.PORT] [--one CELL.PORT] or to-spice [--top NAME]"
+
+-- what is told of a failure
+unfoldable pub message_then : Failure → List ℕ → List ℕ
+message_then (failures.Text f) rest = fault_then f rest
+message_then failures.ReadFault rest = codes "read fault" ++ rest
+message_then failures.WriteFault rest = codes "write fault" ++ rest
+message_then failures.Usage rest = usage ++ rest
+message_then failures.NoMemory rest = codes "no memory" ++ rest
+message_then failures.InputLimit rest = codes "limit input" ++ rest
+
+-- the line, with its line feed
+unfoldable pub line : Failure → List ℕ
+line f = message_then f (codes "\n")

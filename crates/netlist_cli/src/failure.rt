@@ -1,0 +1,53 @@
+ghost use Rattle.std.specs.Prelude.{◌≡◌, ◌≢◌};
+ghost use Rattle.netlist_cli.specs.Statuses.{failure_of, status_of};
+ghost use Rattle.nl_base.specs.declared.fault.ReadError.TheVariants as errors;
+
+use crate::status::Status;
+use nl_base::{ReadError, TextFault};
+
+/// Why a run does not end with its work done.
+#[derive(Drop)]
+pub enum Failure {
+    /// The input has this first fault.
+    Text(TextFault),
+    /// The input failed.
+    ReadFault,
+    /// The output failed.
+    WriteFault,
+    /// The words are no command.
+    Usage,
+    /// Memory ran out.
+    NoMemory,
+    /// The input is longer than is read.
+    InputLimit,
+}
+
+impl Failure {
+    /// The failure that an error of a reader of whole texts is.
+    pub fn of_read_error(error: ReadError) -> Failure
+        requires { error ≢ errors.Spent }
+        ensures { result ≡ failure_of error }
+    {
+        match error {
+            ReadError::Text(fault) => Failure::Text(fault),
+            ReadError::ReadFault => Failure::ReadFault,
+            ReadError::TooLong => Failure::InputLimit,
+            ReadError::NoMemory => Failure::NoMemory,
+            ReadError::Spent => unreachable!(),
+        }
+    }
+
+    /// The status with which a run that fails so ends.
+    pub fn status(&self) -> Status
+        ensures { result ≡ status_of self.now }
+    {
+        match self {
+            Failure::Text(_) => Status::TextFault,
+            Failure::ReadFault => Status::ReadFault,
+            Failure::WriteFault => Status::WriteFault,
+            Failure::Usage => Status::Usage,
+            Failure::NoMemory => Status::NoMemory,
+            Failure::InputLimit => Status::Limit,
+        }
+    }
+}

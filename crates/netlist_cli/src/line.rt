@@ -1,0 +1,72 @@
+ghost use Rattle.std.specs.Prelude.{◌≡◌, ◌++◌};
+ghost use Rattle.nl_output.specs.Writing.{state, Puts, Writes};
+ghost use Rattle.netlist_cli.specs.Lines.{fault_then, line, message_then, reason_then, word_then};
+ghost use Rattle.netlist_cli.specs.Runs.{IsTold};
+ghost use Rattle.netlist_cli.specs.Statuses.{status_of};
+
+use crate::failure::Failure;
+use crate::status::Status;
+use nl_base::{Reason, TextFault};
+use nl_io::{Failed, Sink};
+use nl_output::Output;
+
+/// The forms of all commands, those that are still to come among them.
+const USAGE: &[u8] =
+    b"usage: netlist format or vformat or check [--top NAME] or report [--top NAME] [--zero CELL.PORT] [--one CELL.PORT] or to-verilog {--parameter NAME} or to-edif --top NAME [--zero CELL.PORT] [--one CELL.PORT] or generate SEED CELLS or lint [--top NAME] [--zero CELL.PORT] [--one CELL.PORT] or flatten [--top NAME] [--zero CELL.PORT] [--one CELL.PORT] or to-spice [--top NAME]";
+
+/// Puts a reason by its name, and behind a blank the word that it carries.
+fn put_reason<E: Sink>(reason: &Reason, output: &mut Output, errors: &mut E)
+    ensures { Puts (reason_then reason.now) (state E.taken E.accepts E.faults errors.old output.old) (state E.taken E.accepts E.faults errors.new output.new) }
+{
+    output.put(reason.name(), errors);
+    if let Some(word) = reason.word() {
+        output.put(b" ", errors);
+        output.put(word, errors);
+    }
+}
+
+/// Puts a fault of the text with its place.
+fn put_fault<E: Sink>(fault: &TextFault, output: &mut Output, errors: &mut E)
+    ensures { Puts (fault_then fault.now) (state E.taken E.accepts E.faults errors.old output.old) (state E.taken E.accepts E.faults errors.new output.new) }
+{
+    output.put(b"fault ", errors);
+    output.put_u64(fault.place.line, errors);
+    output.put(b":", errors);
+    output.put_u64(fault.place.column, errors);
+    output.put(b" ", errors);
+    put_reason(&fault.reason, output, errors);
+}
+
+/// Puts what is told of a failure.
+fn put_message<E: Sink>(failure: &Failure, output: &mut Output, errors: &mut E)
+    ensures { Puts (message_then failure.now) (state E.taken E.accepts E.faults errors.old output.old) (state E.taken E.accepts E.faults errors.new output.new) }
+{
+    match failure {
+        Failure::Text(fault) => put_fault(fault, output, errors),
+        Failure::ReadFault => output.put(b"read fault", errors),
+        Failure::WriteFault => output.put(b"write fault", errors),
+        Failure::Usage => output.put(USAGE, errors),
+        Failure::NoMemory => output.put(b"no memory", errors),
+        Failure::InputLimit => output.put(b"limit input", errors),
+    }
+}
+
+/// Puts the line of a failure.
+fn put_line<E: Sink>(failure: &Failure, errors: &mut E) -> Result<(), Failed>
+    ensures { Writes E.taken E.accepts E.faults errors.old errors.new (line failure.now) result }
+{
+    let mut output = Output::new();
+    put_message(failure, &mut output, errors);
+    output.put(b"\n", errors);
+    let result = output.finish(errors);
+    result
+}
+
+/// Tells a failure by its line on `errors`, and answers its status, which does not depend on how the writing went.
+pub fn report<E: Sink>(failure: &Failure, errors: &mut E) -> Status
+    ensures status { result ≡ status_of failure.now }
+    ensures told { IsTold E.taken E.accepts E.faults errors.old errors.new (line failure.now) }
+{
+    let _said = put_line(failure, errors);
+    failure.status()
+}

@@ -1,0 +1,63 @@
+// The program `netlist`.
+//
+// `netlist format` reads an EDIF 2 0 0 text from the standard input and writes the same file in the project's own layout to the standard
+// output. What it does is `run`, over any source and sinks: it reads the input to its end or to its first fault, and writes nothing
+// before the whole text is read. Its contract says for each status when it comes and what was written then:
+//
+// 0 done: the input is the text of a file, and that file's written text was put. 1 text fault: the input has this first fault, and the
+// line `fault LINE:COLUMN REASON` tells it. 3 read fault and 4 write fault: the input or the output failed. 5 usage: the words are no
+// command, and nothing is read. 6 no memory: it may come at any time before the first byte is written. 7 limit: the input is longer than
+// 268,435,456 bytes and has no fault within them. Status 2 belongs to commands that resolve references and never comes here.
+#![tactic(auto)]
+
+pub mod command;
+pub mod failure;
+pub mod line;
+pub mod run;
+pub mod status;
+
+use crate::failure::Failure;
+use crate::line::report;
+use crate::run::run;
+use nl_base::{Seq, Text};
+use nl_io::{StdSink, StdSource};
+use std::alloc::Global;
+use std::env;
+use std::io::ErrorKind;
+use std::process::ExitCode;
+use std::rt::Env;
+
+#[cfg(test)]
+mod tests;
+
+/// The words behind the program's name. A word that is not UTF-8 is no word of a command.
+fn words(rt: &(impl Env + AllocGlobal)) -> Result<Seq<Text>, Failure> {
+    let mut words = Seq::empty(rt.alloc());
+    let given = match env::args(rt) {
+        Ok(given) => given,
+        Err(error) if error.kind() == ErrorKind::OutOfMemory => return Err(Failure::NoMemory),
+        Err(_) => return Err(Failure::Usage),
+    };
+    for word in given.skip(1) {
+        let text = match Text::copy(rt.alloc(), word.as_bytes()) {
+            Ok(text) => text,
+            Err(_) => return Err(Failure::NoMemory),
+        };
+        match words.push(text) {
+            Ok(()) => {}
+            Err(_) => return Err(Failure::NoMemory),
+        }
+    }
+    Ok(words)
+}
+
+fn main(rt: HostRuntime) -> ExitCode {
+    let mut input = StdSource::new(rt.stdin());
+    let mut output = StdSink::new(rt.stdout());
+    let mut errors = StdSink::new(rt.stderr());
+    let status = match words(&rt) {
+        Ok(words) => run(rt.alloc(), &words, &mut input, &mut output, &mut errors),
+        Err(failure) => report(&failure, &mut errors),
+    };
+    ExitCode::from(status.number())
+}

@@ -1,0 +1,231 @@
+use crate::run::run;
+use crate::status::Status;
+use nl_base::{Seq, Text};
+use nl_io::{MemSink, MemSource};
+use std::alloc::Global;
+use std::test::Fail;
+
+/// A file of one cell, by keywords in small letters, in capitals and in both.
+const SMALL: &[u8] =
+    b"(edif a(edifversion 2 0 0)(EDIFLEVEL 0)(keywordMap(keywordLevel 0))(library w(edifLevel 0)(technology(numberDefinition))(cell c(cellType GENERIC)(view v(viewType NETLIST)(interface))))(design a(cellRef c(libraryRef w))))";
+
+/// The same file as it is written.
+const WRITTEN: &[u8] =
+    b"(edif a\n  (edifVersion 2 0 0)\n  (edifLevel 0)\n  (keywordMap (keywordLevel 0))\n  (library w\n    (edifLevel 0)\n    (technology (numberDefinition))\n    (cell c\n      (cellType GENERIC)\n      (view v\n        (viewType NETLIST)\n        (interface\n        )\n      )\n    )\n  )\n  (design a (cellRef c (libraryRef w)))\n)\n";
+
+const USAGE: &[u8] =
+    b"usage: netlist format or vformat or check [--top NAME] or report [--top NAME] [--zero CELL.PORT] [--one CELL.PORT] or to-verilog {--parameter NAME} or to-edif --top NAME [--zero CELL.PORT] [--one CELL.PORT] or generate SEED CELLS or lint [--top NAME] [--zero CELL.PORT] [--one CELL.PORT] or flatten [--top NAME] [--zero CELL.PORT] [--one CELL.PORT] or to-spice [--top NAME]\n";
+
+/// What a run is given: a word, a text in one piece or byte by byte, the number of a take that fails, the room of the output, and whether
+/// the first put to errors fails.
+#[derive(Clone, Copy)]
+struct Given<'a> {
+    word: &'a [u8],
+    text: &'a [u8],
+    whole: bool,
+    failing_take: u64,
+    room: usize,
+    errors_fail: bool,
+}
+
+/// What a run is to give: the status, what output and errors took, and how many bytes the input gave.
+#[derive(Clone, Copy)]
+struct Wanted<'a> {
+    status: u8,
+    output: &'a [u8],
+    errors: &'a [u8],
+    taken: u64,
+}
+
+/// `format` on a text in one piece, with room enough and no failure.
+fn format_of(text: &[u8]) -> Given<'_> {
+    Given {
+        word: b"format",
+        text,
+        whole: true,
+        failing_take: 0,
+        room: 2000,
+        errors_fail: false,
+    }
+}
+
+/// Pieces of one byte each.
+fn bytes_of(alloc: Global, text: &[u8]) -> Result<Vec<Vec<u8>>, Fail> {
+    let mut pieces = Vec::new(alloc);
+    for byte in text {
+        pieces.push(vec![in alloc; *byte; 1]?)?;
+    }
+    Ok(pieces)
+}
+
+fn pieces_of(alloc: Global, given: &Given<'_>) -> Result<Vec<Vec<u8>>, Fail> {
+    if given.whole {
+        return Ok(vec![in alloc; Vec::from_slice(alloc, given.text)?]?);
+    }
+    bytes_of(alloc, given.text)
+}
+
+fn source_of(alloc: Global, given: &Given<'_>) -> Result<MemSource, Fail> {
+    let fails = vec![in alloc; given.failing_take]?;
+    Ok(MemSource::new(pieces_of(alloc, given)?, fails))
+}
+
+fn words_of(alloc: Global, word: &[u8]) -> Result<Seq<Text>, Fail> {
+    if word.is_empty() {
+        return Ok(Seq::empty(alloc));
+    }
+    let text = Text::of(Vec::from_slice(alloc, word)?);
+    Ok(Seq::of(vec![in alloc; text]?))
+}
+
+/// A sink of this room, whose put of this number fails.
+fn sink_of(alloc: Global, room: usize, failing_put: u64) -> Result<MemSink, Fail> {
+    let fails = vec![in alloc; failing_put]?;
+    Ok(MemSink::new(vec![in alloc; 0; room]?, fails))
+}
+
+fn ends_over(
+    alloc: Global,
+    given: &Given<'_>,
+    words: &Seq<Text>,
+    input: &mut MemSource,
+    output: &mut MemSink,
+    wanted: &Wanted<'_>,
+) -> Result<bool, Fail> {
+    let mut errors = sink_of(alloc, 1000, given.errors_fail as u64)?;
+    let status = run(alloc, words, input, output, &mut errors).number();
+    Ok(
+        status == wanted.status
+            && output.taken() == wanted.output
+            && errors.taken() == wanted.errors
+            && input.given() == wanted.taken,
+    )
+}
+
+fn ends_from(
+    alloc: Global,
+    given: &Given<'_>,
+    words: &Seq<Text>,
+    wanted: &Wanted<'_>,
+) -> Result<bool, Fail> {
+    let mut input = source_of(alloc, given)?;
+    let mut output = sink_of(alloc, given.room, 0)?;
+    ends_over(alloc, given, words, &mut input, &mut output, wanted)
+}
+
+/// Whether a run gives what is wanted.
+fn ends_so(alloc: Global, given: &Given<'_>, wanted: &Wanted<'_>) -> Result<bool, Fail> {
+    let words = words_of(alloc, given.word)?;
+    ends_from(alloc, given, &words, wanted)
+}
+
+/// Whether `format` on the text ends with a text fault told by this line. The text is taken whole.
+fn is_refused(alloc: Global, text: &[u8], line: &[u8]) -> Result<bool, Fail> {
+    let wanted = Wanted {
+        status: 1,
+        output: b"",
+        errors: line,
+        taken: text.len() as u64,
+    };
+    ends_so(alloc, &format_of(text), &wanted)
+}
+
+#[test]
+fn file_is_written(rt: HostRuntime) -> Result<(), Fail> {
+    for text in [SMALL, WRITTEN] {
+        for whole in [true, false] {
+            let given = Given {
+                whole,
+                ..format_of(text)
+            };
+            let wanted = Wanted {
+                status: 0,
+                output: WRITTEN,
+                errors: b"",
+                taken: text.len() as u64,
+            };
+            assert_eq!(rt; ends_so(rt.alloc(), &given, &wanted)?, true);
+        }
+    }
+    Ok(())
+}
+
+#[test]
+fn fault_is_told(rt: HostRuntime) -> Result<(), Fail> {
+    for (text, line) in [
+        (b"".as_slice(), b"fault 1:1 EndOfInput\n".as_slice()),
+        (b"(edi", b"fault 1:2 UnknownWord edi\n"),
+        (b"(edif blinker", b"fault 1:14 EndOfInput\n"),
+        (
+            b"(edif a(edifVersion 2 0 0)(edifLevel 0)(keywordMap(keywordLevel 2)(keywordDefine x)))",
+            b"fault 1:65 KeywordLevel\n",
+        ),
+        (b"(edif a(edifVersion 2 1 0)", b"fault 1:23 Version\n"),
+        (
+            b"(edif a\n(edifVersion 2 0 0)(edifLevel 0)(keywordMap(keywordLevel 0))(netBundle",
+            b"fault 2:62 NotInProfile netBundle\n",
+        ),
+    ] {
+        assert_eq!(rt; is_refused(rt.alloc(), text, line)?, true);
+    }
+    Ok(())
+}
+
+#[test]
+fn failing_ends(rt: HostRuntime) -> Result<(), Fail> {
+    let given = Given {
+        whole: false,
+        failing_take: 3,
+        ..format_of(SMALL)
+    };
+    let wanted = Wanted {
+        status: 3,
+        output: b"",
+        errors: b"read fault\n",
+        taken: 2,
+    };
+    assert_eq!(rt; ends_so(rt.alloc(), &given, &wanted)?, true);
+    let given = Given {
+        room: 10,
+        ..format_of(SMALL)
+    };
+    let (front, _) = WRITTEN.split_at(10);
+    let wanted = Wanted {
+        status: 4,
+        output: front,
+        errors: b"write fault\n",
+        taken: SMALL.len() as u64,
+    };
+    assert_eq!(rt; ends_so(rt.alloc(), &given, &wanted)?, true);
+    let given = Given {
+        errors_fail: true,
+        ..format_of(b"")
+    };
+    let wanted = Wanted {
+        status: 1,
+        output: b"",
+        errors: b"",
+        taken: 0,
+    };
+    assert_eq!(rt; ends_so(rt.alloc(), &given, &wanted)?, true);
+    Ok(())
+}
+
+#[test]
+fn other_words_are_usage(rt: HostRuntime) -> Result<(), Fail> {
+    for word in [b"".as_slice(), b"to-edif", b"Format"] {
+        let given = Given {
+            word,
+            ..format_of(SMALL)
+        };
+        let wanted = Wanted {
+            status: 5,
+            output: b"",
+            errors: USAGE,
+            taken: 0,
+        };
+        assert_eq!(rt; ends_so(rt.alloc(), &given, &wanted)?, true);
+    }
+    assert_eq!(rt; Status::Refused.number(), 2);
+    Ok(())
+}
