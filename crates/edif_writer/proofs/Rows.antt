@@ -7,8 +7,8 @@ use Rattle.nl_base.specs.declared.value.PropValue.TheVariants as prop
 use Rattle.edif_names.specs.declared.name.NameDef.{NameDef}
 use Rattle.edif_names.specs.declared.name.PortName.TheVariants as port_name
 use Rattle.edif_names.specs.declared.property.PropTail.TheVariants as prop_tail
-use Rattle.edif_status.specs.declared.status.Stamp.{Stamp}
-use Rattle.edif_status.specs.declared.status.WrittenItem.TheVariants as written_item
+use Rattle.edif_status.specs.declared.written.Stamp.{Stamp}
+use Rattle.edif_status.specs.declared.written.WrittenItem.TheVariants as written_item
 use Rattle.edif_status.specs.declared.status.StatusItem.TheVariants as status_item
 use Rattle.edif_status.specs.declared.status.Status.{Status}
 use Rattle.edif_nets.specs.declared.port.PortItem.TheVariants as port_item

@@ -17,12 +17,12 @@ use Rattle.edif_status.specs.declared.user.UserTree.{UserTree}
 use Rattle.edif_status.specs.declared.user.UserTree.TheFolds.{fold-UserTree}
 use Rattle.edif_status.specs.declared.user.UserTree.TheOpen.{UserTree-F}
 use Rattle.edif_status.specs.declared.user.UserData.{UserData}
-use Rattle.edif_status.specs.declared.status.Note.{Note}
-use Rattle.edif_status.specs.declared.status.Note.TheVariants as noted
-use Rattle.edif_status.specs.declared.status.Stamp.{Stamp}
-use Rattle.edif_status.specs.declared.status.WrittenItem.{WrittenItem}
-use Rattle.edif_status.specs.declared.status.WrittenItem.TheVariants as written_item
-use Rattle.edif_status.specs.declared.status.Written.{Written}
+use Rattle.edif_status.specs.declared.note.Note.{Note}
+use Rattle.edif_status.specs.declared.note.Note.TheVariants as noted
+use Rattle.edif_status.specs.declared.written.Stamp.{Stamp}
+use Rattle.edif_status.specs.declared.written.WrittenItem.{WrittenItem}
+use Rattle.edif_status.specs.declared.written.WrittenItem.TheVariants as written_item
+use Rattle.edif_status.specs.declared.written.Written.{Written}
 use Rattle.edif_status.specs.declared.status.StatusItem.{StatusItem}
 use Rattle.edif_status.specs.declared.status.StatusItem.TheVariants as status_item
 use Rattle.edif_status.specs.declared.status.Status.{Status}
