@@ -1,0 +1,10 @@
+pub mod Keywords
+pub mod Numbers
+pub mod Parts
+pub mod Scanning
+pub mod Reading
+pub mod Strings
+pub mod Marks
+pub mod Within
+pub mod Streams
+pub mod Readers

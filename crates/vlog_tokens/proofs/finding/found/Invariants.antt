@@ -1,0 +1,13 @@
+use Rattle.std.proofs.Common.{◌-◌, ◌+◌, ◌≤◌}
+use Rattle.nl_bytes.specs.declared.bytes.TheConstants.{LIMIT}
+use Rattle.vlog_tokens.specs.Finding.{Passes}
+use Rattle.vlog_tokens.proofs.finding.found.Given as goal
+
+abbrev pub invariant-items : goal.invariant-items
+invariant-items g l = record {
+  passes : Passes l.fn.bytes l.bytes (g.S.Source.left l.fn.source) (g.S.Source.left l.source);
+  count : g.S.Source.faults l.fn.source ≤ g.S.Source.faults l.source;
+}
+
+abbrev pub decreases-items : goal.decreases-items
+decreases-items g l = LIMIT + 1 - l.bytes.place.offset

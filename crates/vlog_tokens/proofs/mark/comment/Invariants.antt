@@ -1,0 +1,15 @@
+use Rattle.std.proofs.Common.{◌-◌, ◌+◌, ◌≤◌, false, Ok}
+use Rattle.nl_base.specs.declared.place.Place.{Place}
+use Rattle.nl_bytes.specs.declared.bytes.TheConstants.{LIMIT}
+use Rattle.vlog_tokens.specs.Parts.{Part}
+use Rattle.vlog_tokens.specs.Spelling.{comment_at}
+use Rattle.vlog_tokens.proofs.mark.comment.Given as goal
+
+abbrev pub invariant-comment : goal.invariant-comment
+invariant-comment g l = record {
+  part : (p : Place) → Part {X = Unit {0}} (comment_at false) (λ _. comment_at false) p l.fn.bytes l.bytes (g.S.Source.left l.fn.source) (g.S.Source.left l.source) (Ok tt);
+  count : g.S.Source.faults l.fn.source ≤ g.S.Source.faults l.source;
+}
+
+abbrev pub decreases-comment : goal.decreases-comment
+decreases-comment g l = LIMIT + 1 - l.bytes.place.offset

@@ -1,0 +1,14 @@
+use Rattle.std.proofs.Common.{◌-◌, ◌+◌, ◌≤◌, Ok}
+use Rattle.nl_bytes.specs.declared.bytes.TheConstants.{LIMIT}
+use Rattle.vlog_tokens.specs.Parts.{Part}
+use Rattle.vlog_tokens.specs.Strings.{Parts, string_at}
+use Rattle.vlog_tokens.proofs.string.parts.Given as goal
+
+abbrev pub invariant-parts : goal.invariant-parts
+invariant-parts g l = record {
+  part : Part {X = Unit {0}} (string_at Parts l.fn.value.items) (λ _. string_at Parts l.value.items) l.place l.fn.bytes l.bytes (g.S.Source.left l.fn.source) (g.S.Source.left l.source) (Ok tt);
+  count : g.S.Source.faults l.fn.source ≤ g.S.Source.faults l.source;
+}
+
+abbrev pub decreases-parts : goal.decreases-parts
+decreases-parts g l = LIMIT + 1 - l.bytes.place.offset

@@ -1,0 +1,11 @@
+pub mod Flaws
+pub mod Phases
+pub mod Keywords
+pub mod Numbers
+pub mod Scanning
+pub mod Items
+pub mod Strings
+pub mod Spelling
+pub mod Parts
+pub mod Language
+pub mod Finding

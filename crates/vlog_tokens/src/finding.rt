@@ -1,0 +1,109 @@
+ghost use Rattle.std.specs.Prelude.{◌≡◌, ◌+◌, ◌<◌, ◌≤◌, ◌∷◌, ℕ, List, Option, IfOk, OnOk, IsErrOf};
+ghost use Rattle.nl_io.specs.Causes.{Rose};
+ghost use Rattle.nl_base.specs.Faults.{OnText};
+ghost use Rattle.vlog_tokens.specs.Parts.{Reads};
+ghost use Rattle.vlog_tokens.specs.Spelling.{item_by, start_of};
+ghost use Rattle.vlog_tokens.specs.Finding.{Finds, Passed, found_or_late};
+
+use crate::item::{Item, Spot};
+use crate::lexeme::lexeme;
+use crate::mark::{Twin, mark, pair, slash};
+use crate::scan::refuse;
+use crate::start::{Start, start_of};
+use crate::string::string;
+use crate::token::{VFound, VToken};
+use nl_base::{Place, ReadError, Reason};
+use nl_bytes::bytes::LIMIT;
+use nl_bytes::{Bytes, Class, Halt};
+use nl_io::Source;
+use std::alloc::Global;
+
+/// Reads what begins with the byte ahead.
+fn item<S: Source>(
+    bytes: &mut Bytes,
+    alloc: Global,
+    byte: u8,
+    source: &mut S,
+) -> Result<Spot, ReadError>
+    requires ahead { (tail : List ℕ) × (bytes.old.held ≡ byte ∷ tail) }
+    requires within { bytes.old.place.offset ≤ LIMIT }
+    ensures reads { Reads (item_by (start_of byte) byte) bytes.old bytes.new (S.left source.old) (S.left source.new) result }
+    ensures count { S.faults source.old ≤ S.faults source.new }
+    ensures cause { IsErrOf result ReadError.ReadFault → Rose (S.faults source.old) (S.faults source.new) }
+    ensures never_spent { IsErrOf result ReadError.Spent → ⊥ }
+    ensures bounded { OnText result (λ t. bytes.new.place.offset ≤ t.stop) }
+    ensures ended { IfOk result (λ x. bytes.new.place.offset ≤ x.stop) }
+{
+    match start_of(byte) {
+        Start::White => Ok(mark(bytes, Item::Blank, source)),
+        Start::Lexeme(begins) => lexeme(bytes, alloc, begins, byte, source),
+        Start::Quote => string(bytes, alloc, source),
+        Start::Open => pair(bytes, Twin::Open, source),
+        Start::Star => pair(bytes, Twin::Star, source),
+        Start::Slash => slash(bytes, source),
+        Start::Mark => Ok(mark(bytes, Item::Token(VToken::Punct(byte)), source)),
+        Start::Sign => Ok(mark(bytes, Item::Token(VToken::Symbol(byte)), source)),
+        Start::Other => {
+            let place = bytes.place();
+            Err(refuse(place, place.offset + 1, Reason::BadByte))
+        }
+    }
+}
+
+/// The token of an item, or nothing where it is white space, of which the rest is used.
+fn token_of<S: Source>(
+    bytes: &mut Bytes,
+    item: Item,
+    source: &mut S,
+) -> Result<Option<VToken>, Halt>
+    ensures passed { Passed item bytes.old bytes.new (S.left source.old) (S.left source.new) result }
+    ensures count { S.faults source.old ≤ S.faults source.new }
+    ensures cause { IsErrOf result Halt.Failed → Rose (S.faults source.old) (S.faults source.new) }
+{
+    match item {
+        Item::Blank => Ok(None),
+        Item::Line => {
+            let _next = bytes.skip(Class::LineByte, source)?;
+            Ok(None)
+        }
+        Item::Token(token) => Ok(Some(token)),
+    }
+}
+
+/// A token whose stop is within the limit of an input.
+fn found_or_late(place: Place, stop: u64, token: VToken) -> Result<Option<VFound>, ReadError>
+    ensures { result ≡ found_or_late place stop token }
+{
+    if LIMIT < stop {
+        return Err(ReadError::TooLong);
+    }
+    Ok(Some(VFound { place, stop, token }))
+}
+
+/// Reads the next token.
+pub fn found<S: Source>(
+    bytes: &mut Bytes,
+    alloc: Global,
+    source: &mut S,
+) -> Result<Option<VFound>, ReadError>
+    ensures finds { Finds bytes.old bytes.new (S.left source.old) (S.left source.new) result }
+    ensures never_spent { IsErrOf result ReadError.Spent → ⊥ }
+    ensures bounded { OnText result (λ t. bytes.new.place.offset ≤ t.stop) }
+    ensures count { S.faults source.old ≤ S.faults source.new }
+    ensures cause { IsErrOf result ReadError.ReadFault → Rose (S.faults source.old) (S.faults source.new) }
+{
+    'items: loop {
+        let next = bytes.skip(Class::VerilogSpace, source)?;
+        let Some(byte) = next else {
+            return Ok(None);
+        };
+        let place = bytes.place();
+        let spot = item(bytes, alloc, byte, source)?;
+        let stop = spot.stop;
+        let token = token_of(bytes, spot.item, source)?;
+        if let Some(token) = token {
+            let found = found_or_late(place, stop, token)?;
+            return Ok(found);
+        }
+    }
+}

@@ -1,0 +1,106 @@
+ghost use Rattle.std.specs.Prelude.{◌≡◌, ◌-◌, ◌<◌, ◌≤◌};
+ghost use Rattle.std.specs.List.{list_any};
+ghost use Rattle.nl_base.specs.Case.{same_bytes};
+ghost use Rattle.vlog_tokens.specs.Keywords.{is_keyword, is_small, bound, part, start_at, word, words_from};
+
+/// The keywords in the order of the alphabet, one directly after another.
+static TEXT: [u8; 776] = *b"\
+    alwaysandassignautomaticbeginbufbufif0bufif1casecasexcasezcellcmosconfigdeassign\
+    defaultdefparamdesigndisableedgeelseendendcaseendconfigendfunctionendgenerateendmodule\
+    endprimitiveendspecifyendtableendtaskeventforforceforeverforkfunctiongenerategenvar\
+    highz0highz1ififnoneincdirincludeinitialinoutinputinstanceintegerjoinlargeliblist\
+    librarylocalparammacromodulemediummodulenandnegedgenmosnornoshowcancellednotnotif0\
+    notif1oroutputparameterpmosposedgeprimitivepull0pull1pulldownpulluppulsestyle_ondetect\
+    pulsestyle_oneventrcmosrealrealtimeregreleaserepeatrnmosrpmosrtranrtranif0rtranif1\
+    scalaredshowcancelledsignedsmallspecifyspecparamstrong0strong1supply0supply1tabletask\
+    timetrantranif0tranif1tritri0tri1triandtriortriregunsigneduseuwirevectoredwaitwand\
+    weak0weak1whilewireworxnorxor";
+
+/// Where each keyword begins in `TEXT`; it ends where the next begins.
+static BOUNDS: [u16; 125] = [
+    0, 6, 9, 15, 24, 29, 32, 38, 44, 48, 53, 58, 62, 66, 72, 80, 87, 95, 101, 108, 112, 116, 119,
+    126, 135, 146, 157, 166, 178, 188, 196, 203, 208, 211, 216, 223, 227, 235, 243, 249, 255, 261,
+    263, 269, 275, 282, 289, 294, 299, 307, 314, 318, 323, 330, 337, 347, 358, 364, 370, 374, 381,
+    385, 388, 403, 406, 412, 418, 420, 426, 435, 439, 446, 455, 460, 465, 473, 479, 498, 516, 521,
+    525, 533, 536, 543, 549, 554, 559, 564, 572, 580, 588, 601, 607, 612, 619, 628, 635, 642, 649,
+    656, 661, 665, 669, 673, 680, 687, 690, 694, 698, 704, 709, 715, 723, 726, 731, 739, 743, 747,
+    752, 757, 762, 766, 769, 773, 776,
+];
+
+/// The number of the first keyword of each small letter; those of the next letter begin where they end.
+static STARTS: [u8; 27] = [
+    0, 4, 8, 14, 19, 32, 37, 39, 41, 50, 51, 51, 55, 58, 66, 68, 78, 78, 89, 99, 111, 114, 115,
+    122, 124, 124, 124,
+];
+
+/// Where a keyword begins in the text.
+#[tactic(auto, unfolding(crate::specs::Keywords::bound))]
+fn bound(number: usize) -> usize
+    requires { number ≤ 124 }
+    ensures { result ≡ bound number }
+{
+    usize::from(BOUNDS[number])
+}
+
+/// The number of the first keyword of a letter, the letters counted from 0.
+#[tactic(auto, unfolding(crate::specs::Keywords::start_at))]
+fn start_at(letter: usize) -> usize
+    requires { letter ≤ 26 }
+    ensures { result ≡ start_at letter }
+{
+    usize::from(STARTS[letter])
+}
+
+/// A part of the text.
+#[tactic(auto, unfolding(crate::specs::Keywords::part))]
+fn part(start: usize, end: usize) -> &'static [u8]
+    requires order { start ≤ end }
+    requires within { end ≤ 776 }
+    ensures { result.now ≡ part start end }
+{
+    &TEXT[start..end]
+}
+
+/// The keyword of a number.
+#[tactic(auto, using(crate::proofs::Keywords::bounds))]
+fn word(number: usize) -> &'static [u8]
+    requires { number < 124 }
+    ensures { result.now ≡ word number }
+{
+    part(bound(number), bound(number + 1))
+}
+
+/// Whether a name is one of the keywords from a number to another.
+fn is_among(name: &[u8], start: usize, end: usize) -> bool
+    requires { end ≤ 124 }
+    ensures { result ≡ list_any (same_bytes name.now) (words_from (end - start) start) }
+{
+    for number in start..end {
+        if name == word(number) {
+            return true;
+        }
+    }
+    false
+}
+
+fn is_small(b: u8) -> bool
+    ensures { result ≡ is_small b }
+{
+    b'a' <= b && b <= b'z'
+}
+
+/// Whether a name is a keyword.
+pub fn is_keyword(name: &[u8]) -> bool
+    ensures { result ≡ is_keyword name.now }
+{
+    match name {
+        [first, ..] => {
+            if is_small(*first) {
+                let letter = usize::from(*first - b'a');
+                return is_among(name, start_at(letter), start_at(letter + 1));
+            }
+            false
+        }
+        [] => false,
+    }
+}

@@ -1,0 +1,29 @@
+// The tokens of Verilog texts (IEEE 1364-2005, 3), read from a source in pieces of any size.
+//
+// The public contract in plain words: `VTokens::next` answers the next of the tokens that the whole bytes of the source spell,
+// as the definition `vlog` says with no pieces and no buffer: names, keywords, numbers, reals, the digits of based literals,
+// strings, attribute brackets, punctuation, symbols and directives, each as long as possible and with its place and stop; or
+// the first fault of the bytes with its place, stop and reason; or that the input ends. Comments and the directives
+// `timescale`, `celldefine` and `endcelldefine` are white space. It looks no further than 268,435,456 bytes, and takes at most
+// 4,096 bytes behind the stop of what it answers. After any error it answers `Spent`.
+#![tactic(auto)]
+
+pub mod finding;
+pub mod item;
+pub mod keyword;
+pub mod lexeme;
+pub mod mark;
+pub mod number;
+pub mod phase;
+pub mod scan;
+pub mod start;
+pub mod string;
+pub mod token;
+pub mod tokens;
+
+pub use keyword::is_keyword;
+pub use token::{Base, Based, Bit, Literal, VFound, VToken};
+pub use tokens::VTokens;
+
+#[cfg(test)]
+mod tests;

@@ -1,0 +1,92 @@
+ghost use Rattle.std.specs.Prelude.{◌≡◌, ◌≤◌, length, IfOk};
+
+use crate::finding::found;
+use crate::token::VFound;
+use nl_base::{NoMemory, Place, ReadError};
+use nl_bytes::Bytes;
+use nl_io::Source;
+use std::alloc::Global;
+use std::marker::Model;
+
+/// Reads the tokens of a source, one after another, through a buffer of 4,096 bytes.
+///
+/// It is used with one source. Contracts see it as the bytes that it holds, the place of the first, and whether an error has
+/// spent it.
+#[derive(Drop)]
+pub struct VTokens {
+    bytes: Bytes,
+    spent: bool,
+}
+
+impl Model for VTokens {
+    ghost use Rattle.vlog_tokens.specs.Language.{State};
+
+    ghost Value = { State };
+
+    ghost view = { λ t. record { window = t.bytes; spent = t.spent } };
+}
+
+impl VTokens {
+    ghost use Rattle.readers.specs.Sources.{ReadsToken, supply};
+    ghost use Rattle.vlog_tokens.specs.Language.{vlog, fresh};
+
+    /// A reader at the start of a text.
+    ///
+    /// Refused only for want of memory.
+    pub fn new(alloc: Global) -> Result<Self, NoMemory>
+        ensures { IfOk result (λ t. t ≡ fresh) }
+    {
+        let bytes = Bytes::new(alloc)?;
+        Ok(VTokens {
+            bytes,
+            spent: false,
+        })
+    }
+
+    /// The place after the last byte used.
+    #[inline]
+    pub fn here(&self) -> Place
+        ensures place { result ≡ self.now.window.place }
+        ensures held { length self.now.window.held ≤ 4096 }
+    {
+        self.bytes.place()
+    }
+
+    /// Whether an error has spent it.
+    #[inline]
+    pub fn is_spent(&self) -> bool
+        ensures { result ≡ self.now.spent }
+    {
+        self.spent
+    }
+
+    /// Reads the next token, or `None` at the end of the input.
+    ///
+    /// The answer is what the whole bytes of the source have there, whatever pieces it gives them in:
+    ///
+    /// - a token, with its place and stop; `None` exactly at the end, after the last token;
+    /// - `Text` exactly where the bytes spell no token; at most 4,096 bytes behind its stop are taken then;
+    /// - `TooLong` exactly where more than 268,435,456 bytes are given and the next token or fault has no stop within them;
+    /// - `ReadFault` only where the source's count of faults rose in this call;
+    /// - `Spent` exactly where the reader was spent.
+    ///
+    /// Any error spends it for good, and an `Ok` does not.
+    pub fn next<S: Source>(
+        &mut self,
+        alloc: Global,
+        source: &mut S,
+    ) -> Result<Option<VFound>, ReadError>
+        ensures { ReadsToken vlog result self.old.window self.old.spent self.new.window self.new.spent (supply S.left S.faults source.old) (supply S.left S.faults source.new) }
+    {
+        if self.spent {
+            return Err(ReadError::Spent);
+        }
+        self.spent = true;
+        let result = found(&mut self.bytes, alloc, source);
+        // The buffer holds at most 4,096 bytes, as its call says.
+        let _here = self.bytes.place();
+        let found = result?;
+        self.spent = false;
+        Ok(found)
+    }
+}
