@@ -205,7 +205,7 @@ stays_halted begins text {phase} {a} {b} {c} {l} {m} {n} {before} {after} {h} {p
 
 pub part_goes_on : {from : Meaning Lexeme} {phase : Phase} {text : List ℕ} {p : Place} {a b : Window} {l m : Option (List ℕ)} (next : Phase)
     → Part from (After phase text) p a b l m (Ok (Some next)) → Part {X = Unit {0}} from (λ _. scan_at next text) p a b l m (Ok tt)
-part_goes_on {from}  {phase} {text} {p} {a} {b} {l} {m} next f = part_to (λ _. scan_at next text) tt f (λ n rest. refl)
+part_goes_on {from} {phase} {text} {p} {a} {b} {l} {m} next f = part_to (λ _. scan_at next text) tt f (λ n rest. refl)
 
 pub part_ended : {from : Meaning Lexeme} {phase : Phase} {text : List ℕ} {p : Place} {a b : Window} {l m : Option (List ℕ)}
     → Part from (After phase text) p a b l m (Ok None) → (x : Scanned) → x.phase ≡ phase → x.text.items ≡ text → Part from scanned p a b l m (Ok x)

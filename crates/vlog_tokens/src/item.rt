@@ -123,7 +123,9 @@ fn directive_item(text: Vec<u8>) -> Item
     if text.as_slice() == b"`timescale".as_slice() {
         return Item::Line;
     }
-    if text.as_slice() == b"`celldefine".as_slice() || text.as_slice() == b"`endcelldefine".as_slice() {
+    if text.as_slice() == b"`celldefine".as_slice()
+        || text.as_slice() == b"`endcelldefine".as_slice()
+    {
         return Item::Blank;
     }
     Item::Token(VToken::Directive(Text::of(text)))

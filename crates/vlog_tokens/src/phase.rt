@@ -77,10 +77,7 @@ pub fn is_digit(base: Base, b: u8) -> bool
         Base::Octal => b'0' <= b && b <= b'7' || is_open(b),
         Base::Decimal => b.is_ascii_digit(),
         Base::Hex => {
-            b.is_ascii_digit()
-                || b'a' <= b && b <= b'f'
-                || b'A' <= b && b <= b'F'
-                || is_open(b)
+            b.is_ascii_digit() || b'a' <= b && b <= b'f' || b'A' <= b && b <= b'F' || is_open(b)
         }
     }
 }
