@@ -1,0 +1,48 @@
+-- The written text of a file spells the file, and reads as it within the limit of an input.
+use Rattle.std.proofs.Common.{◌≡◌, ℕ, ◌≤◌, List, [], ◌∷◌, ◌++◌, map, length, refl, sym, ap, subst}
+use Rattle.grammar.specs.Part.{gives}
+use Rattle.grammar.specs.Whole.{Terminal, proper, end, whole, the_end, IsText}
+use Rattle.nl_base.specs.Place.{place_at_start}
+use Rattle.nl_base.specs.declared.place.Place.{Place}
+use Rattle.nl_bytes.specs.declared.bytes.TheConstants.{LIMIT}
+use Rattle.edif_tokens.specs.declared.token.Found.{Found}
+use Rattle.edif_tokens.specs.declared.token.Token.{Token}
+use Rattle.edif_tokens.specs.Streams.{Finish, End, Bad, Over, Stream}
+use Rattle.edif_tokens.specs.Stream.{tokens, all_tokens}
+use Rattle.edif_tokens.proofs.Limits.{tokens_whole}
+use Rattle.edif_keywords.specs.Language.{ahead_of}
+use Rattle.edif_keywords.specs.Reasons.{trailing}
+use Rattle.edif_library.specs.declared.file.EdifFile.{EdifFile}
+use Rattle.edif_library.specs.Grammar.{file}
+use Rattle.edif_library.specs.Text.{EdifReads}
+use Rattle.edif_writer.specs.Forms.{file_block, edif_text}
+use Rattle.edif_lexing.specs.Lexing.{Shows, EndsWell}
+use Rattle.edif_lexing.specs.Tokens.{block_tokens}
+use Rattle.edif_lexing.proofs.Laying.{text_lexes}
+use Rattle.edif_rereading.specs.Values.{IsEdifValue}
+use Rattle.edif_rereading.specs.Whole.{EdifSpells}
+use Rattle.edif_rereading.proofs.Spelled.{Row, Spelled}
+use Rattle.edif_rereading.proofs.Library.{file_spelled}
+use Rattle.edif_rereading.proofs.Writable.{file_laid}
+
+in_row : (fs : List Found) → Row (map proper fs) (map (λ (f : Found). f.token) fs)
+in_row [] = tt
+in_row (f ∷ fs) = (refl, in_row fs)
+
+-- tokens that spell a file, and the end of the bytes behind them
+whole_text : (v : EdifFile) (fs : List Found) (finish : Finish) (ts : List Token) → map (λ (f : Found). f.token) fs ≡ ts → EndsWell finish → Spelled (file []) ts v
+    → IsText [] (whole trailing (file [])) (ahead_of (record { tokens = fs; finish = finish })) v
+unfolding whole the_end
+whole_text v fs (End p) ts e well x =
+    let row : Row (map proper fs) ts = subst (λ (z : List Token). Row (map proper fs) z) e (in_row fs) in
+    ((v, map proper fs, end p ∷ [], refl, x.by [] (map proper fs) row, (tt, end p ∷ [], [], refl, (end p, refl, refl), (refl, refl))), refl)
+whole_text v fs (Bad fault) ts e well x = absurd well
+whole_text v fs Over ts e well x = absurd well
+
+pub text_spells : (v : EdifFile) → IsEdifValue v → EdifSpells (edif_text v) v
+text_spells v g =
+    let shown = (text_lexes (file_block v) 0 (file_laid v g)).at place_at_start in
+    whole_text v (all_tokens (edif_text v)).tokens (all_tokens (edif_text v)).finish (block_tokens (file_block v)) shown.0 shown.1 (file_spelled [] v g)
+
+pub text_reads : (v : EdifFile) → IsEdifValue v → length (edif_text v) ≤ LIMIT → EdifReads (edif_text v) v
+text_reads v g le = subst (λ (s : Stream Found). IsText [] (whole trailing (file [])) (ahead_of s) v) (sym (tokens_whole (edif_text v) le)) (text_spells v g)

@@ -1,0 +1,14 @@
+// The law that a written text reads back.
+ghost use Rattle.std.specs.Prelude.{ℕ, ◌≤◌, length};
+ghost use Rattle.nl_bytes.specs.declared.bytes.TheConstants.{LIMIT};
+ghost use Rattle.edif_library.specs.declared.file.EdifFile.{EdifFile};
+ghost use Rattle.edif_library.specs.Text.{EdifReads};
+ghost use Rattle.edif_writer.specs.Forms.{edif_text};
+ghost use Rattle.edif_rereading.specs.Values.{IsEdifValue};
+ghost use Rattle.edif_rereading.specs.Whole.{EdifSpells};
+
+/// The written text of a file that can be written spells the file, whatever its length, and reads as the file within the limit of an input.
+pub fn reads_back()
+    ensures spells { (file : EdifFile) → IsEdifValue file → EdifSpells (edif_text file) file }
+    ensures reads { (file : EdifFile) → IsEdifValue file → length (edif_text file) ≤ LIMIT → EdifReads (edif_text file) file }
+{}
