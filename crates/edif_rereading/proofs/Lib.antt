@@ -5,3 +5,4 @@ pub mod Nets
 pub mod Library
 pub mod Writable
 pub mod Law
+pub mod Kept

@@ -1,5 +1,6 @@
 // The law that a written text reads back.
-ghost use Rattle.std.specs.Prelude.{ℕ, ◌≤◌, length};
+ghost use Rattle.std.specs.Prelude.{ℕ, ◌≤◌, List, length};
+ghost use Rattle.edif_tokens.specs.Proper.{AreBytes};
 ghost use Rattle.nl_bytes.specs.declared.bytes.TheConstants.{LIMIT};
 ghost use Rattle.edif_library.specs.declared.file.EdifFile.{EdifFile};
 ghost use Rattle.edif_library.specs.Text.{EdifReads};
@@ -11,4 +12,11 @@ ghost use Rattle.edif_rereading.specs.Whole.{EdifSpells};
 pub fn reads_back()
     ensures spells { (file : EdifFile) → IsEdifValue file → EdifSpells (edif_text file) file }
     ensures reads { (file : EdifFile) → IsEdifValue file → length (edif_text file) ≤ LIMIT → EdifReads (edif_text file) file }
+{}
+
+/// A file that some bytes read as can be written; and what is written of it reads as the same file, within the limit of an input. So its
+/// normal text is its own normal text.
+pub fn files_read_are_written()
+    ensures value { (bytes : List ℕ) (file : EdifFile) → AreBytes bytes → EdifReads bytes file → IsEdifValue file }
+    ensures again { (bytes : List ℕ) (file : EdifFile) → AreBytes bytes → EdifReads bytes file → length (edif_text file) ≤ LIMIT → EdifReads (edif_text file) file }
 {}
