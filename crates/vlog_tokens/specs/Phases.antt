@@ -7,8 +7,8 @@ use Rattle.std.specs.Char.{is_ascii_digit, is_ascii_alphabetic}
 use Rattle.nl_bytes.specs.Classes.{is_verilog_space, is_word_byte, is_name_byte, is_number_byte, is_based_byte, is_graphic}
 use Rattle.nl_bytes.specs.declared.class.Class.{Class}
 use Rattle.nl_bytes.specs.declared.class.Class.TheVariants.{NameByte, Graphic, NumberByte, WordByte}
-use Rattle.vlog_tokens.specs.declared.token.Base.{Base}
-use Rattle.vlog_tokens.specs.declared.token.Base.TheVariants.{Binary, Octal, Decimal, Hex}
+use Rattle.vlog_values.specs.declared.literal.Base.{Base}
+use Rattle.vlog_values.specs.declared.literal.Base.TheVariants.{Binary, Octal, Decimal, Hex}
 use Rattle.vlog_tokens.specs.declared.phase.Phase.{Phase}
 use Rattle.vlog_tokens.specs.declared.phase.Phase.TheVariants.{Word, Escape, Escaped, Whole, Point, Fraction, Mark, Sign, Exponent, Prefix, Signed, Letter, Digits, Unknown, Grave, Directive}
 use Rattle.vlog_tokens.specs.declared.phase.Step.{Step}

@@ -6,7 +6,8 @@ ghost use Rattle.vlog_tokens.specs.Numbers.{number_of, real_of};
 use crate::keyword::is_keyword;
 use crate::number::{decimal_of, number_of, real_of};
 use crate::phase::Phase;
-use crate::token::{Base, Based, VToken};
+use crate::token::VToken;
+use vlog_values::{Base, Based};
 use nl_base::{NoMemory, Text};
 use std::alloc::Global;
 

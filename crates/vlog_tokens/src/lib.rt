@@ -22,7 +22,7 @@ pub mod token;
 pub mod tokens;
 
 pub use keyword::is_keyword;
-pub use token::{Base, Based, Bit, Literal, VFound, VToken};
+pub use token::{VFound, VToken};
 pub use tokens::VTokens;
 
 #[cfg(test)]

@@ -1,7 +1,7 @@
 ghost use Rattle.std.specs.Prelude.{◌≡◌, option_map};
 ghost use Rattle.vlog_tokens.specs.Phases.{next_step, based_step, first_digit, is_complete, most_of, is_open, is_digit, is_mark, is_sign, base_of, class_of};
 
-use crate::token::Base;
+use vlog_values::Base;
 use nl_bytes::Class;
 
 /// What the bytes of a token are so far.
