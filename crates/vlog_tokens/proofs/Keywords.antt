@@ -1,10 +1,10 @@
 -- A keyword is found among those of its first letter.
-use Rattle.std.proofs.Common.{arith, ◌≡◌, ◌∙◌, inl, inr, sym, ap, subst, refl, ℕ, zero, suc, ◌+◌, ◌-◌, ◌<◌, ◌≤◌, leb, ltb, eqb, eq-eqb, nat_le, Bool, cond, true, false, ◌&&◌, ◌||◌, List, [], ◌∷◌, length, get_or}
+use Rattle.std.proofs.Common.{arith, ◌≡◌, ◌∙◌, inl, inr, sym, ap, subst, refl, ℕ, zero, suc, ◌+◌, ◌-◌, ◌<◌, ◌≤◌, eqb, eq-eqb, nat_le, Bool, cond, true, false, ◌&&◌, ◌||◌, List, [], ◌∷◌, length, get_or}
 use Rattle.std.proofs.lemmas.Bool.{cases_order}
 use Rattle.std.proofs.lemmas.Bool.Decides.{nat_tests}
 use Rattle.std.specs.Str.{bytes_eq}
 use Rattle.std.proofs.lemmas.Slice.Eq.{bytes_eq-Decides}
-use Rattle.std.specs.List.{list_any, list_all, filter}
+use Rattle.std.specs.List.{list_any, list_all}
 use Rattle.nl_base.specs.Case.{same_bytes}
 use Rattle.vlog_tokens.specs.Keywords.{keywords, is_keyword, is_small, start_at, bound, part, of_letter, words_from, word}
 

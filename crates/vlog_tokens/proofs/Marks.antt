@@ -1,9 +1,8 @@
 -- Tokens of one and two bytes, and comments.
-use Rattle.std.proofs.Common.{◌≡◌, ℕ, ◌+◌, ◌<◌, ◌≤◌, Bool, true, false, cond, List, [], ◌∷◌, ◌++◌, length, get_or, drop, Option, Some, None, Result, Ok, Err, refl, sym, ap, ◌∙◌, subst, arith, eqb, eq-eqb, add-zero, length-append}
-use Rattle.std.specs.Prelude.{◌&&◌, not, OnOk}
+use Rattle.std.proofs.Common.{◌≡◌, ℕ, ◌+◌, ◌<◌, Bool, true, false, cond, List, [], ◌∷◌, ◌++◌, length, drop, Option, Some, None, Result, Ok, Err, refl, sym, ap, ◌∙◌, subst, arith, eqb, eq-eqb, add-zero}
+use Rattle.std.specs.Prelude.{◌&&◌, not}
 use Rattle.std.proofs.lemmas.Bool.{ne_eqb, eqb-true}
 use Rattle.nl_base.specs.declared.place.Place.{Place}
-use Rattle.nl_base.specs.Place.{place_after, place_past}
 use Rattle.nl_base.specs.declared.fault.Reason.TheVariants.{EndOfInput}
 use Rattle.nl_base.specs.declared.fault.ReadError.{ReadError}
 use Rattle.nl_bytes.specs.declared.class.Class.TheVariants.{CommentByte}
@@ -19,11 +18,11 @@ use Rattle.vlog_tokens.specs.declared.item.Item.{Item}
 use Rattle.vlog_tokens.specs.declared.item.Item.TheVariants.{Blank, Line, Token}
 use Rattle.vlog_tokens.specs.declared.item.Spot.{Spot}
 use Rattle.vlog_tokens.specs.declared.token.VToken.TheVariants.{Symbol}
-use Rattle.vlog_tokens.specs.Flaws.{Piece, Flaw, flaw, ◌>>=◌}
+use Rattle.vlog_tokens.specs.Flaws.{Piece, Flaw, flaw}
 use Rattle.vlog_tokens.specs.Spelling.{alone, pair_by, slash_by, comment_at, is_slash, blank_now}
-use Rattle.vlog_tokens.specs.Parts.{refusal, Reaches, Answers, GivesSpot, Meaning, Continues, Part, Reads}
-use Rattle.vlog_tokens.proofs.Parts.{Steps, steps_use, part_used, part_then, part_none, part_halted, reaches_late, halted, offset_grows, Answers-err}
-use Rattle.vlog_tokens.proofs.Scanning.{front_of, none_of, looks, refuses, bad_here, reaches_less}
+use Rattle.vlog_tokens.specs.Parts.{refusal, Reaches, Answers, GivesSpot, Part, Reads}
+use Rattle.vlog_tokens.proofs.Parts.{Steps, steps_use, part_used, part_then, part_halted, reaches_late, halted, offset_grows, Answers-err}
+use Rattle.vlog_tokens.proofs.Scanning.{none_of, looks, refuses, bad_here, reaches_less}
 
 abbrev pub at_err : Halt → Result (Option ℕ) Halt
 at_err h = Err h

@@ -1,11 +1,11 @@
 -- The values of numbers.
-use Rattle.std.proofs.Common.{◌≡◌, ℕ, ◌+◌, ◌-◌, ◌*◌, ◌^◌, ◌<◌, ◌≤◌, Bool, true, false, cond, ltb, leb, fold, length-drop, List, [], ◌∷◌, length, get_or, take, drop, Option, Some, None, refl, sym, ap, ◌∙◌, subst, arith}
+use Rattle.std.proofs.Common.{◌≡◌, ℕ, ◌+◌, ◌-◌, ◌*◌, ◌^◌, ◌<◌, ◌≤◌, Bool, true, false, cond, ltb, fold, length-drop, List, [], ◌∷◌, length, get_or, drop, Some, None, refl, sym, ap, ◌∙◌, arith}
 use Rattle.std.specs.Char.{is_ascii_digit}
 use Rattle.std.specs.List.{prefix_len}
-use Rattle.std.proofs.lemmas.Bool.{ltb-false, le-ltb, lt-ltb, le-leb, lt-leb}
+use Rattle.std.proofs.lemmas.Bool.{ltb-false, le-ltb, lt-ltb, le-leb}
 use Rattle.std.proofs.lemmas.List.{at_drop_more, at_drop_all}
 use Rattle.std.proofs.lemmas.List.Sums.{prefix_len-le-length}
-use Rattle.vlog_tokens.specs.Numbers.{next_decimal, decimal_value, next_count, digit_count, below_128, signed_number, lowered, number_of, exponent_of, real_of, scaled_by, is_negative, after_point, before_mark, from_mark, is_no_mark, is_no_point}
+use Rattle.vlog_tokens.specs.Numbers.{next_decimal, decimal_value, next_count, digit_count, below_128, signed_number, lowered, number_of, exponent_of, is_negative, after_point, is_no_mark, is_no_point}
 
 next_grows : (n b : ℕ) → n ≤ next_decimal n b
 next_grows n b = go (is_ascii_digit b)

@@ -1,24 +1,23 @@
 -- From the parts of a token to what stands at a place.
-use Rattle.std.proofs.Common.{◌≡◌, ℕ, ◌+◌, ◌<◌, ◌≤◌, List, [], ◌∷◌, ◌++◌, length, drop, Option, Some, None, Result, Ok, Err, refl, sym, ap, ◌∙◌, subst, arith}
+use Rattle.std.proofs.Common.{◌≡◌, ℕ, ◌+◌, ◌<◌, List, [], length, Option, Some, None, Result, Ok, Err, refl, sym, ap, ◌∙◌, subst, arith}
 use Rattle.std.specs.Prelude.{OnOk}
 use Rattle.nl_base.specs.declared.place.Place.{Place}
 use Rattle.nl_base.specs.declared.fault.Reason.TheVariants.{NumberRange}
 use Rattle.nl_base.specs.declared.fault.ReadError.{ReadError}
 use Rattle.nl_base.specs.declared.fault.ReadError.TheVariants.{Text, ReadFault, TooLong, NoMemory, Spent}
-use Rattle.nl_base.specs.Place.{place_past}
-use Rattle.nl_bytes.specs.Bytes.{Window, Uses, IsAhead, input, first}
+use Rattle.nl_bytes.specs.Bytes.{Window, input, first}
 use Rattle.nl_bytes.specs.declared.bytes.TheConstants.{LIMIT}
 use Rattle.nl_bytes.proofs.Known.{Uses-known, IsAhead-known}
 use Rattle.vlog_tokens.specs.declared.item.Item.{Item}
 use Rattle.vlog_tokens.specs.declared.item.Spot.{Spot}
 use Rattle.vlog_tokens.specs.declared.phase.Phase.{Phase}
 use Rattle.vlog_tokens.specs.declared.scan.Scanned.{Scanned}
-use Rattle.vlog_tokens.specs.Flaws.{Piece, Flaw, ◌>>=◌, flaw}
-use Rattle.vlog_tokens.specs.Scanning.{Lexeme, begun, kept, scan_at, scanned, ended, one_if, StopsAt}
+use Rattle.vlog_tokens.specs.Flaws.{Piece, Flaw, ◌>>=◌}
+use Rattle.vlog_tokens.specs.Scanning.{Lexeme, begun, kept, scan_at, scanned, one_if, StopsAt}
 use Rattle.vlog_tokens.specs.Items.{item_of, finish, finished}
 use Rattle.vlog_tokens.specs.Spelling.{lexeme_spelled}
-use Rattle.vlog_tokens.specs.Parts.{refusal, Reaches, Answers, GivesSpot, Meaning, Continues, Part, Reads, spot_of}
-use Rattle.vlog_tokens.proofs.Parts.{Steps, steps_use, part_used, part_then, offset_grows, refusal_answers}
+use Rattle.vlog_tokens.specs.Parts.{Reaches, Answers, GivesSpot, Meaning, Part, Reads, spot_of}
+use Rattle.vlog_tokens.proofs.Parts.{Steps, steps_use, part_used, offset_grows, refusal_answers}
 
 -- a step that gives an item, or a flaw that is seen as late
 abbrev pub StepsOn : {A : Type 0} → (Piece A → Result (Piece Item) Flaw) → Type 0

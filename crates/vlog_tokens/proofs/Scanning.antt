@@ -1,19 +1,17 @@
 -- Bytes that go on in a token.
-use Rattle.std.proofs.Common.{◌≡◌, ℕ, ◌+◌, ◌-◌, ◌<◌, ◌≤◌, Bool, true, false, cond, leb, List, [], ◌∷◌, ◌++◌, length, get_or, take, drop, Option, Some, None, Result, Ok, Err, IsTrue, refl, sym, ap, ◌∙◌, subst, arith, rules, length-append, append_assoc, append-nil, add-zero}
+use Rattle.std.proofs.Common.{◌≡◌, ℕ, ◌+◌, ◌-◌, ◌<◌, ◌≤◌, Bool, true, false, cond, leb, List, [], ◌∷◌, ◌++◌, length, Option, Some, None, Result, Ok, Err, IsTrue, refl, sym, ap, ◌∙◌, subst, arith, length-append, append_assoc, append-nil, add-zero}
 use Rattle.std.proofs.lemmas.Bool.{le-leb, lt-leb}
 use Rattle.std.proofs.lemmas.List.{take_at}
-use Rattle.std.specs.Prelude.{IfOk}
 use Rattle.nl_base.specs.declared.place.Place.{Place}
 use Rattle.nl_base.specs.Place.{place_past}
 use Rattle.nl_base.specs.declared.fault.Reason.{Reason}
 use Rattle.nl_base.specs.declared.fault.Reason.TheVariants.{EndOfInput, BadByte, TokenTooLong}
-use Rattle.nl_base.specs.declared.fault.ReadError.{ReadError}
 use Rattle.nl_bytes.specs.declared.class.Class.{Class}
 use Rattle.nl_bytes.specs.declared.class.Class.TheVariants.{NameByte, Graphic, NumberByte, WordByte}
 use Rattle.nl_bytes.specs.declared.halt.Halt.{Halt}
 use Rattle.nl_bytes.specs.Halts.{error_of}
 use Rattle.nl_bytes.specs.Classes.{AreIn, in_class}
-use Rattle.nl_bytes.specs.Bytes.{Window, Uses, Runs, IsAhead, input, first}
+use Rattle.nl_bytes.specs.Bytes.{Window, Runs, IsAhead, input, first}
 use Rattle.nl_bytes.proofs.Known.{IsAhead-known}
 use Rattle.vlog_tokens.specs.declared.phase.Phase.{Phase}
 use Rattle.vlog_tokens.specs.declared.phase.Phase.TheVariants.{Word, Escape, Escaped, Whole, Point, Fraction, Mark, Sign, Exponent, Prefix, Signed, Letter, Digits, Unknown, Grave, Directive}

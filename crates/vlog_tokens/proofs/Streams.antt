@@ -1,11 +1,11 @@
 -- The stream of tokens, one item after another.
 use Rattle.std.proofs.Common.{◌≡◌, ℕ, zero, suc, ◌+◌, ◌-◌, ◌<◌, ◌≤◌, Bool, true, false, cond, ltb, List, [], ◌∷◌, ◌++◌, length, drop, Option, Some, None, Result, Ok, Err, refl, sym, ap, ◌∙◌, subst, arith, length-append, length-drop, append_assoc}
 use Rattle.std.specs.Prelude.{option_map, IfOk, IfSome}
-use Rattle.std.specs.List.{prefix_len, AllByRecursion}
+use Rattle.std.specs.List.{prefix_len}
 use Rattle.std.proofs.lemmas.Bool.{lt-ltb, le-ltb, ltb-true, ltb-false}
 use Rattle.std.proofs.lemmas.List.{drop_at}
 use Rattle.std.proofs.lemmas.List.Sums.{prefix_len-le-length}
-use Rattle.grammar.specs.Whole.{Terminal, proper, end, Finish, Done, Bad, Over}
+use Rattle.grammar.specs.Whole.{Over}
 use Rattle.nl_base.specs.declared.place.Place.{Place}
 use Rattle.nl_base.specs.Place.{place_after, place_past}
 use Rattle.nl_base.specs.declared.fault.ReadError.{ReadError}
@@ -30,7 +30,7 @@ use Rattle.vlog_tokens.specs.declared.token.VToken.{VToken}
 use Rattle.vlog_tokens.specs.Flaws.{Piece, Flaw}
 use Rattle.vlog_tokens.specs.Spelling.{item_at, item_by, start_of}
 use Rattle.vlog_tokens.specs.Language.{tokens_from, then_items, then_tokens, with_line, limited, stream_from}
-use Rattle.vlog_tokens.specs.Parts.{Answers, GivesSpot, Reads, Reaches, fault_at, refusal}
+use Rattle.vlog_tokens.specs.Parts.{Answers, GivesSpot, Reads, refusal}
 use Rattle.vlog_tokens.specs.Finding.{ahead_of, Passed, Passes, Finds, found_or_late, UsesTo, EndsAt}
 use Rattle.nl_base.specs.declared.fault.Reason.TheVariants.{BadByte}
 use Rattle.vlog_tokens.specs.declared.start.Start.{Start}

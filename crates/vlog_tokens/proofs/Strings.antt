@@ -1,34 +1,32 @@
 -- Strings, part by part.
-use Rattle.std.proofs.Common.{◌≡◌, ℕ, zero, suc, ◌+◌, ◌-◌, ◌*◌, ◌<◌, ◌≤◌, Bool, true, false, cond, leb, ltb, List, [], ◌∷◌, ◌++◌, length, get_or, take, drop, Option, Some, None, Result, Ok, Err, IsTrue, refl, sym, ap, ◌∙◌, subst, arith, inl, inr, length-append, append_assoc, append-nil, add-zero, eqb, ◌&&◌}
-use Rattle.std.specs.Prelude.{◌⊎◌, IfErr}
+use Rattle.std.proofs.Common.{◌≡◌, ℕ, ◌+◌, ◌-◌, ◌*◌, ◌<◌, ◌≤◌, Bool, true, false, cond, ltb, List, [], ◌∷◌, ◌++◌, length, take, drop, Option, Some, None, Result, Ok, Err, refl, sym, ap, ◌∙◌, subst, arith, inl, inr, length-append, append_assoc, append-nil, add-zero, eqb, ◌&&◌}
+use Rattle.std.specs.Prelude.{◌⊎◌}
 use Rattle.std.proofs.lemmas.Bool.{lt-ltb, le-ltb, le-leb, lt-leb, ne_eqb}
 use Rattle.std.proofs.lemmas.List.{take_at}
 use Rattle.nl_base.specs.declared.place.Place.{Place}
-use Rattle.nl_base.specs.Place.{place_after, place_past}
+use Rattle.nl_base.specs.Place.{place_past}
 use Rattle.nl_base.specs.declared.fault.Reason.{Reason}
 use Rattle.nl_base.specs.declared.fault.Reason.TheVariants.{EndOfInput, BadByte, BadEscape, TokenTooLong}
 use Rattle.nl_base.specs.declared.fault.ReadError.{ReadError}
 use Rattle.nl_base.specs.declared.fault.ReadError.TheVariants.{NoMemory}
 use Rattle.nl_bytes.specs.declared.class.Class.TheVariants.{VerilogStringByte}
 use Rattle.nl_bytes.specs.declared.halt.Halt.{Halt}
-use Rattle.nl_bytes.specs.declared.halt.Halt.TheVariants as halts
-use Rattle.nl_bytes.specs.declared.bytes.TheConstants.{LIMIT}
 use Rattle.nl_bytes.specs.Halts.{error_of}
 use Rattle.nl_bytes.specs.Classes.{AreIn, is_verilog_string_byte}
-use Rattle.nl_bytes.specs.Bytes.{Window, Uses, Runs, IsAhead, input, first}
+use Rattle.nl_bytes.specs.Bytes.{Window, Uses, Runs, IsAhead, input}
 use Rattle.nl_bytes.proofs.Uses.{Uses-trans}
-use Rattle.nl_bytes.proofs.Known.{Uses-known, IsAhead-known}
+use Rattle.nl_bytes.proofs.Known.{IsAhead-known}
 use Rattle.vlog_tokens.specs.declared.item.Item.TheVariants.{Token}
 use Rattle.vlog_tokens.specs.declared.item.Spot.{Spot}
 use Rattle.vlog_tokens.specs.declared.token.VToken.TheVariants.{Str}
 use Rattle.vlog_tokens.specs.declared.string.Escaped.{Escaped}
 use Rattle.vlog_tokens.specs.declared.string.Escaped.TheVariants.{Stands, Octal, NoEscape, NoByte}
-use Rattle.vlog_tokens.specs.Flaws.{Piece, Flaw, flaw, ◌>>=◌}
+use Rattle.vlog_tokens.specs.Flaws.{Piece, Flaw, flaw}
 use Rattle.vlog_tokens.specs.Spelling.{str_of, string_spelled}
-use Rattle.vlog_tokens.specs.Strings.{Within, Parts, Escape, Code, is_octal, escaped_by, is_full, part_by, escape_by, with_code, string_at, Closes, Exceeds, Codes, quoted, closed}
+use Rattle.vlog_tokens.specs.Strings.{Within, Parts, Escape, Code, is_octal, escaped_by, is_full, part_by, escape_by, with_code, string_at, Closes, Codes, quoted, closed}
 use Rattle.vlog_tokens.specs.Parts.{refusal, Reaches, Answers, Meaning, Part, Reads}
-use Rattle.vlog_tokens.proofs.Parts.{Refused, Steps, steps_use, part_used, part_then, part_none, part_err, part_halted, part_no_memory, part_refused, refusal_answers, here_at, offset_at, offset_grows}
-use Rattle.vlog_tokens.proofs.Scanning.{front_of, none_of, looks, refuses, bad_here, bad_first, reaches_less}
+use Rattle.vlog_tokens.proofs.Parts.{Refused, Steps, steps_use, part_used, part_then, part_halted, refusal_answers, here_at, offset_at, offset_grows}
+use Rattle.vlog_tokens.proofs.Scanning.{front_of, none_of, refuses, bad_here, bad_first, reaches_less}
 use Rattle.vlog_tokens.proofs.Reading.{StepsOn, reads_err, reads_ok}
 
 -- ---- how far a string is seen

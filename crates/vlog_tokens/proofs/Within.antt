@@ -1,6 +1,6 @@
 -- No more has to be read than there is.
-use Rattle.std.proofs.Common.{◌≡◌, ℕ, zero, suc, ◌+◌, ◌-◌, ◌*◌, ◌<◌, ◌≤◌, Bool, true, false, cond, leb, ltb, eqb, ◌&&◌, List, [], ◌∷◌, ◌++◌, length, drop, Option, Some, None, Result, Ok, Err, refl, arith}
-use Rattle.nl_base.specs.declared.fault.Reason.TheVariants.{EndOfInput, BadByte, BadEscape, TokenTooLong}
+use Rattle.std.proofs.Common.{ℕ, suc, ◌+◌, ◌-◌, ◌*◌, ◌≤◌, Bool, true, false, cond, leb, ltb, eqb, ◌&&◌, List, [], ◌∷◌, ◌++◌, length, drop, Option, Some, None, Result, Ok, Err, arith}
+use Rattle.nl_base.specs.declared.fault.Reason.TheVariants.{EndOfInput, BadEscape, TokenTooLong}
 use Rattle.nl_bytes.specs.Bytes.{first}
 use Rattle.nl_bytes.specs.Classes.{is_verilog_string_byte}
 use Rattle.vlog_tokens.specs.declared.item.Item.{Item}
@@ -16,10 +16,10 @@ use Rattle.vlog_tokens.specs.declared.string.Escaped.{Escaped}
 use Rattle.vlog_tokens.specs.declared.string.Escaped.TheVariants.{Stands, Octal, NoEscape, NoByte}
 use Rattle.vlog_tokens.specs.Flaws.{Piece, Flaw, flaw, ◌>>=◌}
 use Rattle.vlog_tokens.specs.Phases.{next_step, is_complete, most_of}
-use Rattle.vlog_tokens.specs.Scanning.{Lexeme, scan_at, stepped, ended, begun, kept}
+use Rattle.vlog_tokens.specs.Scanning.{Lexeme, scan_at, stepped, ended, kept}
 use Rattle.vlog_tokens.specs.Items.{finish, finished, item_of}
 use Rattle.vlog_tokens.specs.Strings.{Within, Parts, Escape, Code, is_octal, escaped_by, is_full, part_by, escape_by, with_code, string_at}
-use Rattle.vlog_tokens.specs.Spelling.{alone, pair_by, second_of, both_of, single_of, slash_by, comment_at, str_of, item_by, start_of, item_at}
+use Rattle.vlog_tokens.specs.Spelling.{pair_by, both_of, single_of, slash_by, comment_at, str_of, item_by, start_of, item_at}
 
 -- a piece and what shows its end lie within so many bytes
 abbrev pub IsWithin : {A : Type 0} → ℕ → Result (Piece A) Flaw → Type 0

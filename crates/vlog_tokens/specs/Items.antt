@@ -6,7 +6,6 @@ use Rattle.nl_base.specs.declared.fault.Reason.TheVariants.{NumberRange}
 use Rattle.nl_base.specs.Case.{same_bytes}
 use Rattle.vlog_values.specs.declared.literal.Base.{Base}
 use Rattle.vlog_values.specs.declared.literal.Base.TheVariants.{Binary, Octal, Decimal, Hex}
-use Rattle.vlog_tokens.specs.declared.token.VToken.{VToken}
 use Rattle.vlog_tokens.specs.declared.token.VToken.TheVariants.{Name, Keyword, Number, Real, Directive}
 use Rattle.vlog_tokens.specs.declared.token.VToken.TheVariants as tokens
 use Rattle.vlog_tokens.specs.declared.item.Item.{Item}

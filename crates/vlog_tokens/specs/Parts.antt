@@ -1,5 +1,5 @@
 -- What the parts of a reader answer.
-use Rattle.std.specs.Prelude.{◌≡◌, ℕ, ◌+◌, ◌<◌, ◌≤◌, ◌++◌, nat_lt, if◌then◌else◌, List, [], ◌∷◌, length, OnOk, Option, Some, None, Result, Ok, Err, ⊤}
+use Rattle.std.specs.Prelude.{◌≡◌, ℕ, ◌+◌, ◌<◌, ◌≤◌, ◌++◌, nat_lt, if◌then◌else◌, List, length, OnOk, Option, Some, None, Result, Ok, Err, ⊤}
 use Rattle.nl_base.specs.declared.place.Place.{Place}
 use Rattle.nl_base.specs.declared.fault.TextFault.{TextFault}
 use Rattle.nl_base.specs.declared.fault.Reason.{Reason}

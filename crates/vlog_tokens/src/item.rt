@@ -7,9 +7,9 @@ use crate::keyword::is_keyword;
 use crate::number::{decimal_of, number_of, real_of};
 use crate::phase::Phase;
 use crate::token::VToken;
-use vlog_values::{Base, Based};
 use nl_base::{NoMemory, Text};
 use std::alloc::Global;
+use vlog_values::{Base, Based};
 
 /// What stands at a place of a text.
 #[derive(Drop)]

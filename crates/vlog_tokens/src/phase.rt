@@ -1,8 +1,11 @@
-ghost use Rattle.std.specs.Prelude.{◌≡◌, option_map};
+ghost use Rattle.std.specs.Prelude.{◌≡◌, ◌==◌, if◌then◌else◌, option_map};
+ghost use Rattle.nl_bytes.specs.Classes.{is_verilog_space, is_based_byte, is_graphic};
+ghost use Rattle.vlog_tokens.specs.declared.phase.Phase.TheVariants.{Point, Mark, Escaped, Letter};
+ghost use Rattle.vlog_tokens.specs.declared.phase.Step.TheVariants.{Keep, Pass, Ends, Bad};
 ghost use Rattle.vlog_tokens.specs.Phases.{next_step, based_step, first_digit, is_complete, most_of, is_open, is_digit, is_mark, is_sign, base_of, class_of};
 
-use vlog_values::Base;
 use nl_bytes::Class;
+use vlog_values::Base;
 
 /// What the bytes of a token are so far.
 #[derive(Clone, Copy)]
@@ -122,132 +125,96 @@ fn first_digit(base: Base, b: u8) -> Step
     }
 }
 
+/// One more byte, where it keeps the token in a phase, or else the other step.
+fn keep_if(keeps: bool, phase: Phase, otherwise: Step) -> Step
+    ensures { result ≡ (if keeps then Keep phase else otherwise) }
+{
+    if keeps {
+        return Step::Keep(phase);
+    }
+    otherwise
+}
+
+/// What a byte is behind the digits of a real before its `e`: the `e`, or the byte behind the real.
+fn mark_step(b: u8) -> Step
+    ensures { result ≡ (if is_mark b then Keep Mark else Ends) }
+{
+    keep_if(is_mark(b), Phase::Mark, Step::Ends)
+}
+
+/// What a byte is behind a number: a point, an `e`, or the byte behind the number.
+fn point_step(b: u8) -> Step
+    ensures { result ≡ (if b == 46 then Keep Point else (if is_mark b then Keep Mark else Ends)) }
+{
+    keep_if(b == b'.', Phase::Point, mark_step(b))
+}
+
+/// What a byte is that is no digit behind digits of a based literal.
+fn behind_digits(b: u8) -> Step
+    ensures { result ≡ (if is_based_byte b then Bad else Ends) }
+{
+    if Class::BasedByte.contains(b) {
+        return Step::Bad;
+    }
+    Step::Ends
+}
+
+/// What a byte is behind the letter of a base: white space, or the first digit.
+fn letter_step(base: Base, b: u8) -> Step
+    ensures { result ≡ (if is_verilog_space b then Pass (Letter base) else first_digit base b) }
+{
+    if Class::VerilogSpace.contains(b) {
+        return Step::Pass(Phase::Letter(base));
+    }
+    first_digit(base, b)
+}
+
+/// What a byte is in an escaped name: white space ends it.
+fn escaped_step(b: u8) -> Step
+    ensures { result ≡ (if is_graphic b then Keep Escaped else (if is_verilog_space b then Ends else Bad)) }
+{
+    if Class::VerilogSpace.contains(b) {
+        return keep_if(Class::Graphic.contains(b), Phase::Escaped, Step::Ends);
+    }
+    keep_if(Class::Graphic.contains(b), Phase::Escaped, Step::Bad)
+}
+
 /// What the next byte is to a token whose bytes are so far what the phase says.
 #[tactic(auto, unfolding(crate::specs::Phases::next_step))]
 pub fn next_step(phase: Phase, b: u8) -> Step
     ensures { result ≡ next_step phase b }
 {
+    let is_digit_byte = b.is_ascii_digit();
+    let is_number_byte = Class::NumberByte.contains(b);
     match phase {
-        Phase::Word => {
-            if Class::NameByte.contains(b) {
-                Step::Keep(Phase::Word)
-            } else {
-                Step::Ends
-            }
-        }
-        Phase::Escape => {
-            if Class::Graphic.contains(b) {
-                Step::Keep(Phase::Escaped)
-            } else {
-                Step::Bad
-            }
-        }
-        Phase::Escaped => {
-            if Class::Graphic.contains(b) {
-                Step::Keep(Phase::Escaped)
-            } else if Class::VerilogSpace.contains(b) {
-                Step::Ends
-            } else {
-                Step::Bad
-            }
-        }
-        Phase::Whole => {
-            if Class::NumberByte.contains(b) {
-                Step::Keep(Phase::Whole)
-            } else if b == b'.' {
-                Step::Keep(Phase::Point)
-            } else if is_mark(b) {
-                Step::Keep(Phase::Mark)
-            } else {
-                Step::Ends
-            }
-        }
-        Phase::Point => {
-            if b.is_ascii_digit() {
-                Step::Keep(Phase::Fraction)
-            } else {
-                Step::Bad
-            }
-        }
-        Phase::Fraction => {
-            if Class::NumberByte.contains(b) {
-                Step::Keep(Phase::Fraction)
-            } else if is_mark(b) {
-                Step::Keep(Phase::Mark)
-            } else {
-                Step::Ends
-            }
-        }
-        Phase::Mark => {
-            if b.is_ascii_digit() {
-                Step::Keep(Phase::Exponent)
-            } else if is_sign(b) {
-                Step::Keep(Phase::Sign)
-            } else {
-                Step::Bad
-            }
-        }
-        Phase::Sign => {
-            if b.is_ascii_digit() {
-                Step::Keep(Phase::Exponent)
-            } else {
-                Step::Bad
-            }
-        }
-        Phase::Exponent => {
-            if Class::NumberByte.contains(b) {
-                Step::Keep(Phase::Exponent)
-            } else {
-                Step::Ends
-            }
-        }
-        Phase::Prefix => {
-            if b == b's' || b == b'S' {
-                Step::Keep(Phase::Signed)
-            } else {
-                based_step(b)
-            }
-        }
+        Phase::Word => keep_if(Class::NameByte.contains(b), Phase::Word, Step::Ends),
+        Phase::Escape => keep_if(Class::Graphic.contains(b), Phase::Escaped, Step::Bad),
+        Phase::Escaped => escaped_step(b),
+        Phase::Whole => keep_if(is_number_byte, Phase::Whole, point_step(b)),
+        Phase::Point => keep_if(is_digit_byte, Phase::Fraction, Step::Bad),
+        Phase::Fraction => keep_if(is_number_byte, Phase::Fraction, mark_step(b)),
+        Phase::Mark => keep_if(
+            is_digit_byte,
+            Phase::Exponent,
+            keep_if(is_sign(b), Phase::Sign, Step::Bad),
+        ),
+        Phase::Sign => keep_if(is_digit_byte, Phase::Exponent, Step::Bad),
+        Phase::Exponent => keep_if(is_number_byte, Phase::Exponent, Step::Ends),
+        Phase::Prefix => keep_if(b == b's' || b == b'S', Phase::Signed, based_step(b)),
         Phase::Signed => based_step(b),
-        Phase::Letter(base) => {
-            if Class::VerilogSpace.contains(b) {
-                Step::Pass(Phase::Letter(base))
-            } else {
-                first_digit(base, b)
-            }
-        }
-        Phase::Digits(base) => {
-            if is_digit(base, b) || b == b'_' {
-                Step::Keep(Phase::Digits(base))
-            } else if Class::BasedByte.contains(b) {
-                Step::Bad
-            } else {
-                Step::Ends
-            }
-        }
-        Phase::Unknown => {
-            if b == b'_' {
-                Step::Keep(Phase::Unknown)
-            } else if Class::BasedByte.contains(b) {
-                Step::Bad
-            } else {
-                Step::Ends
-            }
-        }
-        Phase::Grave => {
-            if b.is_ascii_alphabetic() || b == b'_' {
-                Step::Keep(Phase::Directive)
-            } else {
-                Step::Bad
-            }
-        }
-        Phase::Directive => {
-            if Class::WordByte.contains(b) {
-                Step::Keep(Phase::Directive)
-            } else {
-                Step::Ends
-            }
-        }
+        Phase::Letter(base) => letter_step(base, b),
+        Phase::Digits(base) => keep_if(
+            is_digit(base, b) || b == b'_',
+            Phase::Digits(base),
+            behind_digits(b),
+        ),
+        Phase::Unknown => keep_if(b == b'_', Phase::Unknown, behind_digits(b)),
+        Phase::Grave => keep_if(
+            b.is_ascii_alphabetic() || b == b'_',
+            Phase::Directive,
+            Step::Bad,
+        ),
+        Phase::Directive => keep_if(Class::WordByte.contains(b), Phase::Directive, Step::Ends),
     }
 }
 

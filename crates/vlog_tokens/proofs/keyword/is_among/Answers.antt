@@ -1,7 +1,4 @@
-use Rattle.std.proofs.Common.{ap, sym, ◌∙◌, ◌||◌}
-use Rattle.std.specs.List.{list_any}
-use Rattle.nl_base.specs.Case.{same_bytes}
-use Rattle.vlog_tokens.specs.Keywords.{words_from}
+use Rattle.std.proofs.Common.{sym, ◌∙◌}
 use Rattle.vlog_tokens.proofs.Keywords.{turn_on}
 use Rattle.vlog_tokens.proofs.keyword.is_among.Goals as goal
 

@@ -1,5 +1,5 @@
-use Rattle.std.proofs.Common.{arith, ap, sym, ◌∙◌}
-use Rattle.vlog_tokens.proofs.Keywords.{found_by_letter, no_letter, none_empty, by_table, end_most}
+use Rattle.std.proofs.Common.{arith, sym, ◌∙◌}
+use Rattle.vlog_tokens.proofs.Keywords.{no_letter, none_empty, by_table, end_most}
 use Rattle.vlog_tokens.proofs.keyword.is_keyword.Goals as goal
 
 pub returns-in-empty : goal.returns-in-empty

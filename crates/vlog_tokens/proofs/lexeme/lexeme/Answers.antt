@@ -1,4 +1,4 @@
-use Rattle.std.proofs.Common.{refl, ◌∙◌}
+use Rattle.std.proofs.Common.{refl}
 use Rattle.std.proofs.lemmas.Result.{err_from_is_err_and}
 use Rattle.vlog_tokens.specs.Spelling.{lexeme_spelled}
 use Rattle.vlog_tokens.specs.Items.{finish}

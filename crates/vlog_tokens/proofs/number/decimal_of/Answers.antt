@@ -1,6 +1,6 @@
 use Rattle.std.proofs.Common.{refl, arith, sym, ◌∙◌}
 use Rattle.vlog_tokens.specs.Numbers.{decimal_value}
-use Rattle.vlog_tokens.proofs.Numbers.{over, going, whole}
+use Rattle.vlog_tokens.proofs.Numbers.{over, whole}
 use Rattle.vlog_tokens.proofs.number.decimal_of.Goals as goal
 
 pub loop-b-init : goal.loop-b-init

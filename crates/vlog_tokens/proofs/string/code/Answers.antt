@@ -1,4 +1,4 @@
-use Rattle.std.proofs.Common.{◌≡◌, refl, sym, ◌∙◌, arith, rules, true, false, Some, ◌++◌, ◌∷◌, [], length-append, ℕ, ap}
+use Rattle.std.proofs.Common.{◌≡◌, refl, arith, rules, true, false, Some, ◌++◌, ◌∷◌, [], length-append, ap}
 use Rattle.nl_base.specs.declared.place.Place.{Place}
 use Rattle.nl_bytes.specs.Bytes.{IsAhead}
 use Rattle.nl_bytes.proofs.Uses.{Uses-next, Uses-looked}

@@ -1,4 +1,4 @@
-use Rattle.std.proofs.Common.{◌≡◌, ℕ, ◌-◌, List, ◌≤◌, ◌+◌, length}
+use Rattle.std.proofs.Common.{◌≡◌, ℕ, List, ◌≤◌, ◌+◌, length}
 use Rattle.nl_bytes.specs.Bytes.{Uses}
 use Rattle.nl_bytes.specs.declared.bytes.TheConstants.{LIMIT}
 use Rattle.vlog_tokens.proofs.Strings.{Digits}

@@ -1,4 +1,4 @@
-use Rattle.std.proofs.Common.{◌≡◌, ℕ, arith, ap, sym, ◌∙◌}
+use Rattle.std.proofs.Common.{arith, ap, sym, ◌∙◌}
 use Rattle.std.proofs.lemmas.Result.{err_from_is_err_and}
 use Rattle.nl_base.specs.declared.place.Place.{Place}
 use Rattle.vlog_tokens.proofs.Parts.{steps, part_halted, part_no_memory, offset_grows}

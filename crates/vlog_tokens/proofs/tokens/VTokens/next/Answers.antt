@@ -1,7 +1,6 @@
 use Rattle.std.proofs.Common.{◌≡◌, sym, ap, ◌∙◌, false, true, Bool}
 use Rattle.std.proofs.lemmas.Result.{err_from_is_err_and}
-use Rattle.vlog_tokens.specs.Language.{State}
-use Rattle.vlog_tokens.proofs.Readers.{reads_found, reads_spent, state, Nexts}
+use Rattle.vlog_tokens.proofs.Readers.{reads_found, reads_spent, state}
 use Rattle.vlog_tokens.proofs.tokens.VTokens.next.Goals as goal
 
 pub returns-then-self : goal.returns-then-self
