@@ -1,24 +1,25 @@
 ghost use Rattle.std.specs.Prelude.{◌≡◌, ◌≢◌, ◌↔◌, Ok, Err, Some, None, IfSome};
 ghost use Rattle.nl_io.specs.Causes.{Rose};
 ghost use Rattle.readers.specs.Sources.{supply};
+ghost use Rattle.netlist_cli.specs.declared.command.Command.TheVariants as commands;
 ghost use Rattle.netlist_cli.specs.Commands.{command};
 ghost use Rattle.netlist_cli.specs.Lines.{line};
-ghost use Rattle.netlist_cli.specs.Runs.{BrokeOff, FitsBytes, Formats, IsDecided, IsTold, IsTooLong, Performs, TakesFrom, TellsFault, WroteFile};
+ghost use Rattle.netlist_cli.specs.Runs.{BrokeOff, Does, FitsBytes, IsDecided, IsTold, IsTooLong, Performs, TakesFrom, TellsFault, WroteText};
 ghost use Rattle.netlist_cli.specs.Statuses.{status_of};
 
 use crate::command::Command;
 use crate::failure::Failure;
 use crate::line::report;
 use crate::status::Status;
-use edif_library::{EdifFile, read_edif};
+use edif_library::read_edif;
 use edif_writer::write_edif;
-use nl_base::{ReadError, Seq, Text};
+use nl_base::{Seq, Text};
 use nl_io::{Failed, Sink, Source};
 use std::alloc::Global;
 
 /// Reads an EDIF file and writes its text.
 fn format<S: Source, O: Sink>(alloc: Global, input: &mut S, output: &mut O) -> Result<(), Failure>
-    ensures formats { Formats O.taken O.accepts O.faults (supply S.left S.faults input.old) (supply S.left S.faults input.new) output.old output.new result }
+    ensures does { Does O.taken O.accepts O.faults commands.Format (supply S.left S.faults input.old) (supply S.left S.faults input.new) output.old output.new result }
     ensures taken { TakesFrom (supply S.left S.faults input.old) (supply S.left S.faults input.new) }
 {
     match read_edif(alloc, input) {
@@ -37,8 +38,7 @@ fn perform<S: Source, O: Sink>(
     input: &mut S,
     output: &mut O,
 ) -> Result<(), Failure>
-    ensures performs { Performs (command words.now) input.old input.new output.old output.new result
-        (Formats O.taken O.accepts O.faults (supply S.left S.faults input.old) (supply S.left S.faults input.new) output.old output.new result) }
+    ensures performs { Performs O.taken O.accepts O.faults (supply S.left S.faults) (command words.now) input.old input.new output.old output.new result }
     ensures taken { TakesFrom (supply S.left S.faults input.old) (supply S.left S.faults input.new) }
 {
     match Command::of(words) {
@@ -56,21 +56,24 @@ pub fn run<S: Source, O: Sink, E: Sink>(
     output: &mut O,
     errors: &mut E,
 ) -> Status
-    ensures done { result ≡ Status.Done → WroteFile O.taken O.accepts O.faults (supply S.left S.faults input.old) (supply S.left S.faults input.new) output.old output.new }
-    ensures text_fault { result ≡ Status.TextFault → TellsFault E.taken E.accepts E.faults (supply S.left S.faults input.old) (supply S.left S.faults input.new) errors.old errors.new }
+    ensures done { result ≡ Status.Done
+        → IfSome (command words.now) (λ c. WroteText O.taken O.accepts O.faults c (supply S.left S.faults input.old) (supply S.left S.faults input.new) output.old output.new) }
+    ensures text_fault { result ≡ Status.TextFault
+        → IfSome (command words.now) (λ c. TellsFault E.taken E.accepts E.faults c (supply S.left S.faults input.old) (supply S.left S.faults input.new) errors.old errors.new) }
     ensures refused { result ≢ Status.Refused }
     ensures read_fault { result ≡ Status.ReadFault → Rose (S.faults input.old) (S.faults input.new) }
-    ensures write_fault { result ≡ Status.WriteFault → BrokeOff O.taken O.accepts O.faults (supply S.left S.faults input.old) (supply S.left S.faults input.new) output.old output.new }
+    ensures write_fault { result ≡ Status.WriteFault
+        → IfSome (command words.now) (λ c. BrokeOff O.taken O.accepts O.faults c (supply S.left S.faults input.old) (supply S.left S.faults input.new) output.old output.new) }
     ensures usage { (result ≡ Status.Usage) ↔ (command words.now ≡ None) }
-    ensures limit { result ≡ Status.Limit → IsTooLong (supply S.left S.faults input.old) }
+    ensures limit { result ≡ Status.Limit → IfSome (command words.now) (λ c. IsTooLong c (supply S.left S.faults input.old)) }
     ensures taken { TakesFrom (supply S.left S.faults input.old) (supply S.left S.faults input.new) }
     ensures unread { result ≡ Status.Usage → input.new ≡ input.old }
     ensures unwritten { result ≢ Status.Done → result ≢ Status.WriteFault → output.new ≡ output.old }
     ensures silent { result ≡ Status.Done → errors.new ≡ errors.old }
     ensures told { (failure : Failure) → status_of failure ≡ result → result ≢ Status.TextFault → IsTold E.taken E.accepts E.faults errors.old errors.new (line failure) }
-    ensures exact { IfSome (S.left input.old) (λ bs. FitsBytes bs result) }
-    ensures complete { command words.now ≡ Some Command.Format → ¬ Rose (S.faults input.old) (S.faults input.new)
-        → IfSome (S.left input.old) (λ bs. IsDecided bs (Rose (O.faults output.old) (O.faults output.new)) result) }
+    ensures exact { IfSome (command words.now) (λ c. IfSome (S.left input.old) (λ bs. FitsBytes c bs result)) }
+    ensures complete { ¬ Rose (S.faults input.old) (S.faults input.new)
+        → IfSome (command words.now) (λ c. IfSome (S.left input.old) (λ bs. IsDecided c bs (Rose (O.faults output.old) (O.faults output.new)) result)) }
 {
     match perform(alloc, words, input, output) {
         Ok(()) => Status::Done,

@@ -10,7 +10,7 @@ returns-in-Ok g c =
     (command c.args.words.now) (Ok tt) _ (rw c.in-Ok.is at c.perform.ensures.performs) refl in
     record {
       done = ends.done;
-      text_fault = none_told g.E.Sink.taken g.E.Sink.accepts g.E.Sink.faults c.args.errors.now c.args.errors.now
+      text_fault = none_told g.E.Sink.taken g.E.Sink.accepts g.E.Sink.faults c.args.errors.now c.args.errors.now (command c.args.words.now)
           (supply g.S.Source.left g.S.Source.faults c.args.input.now) (supply g.S.Source.left g.S.Source.faults c.perform.new.input);
       refused = ends.refused;
       read_fault = ends.read_fault;
@@ -33,7 +33,7 @@ returns-in-Err g c =
     (command c.args.words.now) (Err c.in-Err.failure) c.report.result performed c.report.ensures.status in
     record {
       done = ends.done;
-      text_fault = fault_told g.E.Sink.taken g.E.Sink.accepts g.E.Sink.faults c.args.errors.now c.report.new.errors
+      text_fault = fault_told g.E.Sink.taken g.E.Sink.accepts g.E.Sink.faults c.args.errors.now c.report.new.errors (command c.args.words.now)
           (supply g.S.Source.left g.S.Source.faults c.args.input.now) (supply g.S.Source.left g.S.Source.faults c.perform.new.input)
           c.report.result c.in-Err.failure c.report.ensures.status c.report.ensures.told
           (fault_of g.S.Source.left g.S.Source.faults g.O.Sink.taken g.O.Sink.accepts g.O.Sink.faults c.args.input.now c.perform.new.input c.args.output.now c.perform.new.output

@@ -1,0 +1,34 @@
+-- What comes of an input for each command, by the bytes of the input alone.
+use Rattle.std.specs.Prelude.{◌≡◌, ℕ, List}
+use Rattle.nl_base.specs.declared.fault.TextFault.{TextFault}
+use Rattle.edif_library.specs.Text.{EdifReads, EdifFault, EdifCut}
+use Rattle.edif_writer.specs.Forms.{edif_text}
+use Rattle.netlist_cli.specs.declared.command.Command.{Command}
+use Rattle.netlist_cli.specs.declared.command.Command.TheVariants as commands
+
+-- What comes of an input: a text to be written, a first fault, or more bytes than are read, without a fault within them.
+pub data Outcome : Type 0 where
+  written : List ℕ → Outcome
+  faulty : TextFault → Outcome
+  too_long : Outcome
+
+-- the text is the written text of a value
+pub record IsTextOf {V : Type 0} (text_of : V → List ℕ) (text : List ℕ) : Type 0 where
+  pub value : V
+  pub is_text : text ≡ text_of value
+
+-- the bytes read as a value, and the text is its written text
+pub record Formats {V : Type 0} (reads : List ℕ → V → Type 0) (text_of : V → List ℕ) (bytes text : List ℕ) : Type 0 where
+  pub value : V
+  pub reads_as : reads bytes value
+  pub is_text : text ≡ text_of value
+
+-- the text is one that the command writes
+abbrev pub IsText : Command → List ℕ → Type 0
+IsText commands.Format text = IsTextOf edif_text text
+
+-- what comes of the bytes for the command
+abbrev pub Gives : Command → List ℕ → Outcome → Type 0
+Gives commands.Format bytes (written text) = Formats EdifReads edif_text bytes text
+Gives commands.Format bytes (faulty fault) = EdifFault bytes fault
+Gives commands.Format bytes too_long = EdifCut bytes
