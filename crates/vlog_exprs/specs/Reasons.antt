@@ -8,11 +8,9 @@ use Rattle.grammar.specs.Part.{Glance, takes, refuses, leaves}
 use Rattle.nl_base.specs.Case.{same_bytes}
 use Rattle.nl_base.specs.declared.fault.Reason.{Reason}
 use Rattle.nl_base.specs.declared.fault.Reason.TheVariants as reasons
-use Rattle.nl_base.specs.declared.number.Scaled.{Scaled}
 use Rattle.vlog_values.specs.declared.expression.Const.{Const}
 use Rattle.vlog_values.specs.declared.expression.Const.TheVariants as consts
 use Rattle.vlog_values.specs.declared.literal.Literal.{Literal}
-use Rattle.vlog_values.specs.declared.literal.Based.{Based}
 use Rattle.vlog_tokens.specs.declared.token.VFound.{VFound}
 use Rattle.vlog_tokens.specs.declared.token.VToken.{VToken}
 use Rattle.vlog_tokens.specs.declared.token.VToken.TheVariants as token

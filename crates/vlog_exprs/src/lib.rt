@@ -12,7 +12,7 @@ pub mod constant;
 pub mod cursor;
 pub mod expr;
 pub mod glance;
-mod reasons;
+pub mod reasons;
 pub mod start;
 pub mod steps;
 
