@@ -1,6 +1,8 @@
 pub mod Braces
 pub mod Clear
+pub mod Constants
 pub mod Ends
+pub mod Expressions
 pub mod Glances
 pub mod Live
 pub mod OneToken

@@ -12,6 +12,7 @@ pub mod constant;
 pub mod cursor;
 pub mod expr;
 pub mod glance;
+pub mod laws;
 pub mod reasons;
 pub mod start;
 pub mod steps;
