@@ -1,17 +1,15 @@
 -- What is read as a constant is what the extended BNF has for one.
-use Rattle.std.proofs.Common.{◌≡◌, ◌∙◌, sym, ap, subst, refl, ◌↔◌, ◌⊎◌, inl, inr, ℕ, nat_eq, ℤ, neg_ℤ, nat_abs, Bool, true, false, List, [], ◌∷◌, ◌++◌, append-nil, Some, None, Ok, Err}
+use Rattle.std.proofs.Common.{◌≡◌, ◌∙◌, sym, ap, subst, refl, ◌↔◌, inl, inr, ℕ, nat_eq, ℤ, neg_ℤ, nat_abs, Bool, true, false, [], ◌∷◌, ◌++◌, append-nil, Some, None, Ok, Err}
 use Rattle.std.proofs.lemmas.Bool.Decides.{Decides-eqb}
 use Rattle.grammar.specs.Part.{takes}
 use Rattle.grammar.specs.Texts.{Spells}
 use Rattle.grammar.specs.Whole.{proper, end}
 use Rattle.nl_base.specs.declared.fault.Reason.TheVariants as reasons
-use Rattle.nl_base.specs.declared.number.Scaled.{Scaled}
 use Rattle.readers.specs.Parts.{one, if_next}
 use Rattle.vlog_tokens.specs.declared.token.VToken.{VToken}
 use Rattle.vlog_tokens.specs.declared.token.VToken.TheVariants as token
 use Rattle.vlog_values.specs.declared.expression.Const.{Const}
 use Rattle.vlog_values.specs.declared.expression.Const.TheVariants as consts
-use Rattle.vlog_values.specs.declared.literal.Based.{Based}
 use Rattle.vlog_exprs.specs.declared.start.ConstStart.{ConstStart}
 use Rattle.vlog_exprs.specs.declared.start.ConstStart.TheVariants as starts
 use Rattle.vlog_exprs.specs.Reasons as say
@@ -146,9 +144,14 @@ unfolding constant const_rest sized_const digits if_next
 text_const ts c (string s t e) = text_whole (token.Str s) (consts.Str s) ts c refl t e
 text_const ts c (of_number h) = text_number ts c h
 text_const ts c (sized_literal n d a b e t u z f) =
-    let taken : say.at_digits n (token.Based d) ≡ takes (record { size = nat_abs n; based = d }) = rw z refl in
-    (starts.Number n, a, b, e, text_due say.const_start (token.Number n) a (starts.Number n) refl t,
-      (Some (record { size = nat_abs n; based = d }), b, [], sym (append-nil b), inl (proper u.0, record { size = nat_abs n; based = d }, [], u.1, ap (say.at_digits n) u.2 ∙ taken, (refl, refl)), (refl, f)))
+    let taken : say.at_digits n (token.Based d) ≡ takes (record { size = nat_abs n; based = d }) = rw z refl in (
+      starts.Number n,
+      a,
+      b,
+      e,
+      text_due say.const_start (token.Number n) a (starts.Number n) refl t,
+      (Some (record { size = nat_abs n; based = d }), b, [], sym (append-nil b), inl (proper u.0, record { size = nat_abs n; based = d }, [], u.1, ap (say.at_digits n) u.2 ∙ taken, (refl, refl)), (refl, f)),
+    )
 text_const ts c (loose_literal d t e) = text_whole (token.Based d) (consts.Loose d) ts c refl t e
 
 -- The tokens that read as a constant are those that the extended BNF has for it.

@@ -1,12 +1,12 @@
 -- What is read as an expression is what the extended BNF has for one.
-use Rattle.std.proofs.Common.{◌≡◌, ◌∙◌, sym, ap, subst, refl, ◌↔◌, ◌⊎◌, inl, inr, ℕ, zero, suc, nat_eq, ℤ, pos, neg_ℤ, nat_abs, Bool, true, false, cond, List, [], ◌∷◌, ◌++◌, append_assoc, append-nil, Option, Some, None, Result, Ok, Err}
+use Rattle.std.proofs.Common.{◌≡◌, ◌∙◌, sym, ap, subst, refl, ◌↔◌, ◌⊎◌, inl, inr, ℕ, zero, suc, nat_eq, ℤ, neg_ℤ, nat_abs, Bool, true, false, List, [], ◌∷◌, ◌++◌, append_assoc, append-nil, Some, None, Result, Ok, Err}
 use Rattle.std.proofs.lemmas.Bool.Decides.{Decides-eqb}
-use Rattle.grammar.specs.Part.{Glance, gives, sequence, takes, refuses, leaves}
+use Rattle.grammar.specs.Part.{Glance, gives, sequence, takes, refuses}
 use Rattle.grammar.specs.Texts.{Spells, Rounds, ends, goes}
-use Rattle.grammar.specs.Whole.{Terminal, proper, end}
+use Rattle.grammar.specs.Whole.{proper, end}
 use Rattle.nl_base.specs.declared.fault.Reason.{Reason}
 use Rattle.nl_base.specs.declared.fault.Reason.TheVariants as reasons
-use Rattle.readers.specs.Parts.{of_token, at_token, one, if_next, while_next}
+use Rattle.readers.specs.Parts.{at_token, one, if_next, while_next}
 use Rattle.vlog_tokens.specs.declared.token.VFound.{VFound}
 use Rattle.vlog_tokens.specs.declared.token.VToken.{VToken}
 use Rattle.vlog_tokens.specs.declared.token.VToken.TheVariants as token
@@ -159,7 +159,7 @@ select_text ts s h = elim (after_text 91 (sequence bound select_rest) (gives sel
     behind m (inl c) =
         let r = rest_slice m.text.0 c.rest s c.text in
         slice m.text.0 r.0 m.before m.text.1 c.before r.1.bound r.1.rest (m.is ∙ ap (λ z. m.before ++ z) (m.text.3 ∙ ap (λ z. m.text.1 ++ z) (c.is ∙ ap (λ z. c.before ++ z) r.1.is)))
-            m.mark (bound_text m.text.1 m.text.0 m.text.4) c.mark r.1.text r.1.close r.2
+        m.mark (bound_text m.text.1 m.text.0 m.text.4) c.mark r.1.text r.1.close r.2
 
     bracketed : Marked 91 (sequence bound select_rest) ts s → SelectText ts s
     bracketed m = behind m (after_text 58 (slice_part m.text.0) (one_part m.text.0) m.text.2 s m.text.5)
@@ -181,13 +181,20 @@ text_select ts s (slice l r a b c d g e m t k u z f) =
       rest = b ++ (c ++ (d ++ g));
       is = e;
       mark = m;
-      text = (l, b, c ++ (d ++ g), refl, text_bound b l t, text_after 58 (slice_part l) (one_part l) (c ++ (d ++ g)) s (inl (record {
-        before = c;
-        rest = d ++ g;
-        is = refl;
-        mark = k;
-        text = (r, d, g, refl, text_bound d r u, (tt, g, [], sym (append-nil g), text_mark 93 g z, (refl, f)));
-      })));
+      text = (
+        l,
+        b,
+        c ++ (d ++ g),
+        refl,
+        text_bound b l t,
+        text_after 58 (slice_part l) (one_part l) (c ++ (d ++ g)) s (inl (record {
+          before = c;
+          rest = d ++ g;
+          is = refl;
+          mark = k;
+          text = (r, d, g, refl, text_bound d r u, (tt, g, [], sym (append-nil g), text_mark 93 g z, (refl, f)));
+        })),
+      );
     }))
 
 -- ---- lists
@@ -226,7 +233,7 @@ module _ {A : Type 0} (p : Vlog A) (P : Tokens → A → Type 0) where
       let es_is : (s ++ v ∷ []) ++ ws ≡ s ++ vs = append_assoc s (v ∷ []) ws ∙ ap (λ z. s ++ z) (sym f) in
       let ts_is : ts ≡ (proper m.0 ∷ b) ++ c = e ∙ ap (λ z. z ++ (b ++ c)) m.1 in
       goes (s ++ v ∷ []) (proper m.0 ∷ b) c (proper m.0, tt, b, refl, ap (say.at_mark 44) comma ∙ refl, (v, b, [], sym (append-nil b), h b v pv, (refl, refl)))
-          (subst (λ z. CommaRounds (s ++ v ∷ []) c z) es_is (tail_rounds h (s ++ v ∷ []) tail)) ts_is
+      (subst (λ z. CommaRounds (s ++ v ∷ []) c z) es_is (tail_rounds h (s ++ v ∷ []) tail)) ts_is
 
   commas_tail : ((ts : Tokens) (v : A) → Texts p ts v → P ts v) → (s : List A) (ts : Tokens) (es : List A) → Texts (commas p (mark 125) s) ts es → (vs : List A) × (es ≡ s ++ vs) × TailText P (token.Punct 125) ts vs
   unfolding commas while_next
@@ -395,9 +402,14 @@ unfolding expr_by expr_rest sized digits if_next
 text_plain left room inner ts e (ref n s a b f t k g) = (starts.Name n, a, b, f, text_start left room a (starts.Name n) t, (s, b, [], sym (append-nil b), text_select b s k, (refl, g)))
 text_plain left room inner ts e (literal n d a b l f t u z g) =
     let l_is : Literal = record { size = nat_abs n; based = d } in
-    let taken : say.at_digits n (token.Based d) ≡ takes (record { size = nat_abs n; based = d }) = rw z refl in
-    (starts.Number n, a, b, f, text_start left room a (starts.Number n) (l, t),
-      (Some (record { size = nat_abs n; based = d }), b, [], sym (append-nil b), inl (proper u.0, record { size = nat_abs n; based = d }, [], u.1, ap (say.at_digits n) u.2 ∙ taken, (refl, refl)), (refl, g)))
+    let taken : say.at_digits n (token.Based d) ≡ takes (record { size = nat_abs n; based = d }) = rw z refl in (
+      starts.Number n,
+      a,
+      b,
+      f,
+      text_start left room a (starts.Number n) (l, t),
+      (Some (record { size = nat_abs n; based = d }), b, [], sym (append-nil b), inl (proper u.0, record { size = nat_abs n; based = d }, [], u.1, ap (say.at_digits n) u.2 ∙ taken, (refl, refl)), (refl, g)),
+    )
 text_plain left room inner ts e (number n l t g) = (starts.Number n, ts, [], sym (append-nil ts), text_start left room ts (starts.Number n) (l, t), (None, [], [], refl, inr (refl, refl), (refl, g)))
 text_plain left room inner ts e (loose d l t g) = (starts.Based d, ts, [], sym (append-nil ts), text_start left room ts (starts.Based d) (l, t), (refl, g))
 
@@ -438,7 +450,7 @@ module _ (left : Bool) (room : ℕ) (inner : Vlog Expr) (P : Tokens → Expr →
         let k_is : k ≡ closing.1 = closing.3 ∙ alone closing.1 closing.2 closing.5.0 in
         let rest_is : m.rest ≡ whole.list ++ (whole.mark ++ closing.1) = m.text.3 ∙ ap (λ z. z ++ k) g_is ∙ ap (λ z. (whole.list ++ whole.mark) ++ z) k_is ∙ append_assoc whole.list whole.mark closing.1 in
         rep n (items.0 ∷ tail.0) a c m.before whole.list whole.mark closing.1 l (ap (λ z. a ++ (c ++ z)) (m.is ∙ ap (λ z. m.before ++ z) rest_is)) t num m.mark whole.text whole.closing (mark_text 125 closing.1 closing.0 closing.4)
-            (closing.5.1 ∙ ap (exprs.Rep n) tail.1)
+        (closing.5.1 ∙ ap (exprs.Rep n) tail.1)
 
     braced_text : (u : ExprStart) (a c d : Tokens) (e : Expr) → IsToken (token.Punct 123) a → Texts (expr_start left room) c u → Texts (braced inner_expr inner u) d e → BracedText left P (a ++ (c ++ d)) e
     unfolding braced
@@ -467,24 +479,40 @@ module _ (left : Bool) (room : ℕ) (inner : Vlog Expr) (P : Tokens → Expr →
     text_cat es b e l g =
         let first = h l.first l.value l.head in
         let others = tail_commas inner_expr P h (l.value ∷ []) l.rest l.others l.tail in
-        let b_is : b ≡ first.1 ++ (first.2 ++ l.rest) = l.is ∙ ap (λ z. z ++ l.rest) first.3 ∙ append_assoc first.1 first.2 l.rest in
-        (first.0, first.1, first.2 ++ l.rest, b_is, first.4,
-          text_braced first.0 (first.2 ++ l.rest) e (l.value, first.2, l.rest, refl, first.5, (l.value ∷ l.others, l.rest, [], sym (append-nil l.rest), others, (refl, g ∙ ap exprs.Cat l.values))))
+        let b_is : b ≡ first.1 ++ (first.2 ++ l.rest) = l.is ∙ ap (λ z. z ++ l.rest) first.3 ∙ append_assoc first.1 first.2 l.rest in (
+          first.0,
+          first.1,
+          first.2 ++ l.rest,
+          b_is,
+          first.4,
+          text_braced first.0 (first.2 ++ l.rest) e (l.value, first.2, l.rest, refl, first.5, (l.value ∷ l.others, l.rest, [], sym (append-nil l.rest), others, (refl, g ∙ ap exprs.Cat l.values))),
+        )
 
     text_rep : (n : ℤ) (es : List Expr) (b c d f g : Tokens) (e : Expr) → left ≡ false → IsToken (token.Number n) b → IsToken (token.Punct 123) c → Headed P (token.Punct 125) (d ++ f) es → IsToken (token.Punct 125) g → e ≡ exprs.Rep n es
         → Texts (sequence (expr_start left room) (braced inner_expr inner)) (b ++ (c ++ (d ++ (f ++ g)))) e
     unfolding braced rep_rest list
     text_rep n es b c d f g e l num brace items close k =
-        let others = tail_commas inner_expr P h (items.value ∷ []) items.rest items.others items.tail in
-        (starts.Number n, b, c ++ (d ++ (f ++ g)), refl, text_start left room b (starts.Number n) (l, num),
+        let others = tail_commas inner_expr P h (items.value ∷ []) items.rest items.others items.tail in (
+          starts.Number n,
+          b,
+          c ++ (d ++ (f ++ g)),
+          refl,
+          text_start left room b (starts.Number n) (l, num),
           text_after 123 (rep_rest inner_expr n) (sequence (sized n) (cat_rest inner_expr)) (c ++ (d ++ (f ++ g))) e (inl (record {
             before = c;
             rest = d ++ (f ++ g);
             is = refl;
             mark = brace;
-            text = (items.value ∷ items.others, d ++ f, g, sym (append_assoc d f g), (items.value, items.first, items.rest, items.is, h items.first items.value items.head, others),
-              (tt, g, [], sym (append-nil g), text_mark 125 g close, (refl, k ∙ ap (exprs.Rep n) items.values)));
-          })))
+            text = (
+              items.value ∷ items.others,
+              d ++ f,
+              g,
+              sym (append_assoc d f g),
+              (items.value, items.first, items.rest, items.is, h items.first items.value items.head, others),
+              (tt, g, [], sym (append-nil g), text_mark 125 g close, (refl, k ∙ ap (exprs.Rep n) items.values)),
+            );
+          })),
+        )
 
     -- what stands behind the first brace
     pub record Behind (ts : Tokens) (e : Expr) : Type 0 where

@@ -1,7 +1,7 @@
 -- Expressions and constants in the words of the extended BNF (IEEE 1364-2005, A.8.1, A.8.3 and A.8.5): each constructor is one way in which
 -- tokens spell one. Here no token is looked at ahead, and what several ways have in common stands in each of them.
 use Rattle.std.specs.Prelude.{◌≡◌, ◌⊎◌, ℕ, zero, suc, ℤ, neg_ℤ, nat_abs, Bool, true, false, List, [], ◌∷◌, ◌++◌}
-use Rattle.grammar.specs.Whole.{Terminal, proper, end}
+use Rattle.grammar.specs.Whole.{Terminal, proper}
 use Rattle.nl_base.specs.declared.number.Scaled.{Scaled}
 use Rattle.nl_base.specs.declared.place.Place.{Place}
 use Rattle.vlog_tokens.specs.declared.token.VFound.{VFound}

@@ -1,6 +1,6 @@
 -- What a token says at its place, or the reason for which it may not stand there: one definition for each kind of place (IEEE 1364-2005, 3).
--- The order is that of the reasons, of which the first that fits is given: the end of the input and the faults within a token come before all
--- of these.
+-- The order is that of the reasons, of which the first that fits is given, but for the last two, which the others fall back on: the end of the
+-- input and the faults within a token come before all of these.
 use Rattle.std.specs.Prelude.{ℕ, zero, suc, nat_eq, Bool, true, false, ◌&&◌, if◌then◌else◌, List, [], ◌∷◌, Option, Some, None, option_map, Result, Ok, Err, ℤ, pos, negsuc, neg_ℤ, int_lt, nat_abs, map}
 use Rattle.std.specs.Borrow.{Bor}
 use Rattle.std.specs.List.{find}
