@@ -1,6 +1,5 @@
 -- The size of a file: the number of items in all its lists at every depth. The bytes of a text are no items.
 use Rattle.std.specs.Prelude.{ℕ, ◌+◌, List, length, sum, sum_by, Option, Some, None}
-use Rattle.vlog_values.specs.declared.expression.Attr.{Attr}
 use Rattle.vlog_values.specs.declared.expression.Expr.{Expr}
 use Rattle.vlog_values.specs.declared.expression.Expr.TheFolds.{fold-Expr}
 use Rattle.vlog_values.specs.declared.expression.Expr.TheOpen.{Expr-F}

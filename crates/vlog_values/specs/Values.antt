@@ -1,5 +1,5 @@
 -- The files that are read from a text or can be written: what the types of a value do not keep (IEEE 1364-2005, 3, 5.1.14 and 12).
-use Rattle.std.specs.Prelude.{◌≡◌, ◌≤◌, ◌<◌, ◌^◌, ⊤, ⊥, ℕ, zero, suc, ℤ, pos, nat_abs, ◌≤ℤ◌, Bool, true, false, List, [], ◌∷◌, length, Option, Some, None, IfSome}
+use Rattle.std.specs.Prelude.{◌≡◌, ◌≤◌, ◌<◌, ◌^◌, ⊤, ℕ, zero, suc, ℤ, pos, nat_abs, ◌≤ℤ◌, Bool, true, false, List, [], ◌∷◌, length, Option, Some, None, IfSome}
 use Rattle.std.specs.List.{AllByRecursion, list_all}
 use Rattle.nl_base.specs.Ranges.{Bounds}
 use Rattle.nl_base.specs.declared.number.Scaled.{Scaled}
@@ -12,7 +12,8 @@ use Rattle.vlog_values.specs.declared.expression.Select.{Select}
 use Rattle.vlog_values.specs.declared.expression.Select.TheVariants as selects
 use Rattle.vlog_values.specs.declared.expression.Expr.{Expr}
 use Rattle.vlog_values.specs.declared.expression.Expr.TheFolds.{fold-Expr}
-use Rattle.vlog_values.specs.declared.expression.Expr.TheOpen.{Expr-F, out-Expr}
+use Rattle.vlog_values.specs.declared.expression.Expr.TheOpen.{Expr-F}
+use Rattle.vlog_values.specs.declared.expression.Expr.TheViews.{out-Expr}
 use Rattle.vlog_values.specs.declared.declaration.PortDecl.{PortDecl}
 use Rattle.vlog_values.specs.declared.declaration.NetDecl.{NetDecl}
 use Rattle.vlog_values.specs.declared.declaration.ParamType.{ParamType}
