@@ -171,8 +171,8 @@ instance = do
   gives (record { name = n; conns = cs })
 
 -- over    = "." NAME "(" const ")"
-unfoldable pub override : Vlog ParamSet
-override = do
+unfoldable pub override_set : Vlog ParamSet
+override_set = do
   _ ← mark 46
   n ← name
   _ ← mark 40
@@ -182,7 +182,7 @@ override = do
 
 -- ["#" "(" over {"," over} ")"]
 unfoldable pub overrides : Vlog (List ParamSet)
-overrides = after 35 (sequence (mark 40) (λ _. list override (mark 41))) (gives [])
+overrides = after 35 (sequence (mark 40) (λ _. list override_set (mark 41))) (gives [])
 
 -- ["#" "(" over {"," over} ")"] inst {"," inst} ";", behind the name of a module
 unfoldable pub instances : List Attr → List ℕ → Vlog Instances

@@ -4,7 +4,7 @@ ghost use Rattle.readers.specs.Sources.{supply};
 ghost use Rattle.readers.specs.Readers.{same, Reads, ReadsMaybe, TakesNext};
 ghost use Rattle.vlog_tokens.specs.Language.{vlog};
 ghost use Rattle.vlog_exprs.specs.Reasons as say;
-ghost use Rattle.vlog_exprs.specs.Grammar.{name, mark, list};
+ghost use Rattle.vlog_exprs.specs.Grammar.{name, mark, commas, list};
 ghost use Rattle.vlog_items.specs.Grammar.{signed, port_kind, port_item, net_item};
 
 use nl_base::{Dir, ReadError, Seq, Text};
@@ -13,24 +13,38 @@ use std::alloc::Global;
 use vlog_exprs::{VCursor, read_range_if_any};
 use vlog_values::{Attr, NetDecl, NetKind, PortDecl, PortKind};
 
-/// Reads one name or more, separated by commas, and the mark behind them.
-#[tactic(auto, using(readers::proofs::Choices::loops), unfolding(vlog_exprs::specs::Grammar::list, vlog_exprs::specs::Grammar::commas))]
-pub fn read_names<S: Source>(
+/// Reads further names, each behind a comma, and the mark behind them, and adds the names to others.
+#[tactic(auto, using(readers::proofs::Choices::loops), unfolding(vlog_exprs::specs::Grammar::commas))]
+pub fn read_more_names<S: Source>(
     alloc: Global,
     cursor: &mut VCursor,
+    mut names: Seq<Text>,
     close: u8,
     source: &mut S,
 ) -> Result<Seq<Text>, ReadError>
-    ensures { Reads vlog same (list name (mark close)) result cursor.old cursor.new (supply S.left S.faults source.old) (supply S.left S.faults source.new) }
+    ensures { Reads vlog same (commas name (mark close) names) result cursor.old cursor.new (supply S.left S.faults source.old) (supply S.left S.faults source.new) }
 {
-    let mut names = Seq::empty(alloc);
-    let name = cursor.name(alloc, source)?;
-    cursor.add(&mut names, name)?;
     while cursor.takes(alloc, b',', source)? {
         let name = cursor.name(alloc, source)?;
         cursor.add(&mut names, name)?;
     }
     cursor.mark(alloc, close, source)?;
+    Ok(names)
+}
+
+/// Reads one name or more up to the `;`.
+#[tactic(auto, using(readers::proofs::Reading::sequences), unfolding(vlog_exprs::specs::Grammar::list))]
+fn read_names<S: Source>(
+    alloc: Global,
+    cursor: &mut VCursor,
+    source: &mut S,
+) -> Result<Seq<Text>, ReadError>
+    ensures { Reads vlog same (list name (mark 59)) result cursor.old cursor.new (supply S.left S.faults source.old) (supply S.left S.faults source.new) }
+{
+    let first = cursor.name(alloc, source)?;
+    let mut names = Seq::empty(alloc);
+    cursor.add(&mut names, first)?;
+    let names = read_more_names(alloc, cursor, names, b';', source)?;
     Ok(names)
 }
 
@@ -81,7 +95,7 @@ pub(crate) fn read_port_item<S: Source>(
     let kind = read_port_kind(alloc, cursor, source)?;
     let signed = read_signed(alloc, cursor, source)?;
     let range = read_range_if_any(alloc, cursor, source)?;
-    let names = read_names(alloc, cursor, b';', source)?;
+    let names = read_names(alloc, cursor, source)?;
     Ok(PortDecl {
         attrs,
         dir,
@@ -105,7 +119,7 @@ pub(crate) fn read_net_item<S: Source>(
 {
     let signed = read_signed(alloc, cursor, source)?;
     let range = read_range_if_any(alloc, cursor, source)?;
-    let names = read_names(alloc, cursor, b';', source)?;
+    let names = read_names(alloc, cursor, source)?;
     Ok(NetDecl {
         attrs,
         kind,

@@ -4,7 +4,7 @@ ghost use Rattle.readers.specs.Sources.{supply};
 ghost use Rattle.readers.specs.Readers.{same, Reads, ReadsMaybe};
 ghost use Rattle.vlog_tokens.specs.Language.{vlog};
 ghost use Rattle.vlog_exprs.specs.Grammar.{mark, list};
-ghost use Rattle.vlog_items.specs.Grammar.{instance, override, overrides, instances};
+ghost use Rattle.vlog_items.specs.Grammar.{instance, override_set, overrides, instances};
 
 use crate::connection::read_conns;
 use nl_base::{ReadError, Seq, Text};
@@ -49,13 +49,13 @@ fn read_insts<S: Source>(
 }
 
 /// Reads the value of a parameter of an instance.
-#[tactic(auto, using(readers::proofs::Reading::sequences), unfolding(crate::specs::Grammar::override))]
+#[tactic(auto, using(readers::proofs::Reading::sequences), unfolding(crate::specs::Grammar::override_set))]
 fn read_override<S: Source>(
     alloc: Global,
     cursor: &mut VCursor,
     source: &mut S,
 ) -> Result<ParamSet, ReadError>
-    ensures { Reads vlog same override result cursor.old cursor.new (supply S.left S.faults source.old) (supply S.left S.faults source.new) }
+    ensures { Reads vlog same override_set result cursor.old cursor.new (supply S.left S.faults source.old) (supply S.left S.faults source.new) }
 {
     cursor.mark(alloc, b'.', source)?;
     let name = cursor.name(alloc, source)?;
@@ -72,7 +72,7 @@ fn read_override_list<S: Source>(
     cursor: &mut VCursor,
     source: &mut S,
 ) -> Result<Seq<ParamSet>, ReadError>
-    ensures { Reads vlog same (list override (mark 41)) result cursor.old cursor.new (supply S.left S.faults source.old) (supply S.left S.faults source.new) }
+    ensures { Reads vlog same (list override_set (mark 41)) result cursor.old cursor.new (supply S.left S.faults source.old) (supply S.left S.faults source.new) }
 {
     let mut sets = Seq::empty(alloc);
     let set = read_override(alloc, cursor, source)?;
@@ -108,16 +108,16 @@ pub(crate) fn read_instances<S: Source>(
     alloc: Global,
     cursor: &mut VCursor,
     attrs: Seq<Attr>,
-    module: Text,
+    of_module: Text,
     source: &mut S,
 ) -> Result<Instances, ReadError>
-    ensures { Reads vlog same (instances attrs module) result cursor.old cursor.new (supply S.left S.faults source.old) (supply S.left S.faults source.new) }
+    ensures { Reads vlog same (instances attrs of_module) result cursor.old cursor.new (supply S.left S.faults source.old) (supply S.left S.faults source.new) }
 {
     let params = read_overrides(alloc, cursor, source)?;
     let insts = read_insts(alloc, cursor, source)?;
     Ok(Instances {
         attrs,
-        module,
+        module: of_module,
         params,
         insts,
     })

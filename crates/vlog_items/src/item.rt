@@ -96,12 +96,12 @@ fn read_instances_item<S: Source>(
     alloc: Global,
     cursor: &mut VCursor,
     attrs: Seq<Attr>,
-    module: Text,
+    of_module: Text,
     source: &mut S,
 ) -> Result<ItemV, ReadError>
-    ensures { Reads vlog same (instances_item attrs module) result cursor.old cursor.new (supply S.left S.faults source.old) (supply S.left S.faults source.new) }
+    ensures { Reads vlog same (instances_item attrs of_module) result cursor.old cursor.new (supply S.left S.faults source.old) (supply S.left S.faults source.new) }
 {
-    let instances = read_instances(alloc, cursor, attrs, module, source)?;
+    let instances = read_instances(alloc, cursor, attrs, of_module, source)?;
     Ok(ItemV::Instances(instances))
 }
 
@@ -116,8 +116,8 @@ fn read_item_of<S: Source>(
     ensures { Reads vlog same (item attrs) result cursor.old cursor.new (supply S.left S.faults source.old) (supply S.left S.faults source.new) }
 {
     match cursor.takes_name(alloc, source)? {
-        Some(module) => {
-            let item = read_instances_item(alloc, cursor, attrs, module, source)?;
+        Some(of_module) => {
+            let item = read_instances_item(alloc, cursor, attrs, of_module, source)?;
             Ok(item)
         }
         None => {
