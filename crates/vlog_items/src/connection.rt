@@ -42,8 +42,26 @@ fn read_named<S: Source>(
     Ok(conn)
 }
 
+/// Reads further connections by name, each behind a comma, up to the `)`, and adds them to others.
+#[tactic(auto, using(readers::proofs::Choices::loops), unfolding(vlog_exprs::specs::Grammar::commas))]
+fn read_more_named<S: Source>(
+    alloc: Global,
+    cursor: &mut VCursor,
+    mut conns: Seq<NamedConn>,
+    source: &mut S,
+) -> Result<Seq<NamedConn>, ReadError>
+    ensures { Reads vlog same (commas named (mark 41) conns) result cursor.old cursor.new (supply S.left S.faults source.old) (supply S.left S.faults source.new) }
+{
+    while cursor.takes(alloc, b',', source)? {
+        let conn = read_named(alloc, cursor, source)?;
+        cursor.add(&mut conns, conn)?;
+    }
+    cursor.mark(alloc, b')', source)?;
+    Ok(conns)
+}
+
 /// Reads connections by name up to the `)`, behind the point of the first.
-#[tactic(auto, using(readers::proofs::Choices::loops), unfolding(crate::specs::Grammar::named_conns, vlog_exprs::specs::Grammar::commas))]
+#[tactic(auto, using(readers::proofs::Reading::sequences), unfolding(crate::specs::Grammar::named_conns))]
 fn read_named_conns<S: Source>(
     alloc: Global,
     cursor: &mut VCursor,
@@ -51,14 +69,10 @@ fn read_named_conns<S: Source>(
 ) -> Result<Conns, ReadError>
     ensures { Reads vlog same named_conns result cursor.old cursor.new (supply S.left S.faults source.old) (supply S.left S.faults source.new) }
 {
+    let first = read_named_rest(alloc, cursor, source)?;
     let mut conns = Seq::empty(alloc);
-    let conn = read_named_rest(alloc, cursor, source)?;
-    cursor.add(&mut conns, conn)?;
-    while cursor.takes(alloc, b',', source)? {
-        let conn = read_named(alloc, cursor, source)?;
-        cursor.add(&mut conns, conn)?;
-    }
-    cursor.mark(alloc, b')', source)?;
+    cursor.add(&mut conns, first)?;
+    let conns = read_more_named(alloc, cursor, conns, source)?;
     Ok(Conns::Named(conns))
 }
 

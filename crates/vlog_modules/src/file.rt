@@ -1,5 +1,5 @@
 // Files.
-ghost use Rattle.std.specs.Prelude.{◌≡◌, IfOk};
+ghost use Rattle.std.specs.Prelude.{◌≡◌, IfOk, IsFalse};
 ghost use Rattle.readers.specs.Sources.{supply};
 ghost use Rattle.readers.specs.Readers.{same, Reads, ReadsMaybe, ReadsWhole, LooksFor, TakesNext};
 ghost use Rattle.readers.specs.Texts.{ReadsText};
@@ -55,7 +55,7 @@ fn read_file<S: Source>(
     cursor: &mut VCursor,
     source: &mut S,
 ) -> Result<VlogFile, ReadError>
-    ensures { ReadsMaybe vlog same file result cursor.old cursor.new (supply S.left S.faults source.old) (supply S.left S.faults source.new) }
+    ensures { ReadsWhole vlog same file result cursor.old cursor.new (supply S.left S.faults source.old) (supply S.left S.faults source.new) }
 {
     let mut so_far = SoFar {
         modules: Seq::empty(alloc),
@@ -170,8 +170,8 @@ fn read_directive<S: Source>(
     word: Directive,
     source: &mut S,
 ) -> Result<SoFar, ReadError>
-    ensures { ReadsMaybe vlog same (directive so_far word) result cursor.old cursor.new (supply S.left S.faults source.old) (supply S.left S.faults source.new) }
     requires { IsFalse cursor.old.spent }
+    ensures { ReadsMaybe vlog same (directive so_far word) result cursor.old cursor.new (supply S.left S.faults source.old) (supply S.left S.faults source.new) }
 {
     let SoFar { modules, .. } = so_far;
     match word {
