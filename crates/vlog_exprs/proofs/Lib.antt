@@ -1,0 +1,4 @@
+pub mod Braces
+mod Ends
+mod Glances
+mod OneToken

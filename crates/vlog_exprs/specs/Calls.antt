@@ -46,14 +46,15 @@ seen_left place stop (Takes c) r = r
 seen_left place stop (Refuses reason) r = spoilt r
 seen_left place stop (Leaves t) r = record { window = r.window; ahead = Some (record { place = place; stop = stop; token = t }); context = r.context; spent = r.spent }
 
--- a reader that looked at the next token and took it out
-abbrev pub taken_out : {K X : Type 0} → Reader K X → Reader K X
-taken_out r = record { window = r.window; ahead = None; context = r.context; spent = r.spent }
-
 -- whether there is a next token
 abbrev pub is_there : {X : Type 0} → Result (Option X) ReadError → Result Bool ReadError
 is_there (Ok x) = Ok (is_some x)
 is_there (Err e) = Err e
+
+-- a reader that has looked at the next token, once that is taken out
+abbrev pub without : {K X : Type 0} → Result (Option X) ReadError → Reader K X → Reader K X
+without (Ok x) r = record { window = r.window; ahead = None; context = r.context; spent = r.spent }
+without (Err e) r = r
 
 -- The next token is looked at, and is taken out where there is one: `seen` is the reader between.
 pub record LooksOut (result : Result (Option VFound) ReadError) (old new : Reader NoContext VFound) (i j : Supply) : Type 0 where
@@ -61,7 +62,7 @@ pub record LooksOut (result : Result (Option VFound) ReadError) (old new : Reade
   pub looks : Looks vlog (is_there result) old seen i j
   pub found : IfOk result (λ x. x ≡ seen.ahead)
   pub near : IfOk result (λ x. IfSome x (λ x. IsNear new.window x.stop))
-  pub out : new ≡ taken_out seen
+  pub left : new ≡ without result seen
 
 -- whether a token was taken that says no more than that it stands
 abbrev pub stands : Bool → Option (Unit {0})

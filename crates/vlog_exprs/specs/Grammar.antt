@@ -142,25 +142,25 @@ unfoldable pub expr_by : Bool → ℕ → Vlog Expr → Vlog Expr
 expr_by left room inside = sequence (expr_start left room) (expr_rest inside)
 
 -- {"," expr} "}", behind "{" expr
-unfoldable pub cat_rest : Bool → ℕ → Vlog Expr → Expr → Vlog Expr
-cat_rest left room inside e = sequence (commas (expr_by left room inside) (mark 125) (e ∷ [])) (λ es. gives (exprs.Cat es))
+unfoldable pub cat_rest : Vlog Expr → Expr → Vlog Expr
+cat_rest p e = sequence (commas p (mark 125) (e ∷ [])) (λ es. gives (exprs.Cat es))
 
 -- expr {"," expr} "}" "}", behind "{" NUM "{"
-unfoldable pub rep_rest : Bool → ℕ → Vlog Expr → ℤ → Vlog Expr
-rep_rest left room inside n = do
-  es ← list (expr_by left room inside) (mark 125)
+unfoldable pub rep_rest : Vlog Expr → ℤ → Vlog Expr
+rep_rest p n = do
+  es ← list p (mark 125)
   _ ← mark 125
   gives (exprs.Rep n es)
 
--- expr {"," expr} "}" | NUM "{" expr {"," expr} "}" "}", behind "{" and one more token
-unfoldable pub braced : Bool → ℕ → Vlog Expr → ExprStart → Vlog Expr
-braced left room inside (starts.Number n) = after 123 (rep_rest left room inside n) (sequence (sized n) (cat_rest left room inside))
-braced left room inside start = sequence (expr_rest inside start) (cat_rest left room inside)
+-- expr {"," expr} "}" | NUM "{" expr {"," expr} "}" "}", behind "{" and one more token: p is an expression there
+unfoldable pub braced : Vlog Expr → Vlog Expr → ExprStart → Vlog Expr
+braced p inside (starts.Number n) = after 123 (rep_rest p n) (sequence (sized n) (cat_rest p))
+braced p inside start = sequence (expr_rest inside start) (cat_rest p)
 
 -- the rest of a concatenation or a replication behind its "{", before which so many braces could be opened; where none could, none is read on
 unfoldable pub inside : Bool → ℕ → Vlog Expr
 inside left zero = gives (exprs.LooseNumber (pos 0))
-inside left (suc room) = sequence (expr_start left room) (braced left room (inside left room))
+inside left (suc room) = sequence (expr_start left room) (braced (expr_by left room (inside left room)) (inside left room))
 
 -- expr    = ref | NUM BASED | NUM | BASED | "{" expr {"," expr} "}" | "{" NUM "{" expr {"," expr} "}" "}"
 -- lval    = ref | "{" lval {"," lval} "}"

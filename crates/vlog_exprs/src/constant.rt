@@ -1,5 +1,5 @@
 // Constants.
-ghost use Rattle.std.specs.Prelude.{◌≡◌};
+ghost use Rattle.std.specs.Prelude.{◌≡◌, IsFalse};
 ghost use Rattle.readers.specs.Sources.{supply};
 ghost use Rattle.readers.specs.Readers.{same, Reads, ReadsMaybe, TakesNext};
 ghost use Rattle.vlog_tokens.specs.Language.{vlog};
@@ -82,6 +82,7 @@ fn read_const_rest<S: Source>(
     start: ConstStart,
     source: &mut S,
 ) -> Result<Const, ReadError>
+    requires { IsFalse cursor.old.spent }
     ensures { ReadsMaybe vlog same (const_rest start) result cursor.old cursor.new (supply S.left S.faults source.old) (supply S.left S.faults source.new) }
 {
     match start {

@@ -8,7 +8,7 @@ ghost use Rattle.vlog_exprs.specs.Calls.{answer, left_after, seen_answer, seen_l
 ghost use Rattle.vlog_exprs.specs.Reasons.{trailing};
 
 use crate::glance::Glance;
-use crate::reasons::misplaced;
+use crate::reasons::refused;
 use nl_base::{NoMemory, Place, ReadError, Reason, Seq, TextFault};
 use nl_io::Source;
 use std::alloc::Global;
@@ -191,14 +191,12 @@ impl VCursor {
     ) -> Result<(), ReadError>
         ensures { Ends vlog trailing result self.old self.new (supply S.left S.faults source.old) (supply S.left S.faults source.new) }
     {
-        self.look(alloc, source)?;
-        let Some(VFound { place, stop, token }) = self.ahead.take() else {
+        let next = self.next_out(alloc, source)?;
+        let Some(VFound { place, stop, token }) = next else {
             return Ok(());
         };
-        match misplaced(alloc, token) {
-            Ok(reason) => Err(self.refuse_at(place, stop, reason)),
-            Err(_) => Err(self.no_memory()),
-        }
+        let said = refused(alloc, token);
+        self.judged(place, stop, said)
     }
 
     /// Adds an item to a list. Where memory runs out the cursor is spent from then on, and the list is as before.

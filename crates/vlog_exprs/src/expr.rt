@@ -1,5 +1,5 @@
 // Expressions, whose braces are at most 64 deep.
-ghost use Rattle.std.specs.Prelude.{◌≡◌, ◌<◌, ◌∷◌, [], IfOk};
+ghost use Rattle.std.specs.Prelude.{◌≡◌, ◌<◌, ◌∷◌, [], IfOk, IsFalse};
 ghost use Rattle.readers.specs.Sources.{supply};
 ghost use Rattle.readers.specs.Readers.{same, Reads, ReadsMaybe, TakesNext};
 ghost use Rattle.vlog_tokens.specs.Language.{vlog};
@@ -75,7 +75,8 @@ fn read_rest<S: Source>(
     start: ExprStart,
     source: &mut S,
 ) -> Result<Expr, ReadError>
-    requires { start ≡ ExprStart.Brace → 0 < room }
+    requires unspent { IsFalse cursor.old.spent }
+    requires room { start ≡ ExprStart.Brace → 0 < room }
     ensures { ReadsMaybe vlog same (expr_rest (inside left room) start) result cursor.old cursor.new (supply S.left S.faults source.old) (supply S.left S.faults source.new) }
 {
     match start {
@@ -123,6 +124,7 @@ fn read_list<S: Source>(
     first: Expr,
     source: &mut S,
 ) -> Result<Seq<Expr>, ReadError>
+    requires { IsFalse cursor.old.spent }
     ensures { Reads vlog same (commas (expr left room) (mark 125) (first ∷ [])) result cursor.old cursor.new (supply S.left S.faults source.old) (supply S.left S.faults source.new) }
 {
     let mut exprs = Seq::empty(alloc);
@@ -146,7 +148,7 @@ fn read_replicated<S: Source>(
     count: Int,
     source: &mut S,
 ) -> Result<Expr, ReadError>
-    ensures { Reads vlog same (rep_rest left room (inside left room) count) result cursor.old cursor.new (supply S.left S.faults source.old) (supply S.left S.faults source.new) }
+    ensures { Reads vlog same (rep_rest (expr left room) count) result cursor.old cursor.new (supply S.left S.faults source.old) (supply S.left S.faults source.new) }
 {
     let first = read_expr_in(alloc, cursor, left, room, source)?;
     let exprs = read_list(alloc, cursor, left, room, first, source)?;
@@ -165,7 +167,7 @@ fn read_counted<S: Source>(
     number: Int,
     source: &mut S,
 ) -> Result<Expr, ReadError>
-    ensures { Reads vlog same (braced left room (inside left room) (ExprStart.Number number)) result cursor.old cursor.new (supply S.left S.faults source.old) (supply S.left S.faults source.new) }
+    ensures { Reads vlog same (braced (expr left room) (inside left room) (ExprStart.Number number)) result cursor.old cursor.new (supply S.left S.faults source.old) (supply S.left S.faults source.new) }
 {
     if cursor.takes(alloc, b'{', source)? {
         let expr = read_replicated(alloc, cursor, left, room, number, source)?;
@@ -178,7 +180,7 @@ fn read_counted<S: Source>(
 
 /// Reads on behind a brace and one more token.
 #[cycle(expr)]
-#[tactic(auto, using(readers::proofs::Reading::sequences), unfolding(crate::specs::Grammar::cat_rest))]
+#[tactic(auto, using(crate::proofs::Braces::in_braces), unfolding(crate::specs::Grammar::cat_rest))]
 fn read_braced<S: Source>(
     alloc: Global,
     cursor: &mut VCursor,
@@ -187,8 +189,9 @@ fn read_braced<S: Source>(
     start: ExprStart,
     source: &mut S,
 ) -> Result<Expr, ReadError>
-    requires { start ≡ ExprStart.Brace → 0 < room }
-    ensures { Reads vlog same (braced left room (inside left room) start) result cursor.old cursor.new (supply S.left S.faults source.old) (supply S.left S.faults source.new) }
+    requires unspent { IsFalse cursor.old.spent }
+    requires room { start ≡ ExprStart.Brace → 0 < room }
+    ensures { Reads vlog same (braced (expr left room) (inside left room) start) result cursor.old cursor.new (supply S.left S.faults source.old) (supply S.left S.faults source.new) }
 {
     if let ExprStart::Number(number) = start {
         let expr = read_counted(alloc, cursor, left, room, number, source)?;
@@ -201,7 +204,7 @@ fn read_braced<S: Source>(
 
 /// Reads on behind a brace, before which `room` braces could be opened, one in another.
 #[cycle(expr)]
-#[tactic(auto, using(readers::proofs::Reading::sequences))]
+#[tactic(auto, using(crate::proofs::Braces::in_braces))]
 fn read_inside<S: Source>(
     alloc: Global,
     cursor: &mut VCursor,

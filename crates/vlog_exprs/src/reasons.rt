@@ -30,7 +30,7 @@ pub fn misplaced(alloc: Global, token: VToken) -> Result<Reason, NoMemory>
 }
 
 /// The same as a refusal.
-fn refused<T: Drop>(alloc: Global, token: VToken) -> Said<T>
+pub fn refused<T: Drop>(alloc: Global, token: VToken) -> Said<T>
     ensures { IfOk result (λ said. said ≡ Err (say.misplaced token)) }
 {
     let reason = misplaced(alloc, token)?;
