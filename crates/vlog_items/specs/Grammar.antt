@@ -189,7 +189,7 @@ unfoldable pub instances : List Attr → List ℕ → Vlog Instances
 instances attrs m = do
   ps ← overrides
   us ← list instance (mark 59)
-  gives (record { attrs = attrs; module = m; params = ps; insts = us })
+  gives (record { attrs = attrs; «module» = m; params = ps; insts = us })
 
 -- ---- defparam
 

@@ -3,7 +3,6 @@ use Rattle.std.proofs.Common.{◌≡◌, ℕ, List, refl}
 use Rattle.grammar.specs.Clear.{IsLive, IsClear, IsClosed}
 use Rattle.grammar.specs.Whole.{end, whole}
 use Rattle.grammar.proofs.Whole as grammar
-use Rattle.grammar.proofs.Follow.{clear_fewer}
 use Rattle.nl_base.specs.Place.{place_at_start}
 use Rattle.nl_base.specs.declared.place.Place.{Place}
 use Rattle.nl_base.specs.declared.fault.TextFault.{TextFault}
@@ -14,15 +13,16 @@ use Rattle.vlog_exprs.specs.Reasons.{trailing}
 use Rattle.vlog_values.specs.declared.module.VlogFile.{VlogFile}
 use Rattle.vlog_modules.specs.Grammar.{file}
 use Rattle.vlog_modules.specs.Text.{VlogReads, VlogFault, VlogCut}
-use Rattle.vlog_modules.proofs.Live.{live_file, closed_file}
+use Rattle.vlog_modules.proofs.Live.{live_file}
+use Rattle.vlog_modules.proofs.Clear.{clear_file}
 
 -- From each place in a file some tokens lead to its end.
 pub live : IsLive tt file
-live = live_file [] []
+live = live_file
 
 -- No text of a file goes on to another where the end of the input follows it.
 pub clear : IsClear tt file (λ _ t. (p : Place) × (t ≡ end p))
-clear = clear_fewer tt file (λ _ t. (p : Place) × (t ≡ end p)) (λ _ _. Unit {0}) (λ _ _ _. tt) (closed_file [] []).closed
+clear = clear_file
 
 lives : IsLive tt (whole trailing file)
 lives = grammar.live_whole trailing tt file place_at_start live
