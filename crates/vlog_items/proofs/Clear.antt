@@ -45,7 +45,11 @@ use Rattle.vlog_exprs.proofs.TokenKinds.{Next, TokenIs, due_is, taken_is, is_lef
 use Rattle.vlog_exprs.proofs.Clear.{Follows, first_due, clear_after, InList, Ends, next_commas, clear_commas, clear_list, ends_mark, NoBracket, clear_maybe_range, NoDigits, AfterExpr, mark_after_expr, in_list_after_expr, clear_expr, clear_maybe_expr, clear_constant}
 use Rattle.vlog_items.specs.declared.item.ItemWord.{ItemWord}
 use Rattle.vlog_items.specs.declared.item.ItemWord.TheVariants as words
-use Rattle.vlog_items.specs.Grammar.{signed_word, signed, port_kind_words, port_kind, param_type_words, plain_type, param_type, param_set, port_item, net_item, param_item, assignment, assigns, named_rest, named, named_conns, order_of, ordered_conns, conns, instance, override_set, overrides, instances, def_set, defparams, item_words, word_item, instances_item, item}
+use Rattle.vlog_items.specs.Grammar.{signed_word, signed, port_kind_words, port_kind, param_type_words, plain_type, param_type, param_set, port_item, net_item, param_item, assignment, assigns, named_rest, named, named_conns, order_of, ordered_conns, conns, instance, override_rest, override_set, overrides, instances, def_value, def_set, defparams, item_words, word_item, instances_item, item}
+
+-- what comes where a part is due that F follows
+abbrev pub NextOf : {A : Type 0} → Vlog A → Follows A → Next → Type 0
+NextOf p F x = clear.Next {K = NoContext} {R = Reason} tt p F x
 
 -- ---- which tokens they are
 
@@ -144,7 +148,7 @@ pub word_left : {A C : Type 0} (words : List (List ℕ × A)) (f : VToken → Gl
 word_left words f x l n = taken_left (say.at_choice words) f x n.0 (λ t a h. let i = at_choice_is words t a h in ap f i.is ∙ l i.word a i.meant) n.1
 
 -- where a mark is due it is next
-pub next_mark : {A : Type 0} (d : ℕ) (q : Unit {0} → Vlog A) (F : Follows A) (x : Next) → clear.Next tt (sequence (mark d) q) F x → TokenIs (token.Punct d) x
+pub next_mark : {A : Type 0} (d : ℕ) (q : Unit {0} → Vlog A) (F : Follows A) (x : Next) → NextOf (sequence (mark d) q) F x → TokenIs (token.Punct d) x
 next_mark d q F x n = let m = first_due (λ _ y. say.mark_of d y.token) q F x n in due_is (λ y. say.mark_of d y.token) (token.Punct d) x m.0 (λ y u e. mark_is d y.token u e) m.1
 
 -- in a list, no digits and no point are next
@@ -161,7 +165,7 @@ pub record BeginsWith {A : Type 0} (P : Next → Type 0) (p : Vlog A) : Type 0 w
   pub first : (x : Next) → First tt p x → P x
   pub full : (v : A) → Empty tt p v → ⊥
 
-pub begins_next : {A : Type 0} (P : Next → Type 0) (p : Vlog A) (F : Follows A) → BeginsWith P p → (x : Next) → clear.Next tt p F x → P x
+pub begins_next : {A : Type 0} (P : Next → Type 0) (p : Vlog A) (F : Follows A) → BeginsWith P p → (x : Next) → NextOf p F x → P x
 begins_next P p F b x (inl n) = b.first x n
 begins_next P p F b x (inr n) = absurd (b.full n.0 n.1)
 
@@ -246,7 +250,7 @@ no_type x (inr (inr n)) = name_left (say.at_choice param_type_words) x (λ n. re
 
 pub clear_signed : (F : Follows Bool) → ((b : Bool) (x : Next) → F b x → NotSigned x) → IsClear tt signed F
 unfolding signed maybe
-clear_signed F h = ((λ _. tt, tt, λ x n. h false x (next_given NoContext Reason tt false F x (next_given NoContext Reason tt None (λ s. clear.Next tt (gives (is_some s)) F) x n))), λ _. tt)
+clear_signed F h = ((λ _. tt, tt, λ x n. h false x (next_given NoContext Reason tt false F x (next_given NoContext Reason tt None (λ s. NextOf (gives (is_some s)) F) x n))), λ _. tt)
 
 pub clear_port_kind : (F : Follows (Option PortKind)) → ((k : Option PortKind) (x : Next) → F k x → NoKind x) → IsClear tt port_kind F
 unfolding port_kind maybe
@@ -268,8 +272,8 @@ module _ {B : Type 0} (tail : Bool → Option Bounds → Vlog B) (named : (s : B
 
   pub clear_sign : (F : Follows B) → ((s : Bool) (r : Option Bounds) → IsClear tt (tail s r) F) → IsClear tt behind_sign F
   clear_sign F h = (
-    clear_signed (λ s. clear.Next tt (behind_range s) F) (λ s x n. no_sign x (begins_next (λ x. Bracket x ⊎ NameNext x) (behind_range s) F (begins_range s) x n)),
-    λ s. (clear_maybe_range (λ r. clear.Next tt (tail s r) F) (λ r x n. name_no_bracket x (begins_next NameNext (tail s r) F (named s r) x n)), λ r. h s r),
+    clear_signed (λ s. NextOf (behind_range s) F) (λ s x n. no_sign x (begins_next (λ x. Bracket x ⊎ NameNext x) (behind_range s) F (begins_range s) x n)),
+    λ s. (clear_maybe_range (λ r. NextOf (tail s r) F) (λ r x n. name_no_bracket x (begins_next NameNext (tail s r) F (named s r) x n)), λ r. h s r),
   )
 
 -- NAME {"," NAME} ";" and what is made of them
@@ -288,7 +292,7 @@ bracket = ends_mark 41 refl
 
 clear_names : {B : Type 0} (g : List (List ℕ) → B) (F : Follows B) → IsClear tt (names_to g) F
 unfolding one
-clear_names g F = (clear_list name (λ _ x. say.mark_of 59 x.token) (token.Punct 59) semicolon (λ ns. clear.Next tt (gives (g ns)) F) tt, λ _. tt)
+clear_names g F = (clear_list name (λ _ x. say.mark_of 59 x.token) (token.Punct 59) semicolon (λ ns. NextOf (gives (g ns)) F) tt, λ _. tt)
 
 -- ---- declarations
 
@@ -301,7 +305,7 @@ begins_port_tail attrs dir k s r = begins_names (λ ns. record { attrs = attrs; 
 clear_port_item : (attrs : List Attr) (dir : Dir) (F : Follows PortDecl) → IsClear tt (port_item attrs dir) F
 unfolding port_item
 clear_port_item attrs dir F = (
-  clear_port_kind (λ k. clear.Next tt (behind_sign (port_tail attrs dir k) (begins_port_tail attrs dir k)) F)
+  clear_port_kind (λ k. NextOf (behind_sign (port_tail attrs dir k) (begins_port_tail attrs dir k)) F)
       (λ k x n. no_kind x (begins_next (λ x. WordNext signed_word x ⊎ (Bracket x ⊎ NameNext x)) (behind_sign (port_tail attrs dir k) (begins_port_tail attrs dir k)) F (begins_sign (port_tail attrs dir k) (begins_port_tail attrs dir k)) x n)),
   λ k. clear_sign (port_tail attrs dir k) (begins_port_tail attrs dir k) F (λ s r. clear_names (λ ns. record { attrs = attrs; dir = dir; kind = k; signed = s; range = r; names = ns }) F),
 )
@@ -315,7 +319,7 @@ clear_net_item attrs kind F = clear_sign (λ s r. names_to (net_of attrs kind s 
 
 -- ---- parameters
 
-next_plain : (F : Follows ParamType) (x : Next) → clear.Next tt plain_type F x → WordNext signed_word x ⊎ (Bracket x ⊎ ((t : ParamType) × F t x))
+next_plain : (F : Follows ParamType) (x : Next) → NextOf plain_type F x → WordNext signed_word x ⊎ (Bracket x ⊎ ((t : ParamType) × F t x))
 unfolding plain_type
 next_plain F x n = elim (next_then tt signed (λ s. sequence maybe_range (λ r. gives (param_types.Plain s r))) F x n) [
   | inl m ↦ inl (first_signed x m)
@@ -328,11 +332,11 @@ next_plain F x n = elim (next_then tt signed (λ s. sequence maybe_range (λ r. 
 clear_plain : (F : Follows ParamType) → ((t : ParamType) (x : Next) → F t x → NameNext x) → IsClear tt plain_type F
 unfolding plain_type
 clear_plain F h = (
-  clear_signed (λ s. clear.Next tt (sequence maybe_range (λ r. gives (param_types.Plain s r))) F) (λ s x n. no_sign x (by s x n)),
-  λ s. (clear_maybe_range (λ r. clear.Next tt (gives (param_types.Plain s r)) F) (λ r x n. name_no_bracket x (h (param_types.Plain s r) x (next_given NoContext Reason tt (param_types.Plain s r) F x n))), λ r. tt),
+  clear_signed (λ s. NextOf (sequence maybe_range (λ r. gives (param_types.Plain s r))) F) (λ s x n. no_sign x (by s x n)),
+  λ s. (clear_maybe_range (λ r. NextOf (gives (param_types.Plain s r)) F) (λ r x n. name_no_bracket x (h (param_types.Plain s r) x (next_given NoContext Reason tt (param_types.Plain s r) F x n))), λ r. tt),
 )
   where
-    by : (s : Bool) (x : Next) → clear.Next tt (sequence maybe_range (λ r. gives (param_types.Plain s r))) F x → Bracket x ⊎ NameNext x
+    by : (s : Bool) (x : Next) → NextOf (sequence maybe_range (λ r. gives (param_types.Plain s r))) F x → Bracket x ⊎ NameNext x
     by s x n = elim (next_then tt maybe_range (λ r. gives (param_types.Plain s r)) F x n) [
       | inl d ↦ inl (first_range x d)
       | inr d ↦ inr (h (param_types.Plain s d.0) x (next_given NoContext Reason tt (param_types.Plain s d.0) F x d.2))
@@ -355,7 +359,7 @@ begins_param_set = begins_then NameNext name _ begins_name
 -- A parameter is clear where no digits follow it.
 pub clear_param_set : (F : Follows ParamSet) → ((s : ParamSet) (x : Next) → F s x → NoDigits x) → IsClear tt param_set F
 unfolding param_set one
-clear_param_set F h = (tt, λ n. (tt, λ _. (clear_constant (λ v. clear.Next tt (gives (record { name = n; value = v })) F) (λ v x m. h (record { name = n; value = v }) x (next_given NoContext Reason tt (record { name = n; value = v }) F x m)), λ v. tt)))
+clear_param_set F h = (tt, λ n. (tt, λ _. (clear_constant (λ v. NextOf (gives (record { name = n; value = v })) F) (λ v x m. h (record { name = n; value = v }) x (next_given NoContext Reason tt (record { name = n; value = v }) F x m)), λ v. tt)))
 
 abbrev sets_to : List Attr → ParamType → Vlog ParamDecl
 sets_to attrs t = sequence (list param_set (mark 59)) (λ ss. gives (record { attrs = attrs; kind = t; sets = ss }))
@@ -367,7 +371,7 @@ begins_sets attrs t = begins_then NameNext (list param_set (mark 59)) (λ ss. gi
 clear_param_item : (attrs : List Attr) (F : Follows ParamDecl) → IsClear tt (param_item attrs) F
 unfolding param_item
 clear_param_item attrs F = (
-  clear_param_type (λ t. clear.Next tt (sets_to attrs t) F) (λ t x n. begins_next NameNext (sets_to attrs t) F (begins_sets attrs t) x n),
+  clear_param_type (λ t. NextOf (sets_to attrs t) F) (λ t x n. begins_next NameNext (sets_to attrs t) F (begins_sets attrs t) x n),
   λ t. (clear_list param_set (λ _ x. say.mark_of 59 x.token) (token.Punct 59) semicolon _ (clear_param_set (λ _ x. InList (token.Punct 59) x) (λ s x n. list_no_digits 59 x n)), λ ss. tt),
 )
 
@@ -379,8 +383,8 @@ right_of l = sequence (expr false 64) (λ r. gives (record { left = l; right = r
 clear_assignment : (F : Follows Assignment) → ((a : Assignment) (x : Next) → F a x → AfterExpr x) → IsClear tt assignment F
 unfolding assignment one
 clear_assignment F h = (
-  clear_expr true 64 (λ l. clear.Next tt (sequence (mark 61) (λ _. right_of l)) F) (λ l x n. mark_after_expr 61 x refl (next_mark 61 (λ _. right_of l) F x n)),
-  λ l. (tt, λ _. (clear_expr false 64 (λ r. clear.Next tt (gives (record { left = l; right = r })) F) (λ r x n. h (record { left = l; right = r }) x (next_given NoContext Reason tt (record { left = l; right = r }) F x n)), λ r. tt)),
+  clear_expr true 64 (λ l. NextOf (sequence (mark 61) (λ _. right_of l)) F) (λ l x n. mark_after_expr 61 x refl (next_mark 61 (λ _. right_of l) F x n)),
+  λ l. (tt, λ _. (clear_expr false 64 (λ r. NextOf (gives (record { left = l; right = r })) F) (λ r x n. h (record { left = l; right = r }) x (next_given NoContext Reason tt (record { left = l; right = r }) F x n)), λ r. tt)),
 )
 
 clear_assigns : (attrs : List Attr) (F : Follows Assigns) → IsClear tt (assigns attrs) F
@@ -394,7 +398,7 @@ closed_conn n e = sequence (mark 41) (λ _. gives (record { port = n; value = e 
 
 clear_named_rest : (F : Follows NamedConn) → IsClear tt named_rest F
 unfolding named_rest one
-clear_named_rest F = (tt, λ n. (tt, λ _. (clear_maybe_expr (λ e. clear.Next tt (closed_conn n e) F) (λ e x m. mark_after_expr 41 x refl (next_mark 41 (λ _. gives (record { port = n; value = e })) F x m))
+clear_named_rest F = (tt, λ n. (tt, λ _. (clear_maybe_expr (λ e. NextOf (closed_conn n e) F) (λ e x m. mark_after_expr 41 x refl (next_mark 41 (λ _. gives (record { port = n; value = e })) F x m))
     (λ x m. is_left say.at_expr (token.Punct 41) x refl (next_mark 41 (λ _. gives (record { port = n; value = None })) F x m)), λ e. (tt, λ _. tt))))
 
 clear_named : (F : Follows NamedConn) → IsClear tt named F
@@ -404,8 +408,8 @@ clear_named F = (tt, λ _. clear_named_rest F)
 clear_named_conns : (F : Follows Conns) → IsClear tt named_conns F
 unfolding named_conns
 clear_named_conns F = (
-  clear_named_rest (λ first. clear.Next tt (sequence (commas named (mark 41) (first ∷ [])) (λ all. gives (conns_of.Named all))) F),
-  λ first. (clear_commas named (λ _ x. say.mark_of 41 x.token) (token.Punct 41) bracket (first ∷ []) (λ all. clear.Next tt (gives (conns_of.Named all)) F) (clear_named (λ _ x. InList (token.Punct 41) x)), λ all. tt),
+  clear_named_rest (λ first. NextOf (sequence (commas named (mark 41) (first ∷ [])) (λ all. gives (conns_of.Named all))) F),
+  λ first. (clear_commas named (λ _ x. say.mark_of 41 x.token) (token.Punct 41) bracket (first ∷ []) (λ all. NextOf (gives (conns_of.Named all)) F) (clear_named (λ _ x. InList (token.Punct 41) x)), λ all. tt),
 )
 
 no_expr : (x : Next) → InList (token.Punct 41) x → at_token (λ y. say.at_expr y.token) x ≡ leaves
@@ -415,7 +419,7 @@ no_expr x (inr t) = is_left say.at_expr (token.Punct 41) x refl t
 clear_ordered_conns : (F : Follows Conns) → IsClear tt ordered_conns F
 unfolding ordered_conns
 clear_ordered_conns F = (
-  clear_list maybe_expr (λ _ x. say.mark_of 41 x.token) (token.Punct 41) bracket (λ es. clear.Next tt (gives (conns_of.Order (order_of es))) F)
+  clear_list maybe_expr (λ _ x. say.mark_of 41 x.token) (token.Punct 41) bracket (λ es. NextOf (gives (conns_of.Order (order_of es))) F)
       (clear_maybe_expr (λ _ x. InList (token.Punct 41) x) (λ e x n. in_list_after_expr 41 x refl n) no_expr),
   λ es. tt,
 )
@@ -429,23 +433,29 @@ list_no_point : (x : Next) → InList (token.Punct 41) x → at_token (λ y. say
 list_no_point x (inl t) = is_left (say.at_mark 46) (token.Punct 44) x refl t
 list_no_point x (inr t) = is_left (say.at_mark 46) (token.Punct 41) x refl t
 
--- in order, no connection begins with a point
-ordered_no_point : (F : Follows Conns) (x : Next) → clear.Next tt ordered_conns F x → at_token (λ y. say.at_mark 46 y.token) x ≡ leaves
-unfolding ordered_conns list
-ordered_no_point F x n = elim (next_then tt maybe_expr (λ e. sequence (commas maybe_expr (mark 41) (e ∷ [])) (λ es. gives (conns_of.Order (order_of es)))) F x (regrouped n)) [
-  | inl m ↦ first_no_point x m
-  | inr m ↦ list_no_point x (by m.0 (next_then tt (commas maybe_expr (mark 41) (m.0 ∷ [])) (λ es. gives (conns_of.Order (order_of es))) F x m.2))
-]
-  where
-    by : (e : Option Expr) → First tt (commas maybe_expr (mark 41) (e ∷ [])) x ⊎ ((es : List (Option Expr)) × Empty tt (commas maybe_expr (mark 41) (e ∷ [])) es × clear.Next tt (gives (conns_of.Order (order_of es))) F x) → InList (token.Punct 41) x
-    by e (inl m) = next_commas maybe_expr (λ _ x. say.mark_of 41 x.token) (token.Punct 41) bracket (e ∷ []) (λ _ _. ⊥) x (inl m)
-    by e (inr m) = next_commas maybe_expr (λ _ x. say.mark_of 41 x.token) (token.Punct 41) bracket (e ∷ []) (λ _ _. Unit {0}) x (inr (m.0, m.1, tt))
+-- connections in order behind the first
+abbrev order_to : Option Expr → Vlog Conns
+order_to e = sequence (commas maybe_expr (mark 41) (e ∷ [])) (λ es. gives (conns_of.Order (order_of es)))
 
-    regrouped : clear.Next tt (sequence (sequence maybe_expr (λ e. commas maybe_expr (mark 41) (e ∷ []))) (λ es. gives (conns_of.Order (order_of es)))) F x → clear.Next tt (sequence maybe_expr (λ e. sequence (commas maybe_expr (mark 41) (e ∷ [])) (λ es. gives (conns_of.Order (order_of es))))) F x
-    regrouped (inl (inl (inl m))) = inl (inl m)
-    regrouped (inl (inl (inr m))) = inl (inr (m.0, m.1, inl m.2))
-    regrouped (inl (inr m)) = inl (inr (m.1.0, m.1.1, inr (m.0, m.1.2, m.2)))
-    regrouped (inr m) = inr (m.0, (m.1.1.0, m.1.1.1, (m.1.0, m.1.1.2, m.1.2)), m.2)
+next_order : (e : Option Expr) (F : Follows Conns) (x : Next) → NextOf (order_to e) F x → InList (token.Punct 41) x
+next_order e F x n = elim (next_then tt (commas maybe_expr (mark 41) (e ∷ [])) (λ es. gives (conns_of.Order (order_of es))) F x n) [
+  | inl m ↦ next_commas maybe_expr (λ _ x. say.mark_of 41 x.token) (token.Punct 41) bracket (e ∷ []) (λ _ _. ⊥) x (inl m)
+  | inr m ↦ next_commas maybe_expr (λ _ x. say.mark_of 41 x.token) (token.Punct 41) bracket (e ∷ []) (λ _ _. Unit {0}) x (inr (m.0, m.1, tt))
+]
+
+regrouped : (F : Follows Conns) (x : Next) → NextOf ordered_conns F x → NextOf (sequence maybe_expr order_to) F x
+unfolding ordered_conns list
+regrouped F x (inl (inl (inl m))) = inl (inl m)
+regrouped F x (inl (inl (inr m))) = inl (inr (m.0, m.1, inl m.2))
+regrouped F x (inl (inr m)) = inl (inr (m.1.0, m.1.1, inr (m.0, m.1.2, m.2)))
+regrouped F x (inr m) = inr (m.0, (m.1.1.0, m.1.1.1, (m.1.0, m.1.1.2, m.1.2)), m.2)
+
+-- in order, no connection begins with a point
+ordered_no_point : (F : Follows Conns) (x : Next) → NextOf ordered_conns F x → at_token (λ y. say.at_mark 46 y.token) x ≡ leaves
+ordered_no_point F x n = elim (next_then tt maybe_expr order_to F x (regrouped F x n)) [
+  | inl m ↦ first_no_point x m
+  | inr m ↦ list_no_point x (next_order m.0 F x m.2)
+]
 
 clear_conns : (F : Follows Conns) → IsClear tt conns F
 unfolding conns
@@ -461,8 +471,8 @@ abbrev closed_set : List ℕ → Const → Vlog ParamSet
 closed_set n v = sequence (mark 41) (λ _. gives (record { name = n; value = v }))
 
 clear_override : (F : Follows ParamSet) → IsClear tt override_set F
-unfolding override_set one
-clear_override F = (tt, λ _. (tt, λ n. (tt, λ _. (clear_constant (λ v. clear.Next tt (closed_set n v) F) (λ v x m. mark_no_digits 41 x (next_mark 41 (λ _. gives (record { name = n; value = v })) F x m)), λ v. (tt, λ _. tt)))))
+unfolding override_set override_rest one
+clear_override F = (tt, λ _. (tt, λ n. (tt, λ _. (clear_constant (λ v. NextOf (closed_set n v) F) (λ v x m. mark_no_digits 41 x (next_mark 41 (λ _. gives (record { name = n; value = v })) F x m)), λ v. (tt, λ _. tt)))))
 
 clear_overrides : (F : Follows (List ParamSet)) → ((x : Next) → F [] x → NameNext x) → IsClear tt overrides F
 unfolding overrides one
@@ -483,16 +493,16 @@ begins_insts attrs m ps = begins_then NameNext (list instance (mark 59)) (λ us.
 clear_instances : (attrs : List Attr) (m : List ℕ) (F : Follows Instances) → IsClear tt (instances attrs m) F
 unfolding instances
 clear_instances attrs m F = (
-  clear_overrides (λ ps. clear.Next tt (insts_to attrs m ps) F) (λ x n. begins_next NameNext (insts_to attrs m []) F (begins_insts attrs m []) x n),
+  clear_overrides (λ ps. NextOf (insts_to attrs m ps) F) (λ x n. begins_next NameNext (insts_to attrs m []) F (begins_insts attrs m []) x n),
   λ ps. (clear_list instance (λ _ x. say.mark_of 59 x.token) (token.Punct 59) semicolon _ (clear_instance _), λ us. tt),
 )
 
 -- ---- defparam
 
 clear_def_set : (F : Follows DefSet) → ((s : DefSet) (x : Next) → F s x → NoDigits x) → IsClear tt def_set F
-unfolding def_set one
+unfolding def_set def_value one
 clear_def_set F h =
-    (tt, λ u. (tt, λ _. (tt, λ n. (tt, λ _. (clear_constant (λ v. clear.Next tt (gives (record { instance = u; name = n; value = v })) F) (λ v x m. h (record { instance = u; name = n; value = v }) x (next_given NoContext Reason tt (record { instance = u; name = n; value = v }) F x m)), λ v. tt)))))
+    (tt, λ u. (tt, λ _. (tt, λ n. (tt, λ _. (clear_constant (λ v. NextOf (gives (record { instance = u; name = n; value = v })) F) (λ v x m. h (record { instance = u; name = n; value = v }) x (next_given NoContext Reason tt (record { instance = u; name = n; value = v }) F x m)), λ v. tt)))))
 
 clear_defparams : (attrs : List Attr) (F : Follows Defparams) → IsClear tt (defparams attrs) F
 unfolding defparams
@@ -514,7 +524,7 @@ pub clear_instances_item : (attrs : List Attr) (m : List ℕ) (F : Follows ItemV
 unfolding instances_item
 clear_instances_item attrs m F = (clear_instances attrs m _, λ s. tt)
 
-clear_word : (attrs : List Attr) (F : Follows ItemV) → IsClear tt (choice item_words) (λ w. clear.Next tt (word_item attrs w) F)
+clear_word : (attrs : List Attr) (F : Follows ItemV) → IsClear tt (choice item_words) (λ w. NextOf (word_item attrs w) F)
 unfolding one
 clear_word attrs F = tt
 
@@ -531,11 +541,15 @@ clear_item attrs F = (
 abbrev pub ItemNext : Next → Type 0
 ItemNext x = ((n : List ℕ) × (at_token (λ y. say.at_name y.token) x ≡ takes n)) ⊎ ChoiceNext item_words x
 
-pub begins_item : (attrs : List Attr) → BeginsWith ItemNext (item attrs)
+first_item : (attrs : List Attr) (x : Next) → First tt (item attrs) x → ItemNext x
 unfolding item if_next one
-begins_item attrs = record { first = by; full = λ v n. n.1 }
-  where
-    by : (x : Next) → _ → ItemNext x
-    by x (inl n) = inl n
-    by x (inr (inl n)) = inr n
-    by x (inr (inr n)) = absurd n.1
+first_item attrs x (inl n) = inl n
+first_item attrs x (inr (inl n)) = inr n
+first_item attrs x (inr (inr n)) = absurd n.1
+
+full_item : (attrs : List Attr) (v : ItemV) → Empty tt (item attrs) v → ⊥
+unfolding item if_next one
+full_item attrs v n = n.1
+
+pub begins_item : (attrs : List Attr) → BeginsWith ItemNext (item attrs)
+begins_item attrs = record { first = first_item attrs; full = full_item attrs }

@@ -15,7 +15,7 @@ use Rattle.vlog_exprs.specs.Grammar.{name, mark, choice, commas, list, maybe_exp
 use Rattle.vlog_exprs.proofs.Live.{Lives, found, live_name, live_mark, live_after, live_commas, live_list, live_maybe_range, live_expr, live_maybe_expr, live_constant}
 use Rattle.vlog_items.specs.declared.item.ItemWord.{ItemWord}
 use Rattle.vlog_items.specs.declared.item.ItemWord.TheVariants as words
-use Rattle.vlog_items.specs.Grammar.{signed_word, signed, port_kind_words, port_kind, param_type_words, plain_type, param_type, param_set, port_item, net_item, param_item, assignment, assigns, named_rest, named, named_conns, ordered_conns, conns, instance, override_set, overrides, instances, def_set, defparams, item_words, word_item, instances_item, item}
+use Rattle.vlog_items.specs.Grammar.{signed_word, signed, port_kind_words, port_kind, param_type_words, plain_type, param_type, param_set, port_item, net_item, param_item, assignment, assigns, named_rest, named, named_conns, ordered_conns, conns, instance, override_rest, override_set, overrides, instances, def_value, def_set, defparams, item_words, word_item, instances_item, item}
 
 pub live_signed : Lives signed
 unfolding signed maybe
@@ -82,7 +82,7 @@ unfolding instance
 live_instance = (live_name, λ n. (live_mark 40, λ _. (live_conns, λ cs. tt)))
 
 live_override : Lives override_set
-unfolding override_set
+unfolding override_set override_rest
 live_override = (live_mark 46, λ _. (live_name, λ n. (live_mark 40, λ _. (live_constant, λ v. (live_mark 41, λ _. tt)))))
 
 live_overrides : Lives overrides
@@ -94,7 +94,7 @@ unfolding instances
 live_instances attrs m = (live_overrides, λ ps. (live_list instance (mark 59) live_instance (live_mark 59), λ us. tt))
 
 live_def_set : Lives def_set
-unfolding def_set
+unfolding def_set def_value
 live_def_set = (live_name, λ u. (live_mark 46, λ _. (live_name, λ n. (live_mark 61, λ _. (live_constant, λ v. tt)))))
 
 live_defparams : (attrs : List Attr) → Lives (defparams attrs)

@@ -1,6 +1,6 @@
 -- The items of a module: declarations of ports, nets and parameters, assignments, instances and `defparam` (IEEE 1364-2005, A.1.3, A.1.4, A.2.1,
 -- A.4.1 and A.6.1): a definition for each production, with the production before it. NAME is a token.
-use Rattle.std.specs.Prelude.{ℕ, Bool, true, List, [], ◌∷◌, Option, Some, None, is_some, codes}
+use Rattle.std.specs.Prelude.{ℕ, Bool, true, false, List, [], ◌∷◌, Option, Some, None, is_some, codes}
 use Rattle.grammar.specs.Part.{Glance, takes, leaves, gives, sequence, ◌>>=◌}
 use Rattle.readers.specs.Parts.{if_next, maybe}
 use Rattle.nl_base.specs.declared.fault.Reason.{Reason}
@@ -170,15 +170,18 @@ instance = do
   cs ← conns
   gives (record { name = n; conns = cs })
 
--- over    = "." NAME "(" const ")"
-unfoldable pub override_set : Vlog ParamSet
-override_set = do
-  _ ← mark 46
+-- NAME "(" const ")", behind the point
+unfoldable pub override_rest : Vlog ParamSet
+override_rest = do
   n ← name
   _ ← mark 40
   v ← constant
   _ ← mark 41
   gives (record { name = n; value = v })
+
+-- over    = "." NAME "(" const ")"
+unfoldable pub override_set : Vlog ParamSet
+override_set = sequence (mark 46) (λ _. override_rest)
 
 -- ["#" "(" over {"," over} ")"]
 unfoldable pub overrides : Vlog (List ParamSet)
@@ -193,15 +196,20 @@ instances attrs m = do
 
 -- ---- defparam
 
+-- NAME "=" const, behind the name of an instance and the point
+unfoldable pub def_value : List ℕ → Vlog DefSet
+def_value u = do
+  n ← name
+  _ ← mark 61
+  v ← constant
+  gives (record { instance = u; name = n; value = v })
+
 -- dset    = NAME "." NAME "=" const
 unfoldable pub def_set : Vlog DefSet
 def_set = do
   u ← name
   _ ← mark 46
-  n ← name
-  _ ← mark 61
-  v ← constant
-  gives (record { instance = u; name = n; value = v })
+  def_value u
 
 -- dset {"," dset} ";", behind "defparam"
 unfoldable pub defparams : List Attr → Vlog Defparams

@@ -57,7 +57,7 @@ pub fn read_signed<S: Source>(
 ) -> Result<bool, ReadError>
     ensures { ReadsMaybe vlog same signed result cursor.old cursor.new (supply S.left S.faults source.old) (supply S.left S.faults source.new) }
 {
-    let word = cursor.takes_choice(alloc, &[(b"signed".as_slice(), true)], source)?;
+    let word = cursor.takes_choice(alloc, &[(b"signed", true)], source)?;
     Ok(word.is_some())
 }
 
@@ -73,8 +73,8 @@ pub fn read_port_kind<S: Source>(
     let kind = cursor.takes_choice(
         alloc,
         &[
-            (b"wire".as_slice(), PortKind::Wire),
-            (b"tri".as_slice(), PortKind::Tri),
+            (b"wire", PortKind::Wire),
+            (b"tri", PortKind::Tri),
         ],
         source,
     )?;

@@ -4,13 +4,33 @@ ghost use Rattle.readers.specs.Sources.{supply};
 ghost use Rattle.readers.specs.Readers.{same, Reads};
 ghost use Rattle.vlog_tokens.specs.Language.{vlog};
 ghost use Rattle.vlog_exprs.specs.Grammar.{mark, list};
-ghost use Rattle.vlog_items.specs.Grammar.{def_set, defparams};
+ghost use Rattle.vlog_items.specs.Grammar.{def_value, def_set, defparams};
 
-use nl_base::{ReadError, Seq};
+use nl_base::{ReadError, Seq, Text};
 use nl_io::Source;
 use std::alloc::Global;
 use vlog_exprs::{VCursor, read_const};
 use vlog_values::{Attr, DefSet, Defparams};
+
+/// Reads on behind the name of an instance and the point.
+#[tactic(auto, using(readers::proofs::Reading::sequences), unfolding(crate::specs::Grammar::def_value))]
+fn read_def_value<S: Source>(
+    alloc: Global,
+    cursor: &mut VCursor,
+    instance: Text,
+    source: &mut S,
+) -> Result<DefSet, ReadError>
+    ensures { Reads vlog same (def_value instance) result cursor.old cursor.new (supply S.left S.faults source.old) (supply S.left S.faults source.new) }
+{
+    let name = cursor.name(alloc, source)?;
+    cursor.mark(alloc, b'=', source)?;
+    let value = read_const(alloc, cursor, source)?;
+    Ok(DefSet {
+        instance,
+        name,
+        value,
+    })
+}
 
 /// Reads the value of a parameter of a named instance.
 #[tactic(auto, using(readers::proofs::Reading::sequences), unfolding(crate::specs::Grammar::def_set))]
@@ -23,14 +43,8 @@ fn read_def_set<S: Source>(
 {
     let instance = cursor.name(alloc, source)?;
     cursor.mark(alloc, b'.', source)?;
-    let name = cursor.name(alloc, source)?;
-    cursor.mark(alloc, b'=', source)?;
-    let value = read_const(alloc, cursor, source)?;
-    Ok(DefSet {
-        instance,
-        name,
-        value,
-    })
+    let set = read_def_value(alloc, cursor, instance, source)?;
+    Ok(set)
 }
 
 /// Reads one value or more, up to the `;`.

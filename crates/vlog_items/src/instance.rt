@@ -4,7 +4,7 @@ ghost use Rattle.readers.specs.Sources.{supply};
 ghost use Rattle.readers.specs.Readers.{same, Reads, ReadsMaybe};
 ghost use Rattle.vlog_tokens.specs.Language.{vlog};
 ghost use Rattle.vlog_exprs.specs.Grammar.{mark, list};
-ghost use Rattle.vlog_items.specs.Grammar.{instance, override_set, overrides, instances};
+ghost use Rattle.vlog_items.specs.Grammar.{instance, override_rest, override_set, overrides, instances};
 
 use crate::connection::read_conns;
 use nl_base::{ReadError, Seq, Text};
@@ -48,6 +48,22 @@ fn read_insts<S: Source>(
     Ok(insts)
 }
 
+/// Reads on behind the point of the value of a parameter of an instance.
+#[tactic(auto, using(readers::proofs::Reading::sequences), unfolding(crate::specs::Grammar::override_rest))]
+fn read_override_rest<S: Source>(
+    alloc: Global,
+    cursor: &mut VCursor,
+    source: &mut S,
+) -> Result<ParamSet, ReadError>
+    ensures { Reads vlog same override_rest result cursor.old cursor.new (supply S.left S.faults source.old) (supply S.left S.faults source.new) }
+{
+    let name = cursor.name(alloc, source)?;
+    cursor.mark(alloc, b'(', source)?;
+    let value = read_const(alloc, cursor, source)?;
+    cursor.mark(alloc, b')', source)?;
+    Ok(ParamSet { name, value })
+}
+
 /// Reads the value of a parameter of an instance.
 #[tactic(auto, using(readers::proofs::Reading::sequences), unfolding(crate::specs::Grammar::override_set))]
 fn read_override<S: Source>(
@@ -58,11 +74,8 @@ fn read_override<S: Source>(
     ensures { Reads vlog same override_set result cursor.old cursor.new (supply S.left S.faults source.old) (supply S.left S.faults source.new) }
 {
     cursor.mark(alloc, b'.', source)?;
-    let name = cursor.name(alloc, source)?;
-    cursor.mark(alloc, b'(', source)?;
-    let value = read_const(alloc, cursor, source)?;
-    cursor.mark(alloc, b')', source)?;
-    Ok(ParamSet { name, value })
+    let set = read_override_rest(alloc, cursor, source)?;
+    Ok(set)
 }
 
 /// Reads the value of one parameter or more of an instance, up to the `)`.

@@ -36,23 +36,22 @@ fn read_item_word<S: Source>(
 ) -> Result<ItemWord, ReadError>
     ensures { Reads vlog same (choice item_words) result cursor.old cursor.new (supply S.left S.faults source.old) (supply S.left S.faults source.new) }
 {
-    let word = cursor.choose(
+    cursor.choose(
         alloc,
         &[
-            (b"input".as_slice(), ItemWord::Port(Dir::Input)),
-            (b"output".as_slice(), ItemWord::Port(Dir::Output)),
-            (b"inout".as_slice(), ItemWord::Port(Dir::Inout)),
-            (b"wire".as_slice(), ItemWord::Net(NetKind::Wire)),
-            (b"tri".as_slice(), ItemWord::Net(NetKind::Tri)),
-            (b"supply0".as_slice(), ItemWord::Net(NetKind::Supply0)),
-            (b"supply1".as_slice(), ItemWord::Net(NetKind::Supply1)),
-            (b"parameter".as_slice(), ItemWord::Param),
-            (b"assign".as_slice(), ItemWord::Assign),
-            (b"defparam".as_slice(), ItemWord::Defparam),
+            (b"input", ItemWord::Port(Dir::Input)),
+            (b"output", ItemWord::Port(Dir::Output)),
+            (b"inout", ItemWord::Port(Dir::Inout)),
+            (b"wire", ItemWord::Net(NetKind::Wire)),
+            (b"tri", ItemWord::Net(NetKind::Tri)),
+            (b"supply0", ItemWord::Net(NetKind::Supply0)),
+            (b"supply1", ItemWord::Net(NetKind::Supply1)),
+            (b"parameter", ItemWord::Param),
+            (b"assign", ItemWord::Assign),
+            (b"defparam", ItemWord::Defparam),
         ],
         source,
-    )?;
-    Ok(word)
+    )
 }
 
 /// Reads on behind the first word of an item.

@@ -1,10 +1,11 @@
 // Declarations of parameters.
 ghost use Rattle.std.specs.Prelude.{◌≡◌};
 ghost use Rattle.readers.specs.Sources.{supply};
-ghost use Rattle.readers.specs.Readers.{same, Reads, ReadsMaybe};
+ghost use Rattle.readers.specs.Readers.{same, Reads, ReadsMaybe, TakesNext};
+ghost use Rattle.vlog_exprs.specs.Reasons as say;
 ghost use Rattle.vlog_tokens.specs.Language.{vlog};
 ghost use Rattle.vlog_exprs.specs.Grammar.{mark, list};
-ghost use Rattle.vlog_items.specs.Grammar.{plain_type, param_type, param_set, param_item};
+ghost use Rattle.vlog_items.specs.Grammar.{param_type_words, plain_type, param_type, param_set, param_item};
 
 use crate::declaration::read_signed;
 use nl_base::{ReadError, Seq};
@@ -27,6 +28,24 @@ fn read_plain_type<S: Source>(
     Ok(ParamType::Plain { signed, range })
 }
 
+/// Reads the type of a parameter that is one word, where one stands.
+fn read_type_word<S: Source>(
+    alloc: Global,
+    cursor: &mut VCursor,
+    source: &mut S,
+) -> Result<Option<ParamType>, ReadError>
+    ensures { TakesNext vlog same (λ _ x. say.at_choice param_type_words x.token) result cursor.old cursor.new (supply S.left S.faults source.old) (supply S.left S.faults source.new) }
+{
+    cursor.takes_choice(
+        alloc,
+        &[
+            (b"integer", ParamType::Integer),
+            (b"real", ParamType::Real),
+        ],
+        source,
+    )
+}
+
 /// Reads the type of a parameter, which may be of no token.
 #[tactic(auto, using(readers::proofs::Choices::choices), unfolding(crate::specs::Grammar::param_type))]
 pub fn read_param_type<S: Source>(
@@ -36,15 +55,7 @@ pub fn read_param_type<S: Source>(
 ) -> Result<ParamType, ReadError>
     ensures { ReadsMaybe vlog same param_type result cursor.old cursor.new (supply S.left S.faults source.old) (supply S.left S.faults source.new) }
 {
-    let word = cursor.takes_choice(
-        alloc,
-        &[
-            (b"integer".as_slice(), ParamType::Integer),
-            (b"real".as_slice(), ParamType::Real),
-        ],
-        source,
-    )?;
-    match word {
+    match read_type_word(alloc, cursor, source)? {
         Some(kind) => Ok(kind),
         None => {
             let kind = read_plain_type(alloc, cursor, source)?;

@@ -3,7 +3,6 @@ use Rattle.std.proofs.Common.{◌≡◌, ◌∙◌, sym, ap, refl, ℕ, Bool, tr
 use Rattle.std.proofs.lemmas.Slice.Eq.{bytes_eq-Decides}
 use Rattle.grammar.specs.Part.{Glance, gives, sequence, takes, leaves}
 use Rattle.grammar.specs.Clear.{Empty, First, IsClear}
-use Rattle.grammar.specs.Clear as clear
 use Rattle.grammar.specs.Whole.{end}
 use Rattle.grammar.proofs.Follow.{clear_fewer, next_given, next_then, next_ahead, next_loop}
 use Rattle.nl_base.specs.declared.fault.Reason.{Reason}
@@ -33,7 +32,7 @@ use Rattle.vlog_exprs.specs.Grammar.{name, mark, keyword, choice, after, commas,
 use Rattle.vlog_exprs.proofs.TokenKinds.{Next, TokenIs, due_is, taken_is, is_left, due_left, taken_left, at_mark_is, group_is}
 use Rattle.vlog_exprs.proofs.Clear.{Follows, first_due, clear_after, InList, Ends, clear_commas, ends_mark, NoDigits, clear_constant, clear_groups}
 use Rattle.vlog_items.specs.Grammar.{signed, port_kind, param_type, param_set, item_words, item}
-use Rattle.vlog_items.proofs.Clear.{NameNext, name_left, ChoiceNext, choice_is, choice_left, WordNext, next_mark, mark_no_digits, list_no_digits, BeginsWith, begins_next, begins_then, begins_either, begins_name, Bracket, NoKind, no_kind, clear_port_kind, behind_sign, begins_sign, clear_sign, clear_param_type, begins_param_set, clear_param_set, clear_word_item, clear_instances_item, ItemNext, begins_item, clear_item}
+use Rattle.vlog_items.proofs.Clear.{NextOf, NameNext, name_left, ChoiceNext, choice_is, choice_left, WordNext, next_mark, mark_no_digits, list_no_digits, BeginsWith, begins_next, begins_then, begins_either, begins_name, Bracket, NoKind, no_kind, clear_port_kind, behind_sign, begins_sign, clear_sign, clear_param_type, begins_param_set, clear_param_set, clear_word_item, clear_instances_item, ItemNext, begins_item, clear_item}
 use Rattle.vlog_modules.specs.declared.header.PortDecls.{PortDecls}
 use Rattle.vlog_modules.specs.declared.parameter.ParamGroups.{ParamGroups}
 use Rattle.vlog_modules.specs.declared.file.Directive.{Directive}
@@ -81,7 +80,7 @@ keyword_is due token.AttrStop u h = absurd cc
 keyword_is due (token.Symbol b) u h = absurd cc
 keyword_is due (token.Directive w) u h = absurd cc
 
-next_keyword : {A : Type 0} (due : List ℕ) (q : Unit {0} → Vlog A) (F : Follows A) (x : Next) → clear.Next tt (sequence (keyword due) q) F x → TokenIs (token.Keyword due) x
+next_keyword : {A : Type 0} (due : List ℕ) (q : Unit {0} → Vlog A) (F : Follows A) (x : Next) → NextOf (sequence (keyword due) q) F x → TokenIs (token.Keyword due) x
 next_keyword due q F x n = let m = first_due (λ _ y. say.keyword_of due y.token) q F x n in due_is (λ y. say.keyword_of due y.token) (token.Keyword due) x m.0 (λ y u e. keyword_is due y.token u e) m.1
 
 bracket : Ends (λ _ x. say.mark_of 41 x.token) (token.Punct 41)
@@ -135,11 +134,11 @@ no_group words x n = choice_left words say.at_group x (λ w a h. refl) n
 clear_port_decl : (F : Follows PortDecl) → IsClear tt port_decl F
 unfolding port_decl one
 clear_port_decl F = (
-  clear_groups [] (λ a. clear.Next tt (dir_to a) F) (λ a x n. no_group dir_words x (begins_next (ChoiceNext dir_words) (dir_to a) F (begins_choice dir_words (λ dir. sequence port_kind (λ k. behind_sign (tail_of a dir k) (begins_tail a dir k)))) x n)),
+  clear_groups [] (λ a. NextOf (dir_to a) F) (λ a x n. no_group dir_words x (begins_next (ChoiceNext dir_words) (dir_to a) F (begins_choice dir_words (λ dir. sequence port_kind (λ k. behind_sign (tail_of a dir k) (begins_tail a dir k)))) x n)),
   λ a. (
     tt,
     λ dir. (
-      clear_port_kind (λ k. clear.Next tt (behind_sign (tail_of a dir k) (begins_tail a dir k)) F)
+      clear_port_kind (λ k. NextOf (behind_sign (tail_of a dir k) (begins_tail a dir k)) F)
           (λ k x n. no_kind x (begins_next _ (behind_sign (tail_of a dir k) (begins_tail a dir k)) F (begins_sign (tail_of a dir k) (begins_tail a dir k)) x n)),
       λ k. clear_sign (tail_of a dir k) (begins_tail a dir k) F (λ s r. (tt, λ _. tt)),
     ),
@@ -160,7 +159,7 @@ unfolding port_turn if_next
 clear_port_turn ds F = (λ n. tt, (clear_port_decl _, λ d. tt), λ x n. decl_no_name x (begins_next DeclNext (sequence port_decl (λ d. gives (with_decl ds d))) F (begins_then DeclNext port_decl (λ d. gives (with_decl ds d)) begins_decl) x n))
 
 -- where a list in brackets ends, no comma is next
-closed_no_comma : {A B : Type 0} (v : A → List B) (s : A) (F : Follows (List B)) (x : Next) → clear.Next tt (sequence (mark 41) (λ _. gives (v s))) F x → at_token (λ y. say.at_mark 44 y.token) x ≡ leaves
+closed_no_comma : {A B : Type 0} (v : A → List B) (s : A) (F : Follows (List B)) (x : Next) → NextOf (sequence (mark 41) (λ _. gives (v s))) F x → at_token (λ y. say.at_mark 44 y.token) x ≡ leaves
 closed_no_comma v s F x n = is_left (say.at_mark 44) (token.Punct 41) x refl (next_mark 41 (λ _. gives (v s)) F x n)
 
 clear_port_decls : (ds : PortDecls) (F : Follows (List PortDecl)) → IsClear tt (port_decls ds) F
@@ -173,7 +172,7 @@ clear_port_decls ds F = (λ ds _. clear_port_turn ds _, λ ds. closed ds, λ ds 
 
 clear_name_header : (n : List ℕ) (F : Follows Header) → IsClear tt (name_header n) F
 unfolding name_header one
-clear_name_header n F = (clear_commas name (λ _ x. say.mark_of 41 x.token) (token.Punct 41) bracket (n ∷ []) (λ ns. clear.Next tt (gives (headers.Names ns)) F) tt, λ ns. tt)
+clear_name_header n F = (clear_commas name (λ _ x. say.mark_of 41 x.token) (token.Punct 41) bracket (n ∷ []) (λ ns. NextOf (gives (headers.Names ns)) F) tt, λ ns. tt)
 
 clear_decl_header : (F : Follows Header) → IsClear tt decl_header F
 unfolding decl_header
@@ -188,7 +187,7 @@ unfolding some_header if_next
 clear_some_header F = (λ n. clear_name_header n F, clear_decl_header F, λ x n. decl_no_name x (begins_next DeclNext decl_header F begins_decl_header x n))
 
 -- a header in brackets is not closed by its first token
-some_no_mark : (F : Follows Header) (x : Next) → clear.Next tt some_header F x → at_token (λ y. say.at_mark 41 y.token) x ≡ leaves
+some_no_mark : (F : Follows Header) (x : Next) → NextOf some_header F x → at_token (λ y. say.at_mark 41 y.token) x ≡ leaves
 unfolding some_header if_next
 some_no_mark F x n = elim (next_ahead tt (λ k t. at_token (λ y. say.at_name y.token) t) name_header decl_header F x n) [
   | inl m ↦ taken_name_left (say.at_mark 41) x m.0 (λ n. refl) m.1
@@ -214,8 +213,8 @@ unfolding param_group one
 clear_param_group F h = (
   tt,
   λ _. (
-    clear_param_type (λ t. clear.Next tt (set_to t) F) (λ t x n. begins_next NameNext (set_to t) F (begins_set t) x n),
-    λ t. (clear_param_set (λ s. clear.Next tt (gives (record { attrs = []; kind = t; sets = s ∷ [] })) F) (λ s x n. h (record { attrs = []; kind = t; sets = s ∷ [] }) x (next_given NoContext Reason tt (record { attrs = []; kind = t; sets = s ∷ [] }) F x n)), λ s. tt),
+    clear_param_type (λ t. NextOf (set_to t) F) (λ t x n. begins_next NameNext (set_to t) F (begins_set t) x n),
+    λ t. (clear_param_set (λ s. NextOf (gives (record { attrs = []; kind = t; sets = s ∷ [] })) F) (λ s x n. h (record { attrs = []; kind = t; sets = s ∷ [] }) x (next_given NoContext Reason tt (record { attrs = []; kind = t; sets = s ∷ [] }) F x n)), λ s. tt),
   ),
 )
 
@@ -227,23 +226,23 @@ begins_param_group : BeginsWith (TokenIs (token.Keyword (codes "parameter"))) pa
 unfolding param_group
 begins_param_group = begins_then (TokenIs (token.Keyword (codes "parameter"))) (keyword (codes "parameter")) (λ _. sequence param_type set_to) (begins_keyword (codes "parameter"))
 
-next_param_group : {B : Type 0} (q : ParamDecl → Vlog B) (F : Follows B) (x : Next) → clear.Next tt (sequence param_group q) F x → TokenIs (token.Keyword (codes "parameter")) x
+next_param_group : {B : Type 0} (q : ParamDecl → Vlog B) (F : Follows B) (x : Next) → NextOf (sequence param_group q) F x → TokenIs (token.Keyword (codes "parameter")) x
 next_param_group q F x n = begins_next (TokenIs (token.Keyword (codes "parameter"))) (sequence param_group q) F (begins_then (TokenIs (token.Keyword (codes "parameter"))) param_group q begins_param_group) x n
 
 clear_more_set : (gs : ParamGroups) (n : List ℕ) (F : Follows ParamGroups) → ((gs : ParamGroups) (x : Next) → F gs x → NoDigits x) → IsClear tt (more_set gs n) F
 unfolding more_set one
-clear_more_set gs n F h = (tt, λ _. (clear_constant (λ v. clear.Next tt (gives (with_set gs (record { name = n; value = v }))) F) (λ v x m. h (with_set gs (record { name = n; value = v })) x (next_given NoContext Reason tt (with_set gs (record { name = n; value = v })) F x m)), λ v. tt))
+clear_more_set gs n F h = (tt, λ _. (clear_constant (λ v. NextOf (gives (with_set gs (record { name = n; value = v }))) F) (λ v x m. h (with_set gs (record { name = n; value = v })) x (next_given NoContext Reason tt (with_set gs (record { name = n; value = v })) F x m)), λ v. tt))
 
 clear_param_turn : (gs : ParamGroups) (F : Follows ParamGroups) → ((gs : ParamGroups) (x : Next) → F gs x → NoDigits x) → IsClear tt (param_turn gs) F
 unfolding param_turn if_next
 clear_param_turn gs F h = (
   λ n. clear_more_set gs n F h,
-  (clear_param_group (λ g. clear.Next tt (gives (with_group gs g)) F) (λ g x n. h (with_group gs g) x (next_given NoContext Reason tt (with_group gs g) F x n)), λ g. tt),
+  (clear_param_group (λ g. NextOf (gives (with_group gs g)) F) (λ g x n. h (with_group gs g) x (next_given NoContext Reason tt (with_group gs g) F x n)), λ g. tt),
   λ x n. is_left say.at_name (token.Keyword (codes "parameter")) x refl (next_param_group (λ g. gives (with_group gs g)) F x n),
 )
 
 -- behind a group stand a comma or the end of the groups
-next_groups : (gs : ParamGroups) (F : Follows (List ParamDecl)) (x : Next) → clear.Next tt (param_groups gs) F x → InList (token.Punct 41) x
+next_groups : (gs : ParamGroups) (F : Follows (List ParamDecl)) (x : Next) → NextOf (param_groups gs) F x → InList (token.Punct 41) x
 unfolding param_groups while_next
 next_groups gs F x n = elim (next_loop tt (λ _ _ t. at_token (λ y. say.at_mark 44 y.token) t) (λ gs _. param_turn gs) (λ (gs : ParamGroups). sequence (mark 41) (λ _. gives (gs.before ++ gs.last ∷ []))) gs F x n) [
   | inl c ↦ inl (taken_is (λ y. say.at_mark 44 y.token) (token.Punct 44) x c.0 (λ y c h. at_mark_is 44 y.token c h) c.1)
@@ -253,7 +252,7 @@ next_groups gs F x n = elim (next_loop tt (λ _ _ t. at_token (λ y. say.at_mark
 clear_param_groups : (gs : ParamGroups) (F : Follows (List ParamDecl)) → IsClear tt (param_groups gs) F
 unfolding param_groups while_next
 clear_param_groups gs F = (
-  λ gs _. clear_param_turn gs (λ t. clear.Next tt (param_groups t) F) (λ t x n. list_no_digits 41 x (next_groups t F x n)),
+  λ gs _. clear_param_turn gs (λ t. NextOf (param_groups t) F) (λ t x n. list_no_digits 41 x (next_groups t F x n)),
   λ gs. closed gs,
   λ gs x n. closed_no_comma (λ (gs : ParamGroups). gs.before ++ gs.last ∷ []) gs F x n,
 )
@@ -267,7 +266,7 @@ unfolding params_rest one
 clear_params_rest F = (
   tt,
   λ _. (
-    clear_param_group (λ g. clear.Next tt (param_groups (record { before = []; last = g })) F) (λ g x n. list_no_digits 41 x (next_groups (record { before = []; last = g }) F x n)),
+    clear_param_group (λ g. NextOf (param_groups (record { before = []; last = g })) F) (λ g x n. list_no_digits 41 x (next_groups (record { before = []; last = g }) F x n)),
     λ g. clear_param_groups (record { before = []; last = g }) F,
   ),
 )
@@ -284,12 +283,12 @@ item_no_group x (inr n) = no_group item_words x n
 
 -- attributes behind their first token, and a part that does not begin with attributes
 module _ {B : Type 0} (q : List Attr → Vlog B) (P : Next → Type 0) (b : (a : List Attr) → BeginsWith P (q a)) (leave : (x : Next) → P x → at_token (λ y. say.at_group y.token) x ≡ leaves) (F : Follows B) where
-  follows : IsClear tt (groups []) (λ a. clear.Next tt (q a) F)
-  follows = clear_groups [] (λ a. clear.Next tt (q a) F) (λ a x n. leave x (begins_next P (q a) F (b a) x n))
+  follows : IsClear tt (groups []) (λ a. NextOf (q a) F)
+  follows = clear_groups [] (λ a. NextOf (q a) F) (λ a x n. leave x (begins_next P (q a) F (b a) x n))
 
-  clear_behind : IsClear tt (sequence (group []) groups) (λ a. clear.Next tt (q a) F)
+  clear_behind : IsClear tt (sequence (group []) groups) (λ a. NextOf (q a) F)
   unfolding groups while_next
-  clear_behind = (follows.0 [] tt, λ a. clear_groups a (λ a. clear.Next tt (q a) F) (λ a x n. leave x (begins_next P (q a) F (b a) x n)))
+  clear_behind = (follows.0 [] tt, λ a. clear_groups a (λ a. NextOf (q a) F) (λ a x n. leave x (begins_next P (q a) F (b a) x n)))
 
 clear_item_rest : (start : ItemStart) (F : Follows ItemV) → IsClear tt (item_rest start) F
 unfolding item_rest
@@ -320,7 +319,7 @@ body_to g = sequence (mark 59) (λ _. sequence (items []) (λ is. gives (g is)))
 abbrev header_to : (Header → List ItemV → Module) → Vlog Module
 header_to g = sequence header (λ h. body_to (g h))
 
-next_header : (g : Header → List ItemV → Module) (F : Follows Module) (x : Next) → clear.Next tt (header_to g) F x → TokenIs (token.Punct 40) x ⊎ TokenIs (token.Punct 59) x
+next_header : (g : Header → List ItemV → Module) (F : Follows Module) (x : Next) → NextOf (header_to g) F x → TokenIs (token.Punct 40) x ⊎ TokenIs (token.Punct 59) x
 unfolding header after if_next
 next_header g F x n = elim (next_then tt header (λ h. body_to (g h)) F x n) [
   | inl (inl m) ↦ inl (taken_is (λ y. say.at_mark 40 y.token) (token.Punct 40) x m.0 (λ y u e. at_mark_is 40 y.token u e) m.1)
@@ -340,9 +339,9 @@ unfolding module_rest one
 clear_module_rest implicit as_written F = (
   tt,
   λ n. (
-    clear_params (λ ps. clear.Next tt (header_to (module_to implicit as_written n ps)) F) (λ x m. header_no_params x (next_header (module_to implicit as_written n []) F x m)),
+    clear_params (λ ps. NextOf (header_to (module_to implicit as_written n ps)) F) (λ x m. header_no_params x (next_header (module_to implicit as_written n []) F x m)),
     λ ps. (
-      clear_header (λ h. clear.Next tt (body_to (module_to implicit as_written n ps h)) F)
+      clear_header (λ h. NextOf (body_to (module_to implicit as_written n ps h)) F)
           (λ h x m. is_left (say.at_mark 40) (token.Punct 59) x refl (next_mark 59 (λ _. sequence (items []) (λ is. gives (module_to implicit as_written n ps h is))) F x m)),
       λ h. (tt, λ _. (clear_items [] _, λ is. tt)),
     ),

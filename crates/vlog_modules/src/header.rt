@@ -31,9 +31,9 @@ fn read_dir<S: Source>(
     let dir = cursor.choose(
         alloc,
         &[
-            (b"input".as_slice(), Dir::Input),
-            (b"output".as_slice(), Dir::Output),
-            (b"inout".as_slice(), Dir::Inout),
+            (b"input", Dir::Input),
+            (b"output", Dir::Output),
+            (b"inout", Dir::Inout),
         ],
         source,
     )?;

@@ -40,16 +40,16 @@ fn is_item_word(word: &[u8]) -> bool
     is_one_of(
         word,
         &[
-            b"input".as_slice(),
-            b"output".as_slice(),
-            b"inout".as_slice(),
-            b"wire".as_slice(),
-            b"tri".as_slice(),
-            b"supply0".as_slice(),
-            b"supply1".as_slice(),
-            b"parameter".as_slice(),
-            b"assign".as_slice(),
-            b"defparam".as_slice(),
+            b"input",
+            b"output",
+            b"inout",
+            b"wire",
+            b"tri",
+            b"supply0",
+            b"supply1",
+            b"parameter",
+            b"assign",
+            b"defparam",
         ],
     )
 }
