@@ -1,18 +1,16 @@
 -- In each part of an item a token that can be taken where it stands belongs there. An item is so whatever follows it.
-use Rattle.std.proofs.Common.{◌≡◌, ◌∙◌, sym, ap, subst, refl, ℕ, nat_eq, Bool, true, false, cond, List, [], ◌∷◌, ◌++◌, Option, Some, None, is_some, Result, Ok, Err, option_map, ◌⊎◌, inl, inr, codes}
-use Rattle.std.specs.List.{find}
+use Rattle.std.proofs.Common.{◌≡◌, ◌∙◌, sym, ap, refl, ℕ, nat_eq, Bool, true, false, List, [], ◌∷◌, Option, Some, None, is_some, Ok, ◌⊎◌, inl, inr, codes}
 use Rattle.std.proofs.lemmas.Bool.{eqb-true}
 use Rattle.std.proofs.lemmas.Slice.Eq.{bytes_eq-Decides}
 use Rattle.grammar.specs.Part.{Glance, gives, sequence, takes, leaves}
 use Rattle.grammar.specs.Clear.{Empty, First, IsClear}
 use Rattle.grammar.specs.Clear as clear
-use Rattle.grammar.proofs.Follow.{clear_fewer, next_given, next_then}
+use Rattle.grammar.proofs.Follow.{next_given, next_then}
 use Rattle.nl_base.specs.Case.{same_bytes}
 use Rattle.nl_base.specs.declared.fault.Reason.{Reason}
 use Rattle.nl_base.specs.declared.value.Dir.{Dir}
 use Rattle.nl_base.specs.Ranges.{Bounds}
-use Rattle.readers.specs.Parts.{of_token, at_token, one, if_next, while_next, maybe}
-use Rattle.vlog_tokens.specs.declared.token.VFound.{VFound}
+use Rattle.readers.specs.Parts.{of_token, at_token, one, if_next, maybe}
 use Rattle.vlog_tokens.specs.declared.token.VToken.{VToken}
 use Rattle.vlog_tokens.specs.declared.token.VToken.TheVariants as token
 use Rattle.vlog_values.specs.declared.expression.Attr.{Attr}
@@ -40,7 +38,7 @@ use Rattle.vlog_exprs.specs.declared.start.ExprStart.{ExprStart}
 use Rattle.vlog_exprs.specs.Language.{NoContext, Vlog}
 use Rattle.vlog_exprs.specs.Reasons as say
 use Rattle.vlog_exprs.specs.Reasons.{meant_by}
-use Rattle.vlog_exprs.specs.Grammar.{name, mark, choice, after, commas, list, range_rest, maybe_range, expr_rest, inside, maybe_expr, expr, constant}
+use Rattle.vlog_exprs.specs.Grammar.{name, mark, choice, after, commas, list, maybe_range, maybe_expr, expr}
 use Rattle.vlog_exprs.proofs.TokenKinds.{Next, TokenIs, due_is, taken_is, is_left, due_left, taken_left, mark_is, at_mark_is}
 use Rattle.vlog_exprs.proofs.Clear.{Follows, first_due, clear_after, InList, Ends, next_commas, clear_commas, clear_list, ends_mark, NoBracket, clear_maybe_range, NoDigits, AfterExpr, mark_after_expr, in_list_after_expr, clear_expr, clear_maybe_expr, clear_constant}
 use Rattle.vlog_items.specs.declared.item.ItemWord.{ItemWord}
@@ -398,8 +396,17 @@ closed_conn n e = sequence (mark 41) (λ _. gives (record { port = n; value = e 
 
 clear_named_rest : (F : Follows NamedConn) → IsClear tt named_rest F
 unfolding named_rest one
-clear_named_rest F = (tt, λ n. (tt, λ _. (clear_maybe_expr (λ e. NextOf (closed_conn n e) F) (λ e x m. mark_after_expr 41 x refl (next_mark 41 (λ _. gives (record { port = n; value = e })) F x m))
-    (λ x m. is_left say.at_expr (token.Punct 41) x refl (next_mark 41 (λ _. gives (record { port = n; value = None })) F x m)), λ e. (tt, λ _. tt))))
+clear_named_rest F = (
+  tt,
+  λ n. (
+    tt,
+    λ _. (
+      clear_maybe_expr (λ e. NextOf (closed_conn n e) F) (λ e x m. mark_after_expr 41 x refl (next_mark 41 (λ _. gives (record { port = n; value = e })) F x m))
+          (λ x m. is_left say.at_expr (token.Punct 41) x refl (next_mark 41 (λ _. gives (record { port = n; value = None })) F x m)),
+      λ e. (tt, λ _. tt),
+    ),
+  ),
+)
 
 clear_named : (F : Follows NamedConn) → IsClear tt named F
 unfolding named one

@@ -1,5 +1,5 @@
 -- From each place in an item some tokens lead to its end.
-use Rattle.std.proofs.Common.{◌≡◌, refl, ℕ, true, false, List, [], ◌∷◌, Option, Some, codes}
+use Rattle.std.proofs.Common.{refl, ℕ, true, false, List, [], ◌∷◌, codes}
 use Rattle.grammar.specs.Part.{gives, sequence}
 use Rattle.readers.specs.Parts.{maybe}
 use Rattle.readers.proofs.Shapes.{live_one, live_if}
@@ -8,14 +8,13 @@ use Rattle.nl_base.specs.declared.value.Dir.TheVariants as dirs
 use Rattle.vlog_tokens.specs.declared.token.VToken.TheVariants as token
 use Rattle.vlog_values.specs.declared.expression.Attr.{Attr}
 use Rattle.vlog_values.specs.declared.declaration.NetKind.{NetKind}
-use Rattle.vlog_exprs.specs.Language.{Vlog}
 use Rattle.vlog_exprs.specs.Reasons as say
 use Rattle.vlog_exprs.specs.Reasons.{meant_by}
-use Rattle.vlog_exprs.specs.Grammar.{name, mark, choice, commas, list, maybe_expr}
+use Rattle.vlog_exprs.specs.Grammar.{name, mark, choice, list, maybe_expr}
 use Rattle.vlog_exprs.proofs.Live.{Lives, found, live_name, live_mark, live_after, live_commas, live_list, live_maybe_range, live_expr, live_maybe_expr, live_constant}
 use Rattle.vlog_items.specs.declared.item.ItemWord.{ItemWord}
 use Rattle.vlog_items.specs.declared.item.ItemWord.TheVariants as words
-use Rattle.vlog_items.specs.Grammar.{signed_word, signed, port_kind_words, port_kind, param_type_words, plain_type, param_type, param_set, port_item, net_item, param_item, assignment, assigns, named_rest, named, named_conns, ordered_conns, conns, instance, override_rest, override_set, overrides, instances, def_value, def_set, defparams, item_words, word_item, instances_item, item}
+use Rattle.vlog_items.specs.Grammar.{signed, port_kind, param_type_words, plain_type, param_type, param_set, port_item, net_item, param_item, assignment, assigns, named_rest, named, named_conns, ordered_conns, conns, instance, override_rest, override_set, overrides, instances, def_value, def_set, defparams, item_words, word_item, instances_item, item}
 
 pub live_signed : Lives signed
 unfolding signed maybe

@@ -1,9 +1,8 @@
 -- The items of a module: declarations of ports, nets and parameters, assignments, instances and `defparam` (IEEE 1364-2005, A.1.3, A.1.4, A.2.1,
 -- A.4.1 and A.6.1): a definition for each production, with the production before it. NAME is a token.
 use Rattle.std.specs.Prelude.{ℕ, Bool, true, false, List, [], ◌∷◌, Option, Some, None, is_some, codes}
-use Rattle.grammar.specs.Part.{Glance, takes, leaves, gives, sequence, ◌>>=◌}
+use Rattle.grammar.specs.Part.{gives, sequence, ◌>>=◌}
 use Rattle.readers.specs.Parts.{if_next, maybe}
-use Rattle.nl_base.specs.declared.fault.Reason.{Reason}
 use Rattle.nl_base.specs.declared.value.Dir.{Dir}
 use Rattle.nl_base.specs.declared.value.Dir.TheVariants as dirs
 use Rattle.vlog_values.specs.declared.expression.Attr.{Attr}
@@ -29,11 +28,9 @@ use Rattle.vlog_values.specs.declared.statement.DefSet.{DefSet}
 use Rattle.vlog_values.specs.declared.statement.Defparams.{Defparams}
 use Rattle.vlog_values.specs.declared.module.ItemV.{ItemV}
 use Rattle.vlog_values.specs.declared.module.ItemV.TheVariants as items
-use Rattle.vlog_tokens.specs.declared.token.VToken.{VToken}
-use Rattle.vlog_tokens.specs.declared.token.VToken.TheVariants as token
 use Rattle.vlog_exprs.specs.Language.{Vlog}
 use Rattle.vlog_exprs.specs.Reasons as say
-use Rattle.vlog_exprs.specs.Grammar.{name, mark, choice, after, commas, list, maybe_range, maybe_expr, expr, constant, groups, group}
+use Rattle.vlog_exprs.specs.Grammar.{name, mark, choice, after, commas, list, maybe_range, maybe_expr, expr, constant}
 use Rattle.vlog_items.specs.declared.item.ItemWord.{ItemWord}
 use Rattle.vlog_items.specs.declared.item.ItemWord.TheVariants as words
 

@@ -72,10 +72,7 @@ pub fn read_port_kind<S: Source>(
 {
     let kind = cursor.takes_choice(
         alloc,
-        &[
-            (b"wire", PortKind::Wire),
-            (b"tri", PortKind::Tri),
-        ],
+        &[(b"wire", PortKind::Wire), (b"tri", PortKind::Tri)],
         source,
     )?;
     Ok(kind)

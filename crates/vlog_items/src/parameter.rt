@@ -38,10 +38,7 @@ fn read_type_word<S: Source>(
 {
     cursor.takes_choice(
         alloc,
-        &[
-            (b"integer", ParamType::Integer),
-            (b"real", ParamType::Real),
-        ],
+        &[(b"integer", ParamType::Integer), (b"real", ParamType::Real)],
         source,
     )
 }
