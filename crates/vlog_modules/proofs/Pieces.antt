@@ -40,13 +40,13 @@ group_first : (s : SoFar) (x : VFound) (ts : Tokens) (k : NoContext) → x.token
 unfolding one_module piece_rest
 group_first s x ts k is = ap (λ r. and_then r (λ m. Ok (with_module s m.0, m.1))) (behind_some (module_of s.implicit) x ts k (ap say.at_group is))
 
+module_word : (implicit : Bool) (x : VFound) (w : List ℕ) (ts : Tokens) (k : NoContext) → x.token ≡ token.Keyword w → same_bytes w (codes "module") ≡ true → read k (module_of implicit []) (proper x ∷ ts) ≡ read k (module_rest implicit []) ts
+unfolding module_of one
+module_word implicit x w ts k is same = rw (is, same) refl
+
 module_first : (s : SoFar) (x : VFound) (w : List ℕ) (ts : Tokens) (k : NoContext) → x.token ≡ token.Keyword w → same_bytes w (codes "module") ≡ true → read k (one_module s) (proper x ∷ ts) ≡ read k (piece_rest s at_module) ts
 unfolding one_module piece_rest
-module_first s x w ts k is same = ap (λ r. and_then r (λ m. Ok (with_module s m.0, m.1))) (behind_none (module_of s.implicit) x ts k (ap say.at_group is) ∙ by)
-  where
-    by : read k (module_of s.implicit []) (proper x ∷ ts) ≡ read k (module_rest s.implicit []) ts
-    unfolding module_of one
-    by = rw (is, same) refl
+module_first s x w ts k is same = ap (λ r. and_then r (λ m. Ok (with_module s m.0, m.1))) (behind_none (module_of s.implicit) x ts k (ap say.at_group is) ∙ module_word s.implicit x w ts k is same)
 
 word_first : (s : SoFar) (x : VFound) (w : List ℕ) (ts : Tokens) (k : NoContext) (c : PieceStart) (b : Bool) → x.token ≡ token.Keyword w → same_bytes w (codes "module") ≡ b → cond b (takes at_module) leaves ≡ takes c → read k (piece s) (proper x ∷ ts) ≡ read k (piece_rest s c) ts
 word_first s x w ts k c true is same h = let e : at_module ≡ c = cc in other_first s x ts k (ap at_directive is) ∙ module_first s x w ts k is same ∙ rw (← e) refl
@@ -126,20 +126,18 @@ one_round s x ts k b = let c = taken x.token b in
     ∙ rw c.1 refl
     ∙ sym (ap (λ r. and_then r (λ y. read k (pieces y.0) y.1)) (first_piece s x x.token ts k c.0 refl c.1))
 
+first_round : (s : SoFar) (k : NoContext) (ts : Tokens) → FirstFits begins_piece true ts → read k (pieces s) ts ≡ read k (sequence (piece s) pieces) ts
+first_round s k [] is = absurd is
+first_round s k (end p ∷ ts) is = absurd cc
+first_round s k (proper x ∷ ts) is = one_round s x ts k (sym is)
+
+module _ (so_far : SoFar) (k : NoContext) where
+  pub pieces_more : (s : Option (Ahead VFound)) → IsNext begins_piece true s → reading vlog (pieces so_far) k s ≡ reading vlog (sequence (piece so_far) pieces) k s
+  unfolding reading IsNext
+  pieces_more None is = refl
+  pieces_more (Some s) is = ap (λ r. Some (result_of vlog s.finish r)) (first_round so_far k s.tokens is)
+
 module _ (so_far : SoFar) (k : NoContext) (s : Option (Ahead VFound)) where
-  pub pieces_more : IsNext begins_piece true s → reading vlog (pieces so_far) k s ≡ reading vlog (sequence (piece so_far) pieces) k s
-  pieces_more is = more s is
-    where
-      by : (ts : Tokens) → FirstFits begins_piece true ts → read k (pieces so_far) ts ≡ read k (sequence (piece so_far) pieces) ts
-      by [] is = absurd is
-      by (end p ∷ ts) is = absurd cc
-      by (proper x ∷ ts) is = one_round so_far x ts k (sym is)
-
-      more : (s : Option (Ahead VFound)) → IsNext begins_piece true s → reading vlog (pieces so_far) k s ≡ reading vlog (sequence (piece so_far) pieces) k s
-      unfolding reading IsNext
-      more None is = refl
-      more (Some s) is = ap (λ r. Some (result_of vlog s.finish r)) (by s.tokens is)
-
   pub pieces_end : IsNext begins_piece false s → reading vlog (pieces so_far) k s ≡ reading vlog (gives (record { modules = so_far.modules })) k s
   unfolding pieces
   pieces_end is = while_next_is_no vlog begins_piece (λ _ _ x. at_piece x.token) piece_rest (λ s. gives (record { modules = s.modules })) so_far k s misses is

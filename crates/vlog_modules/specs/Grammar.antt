@@ -37,16 +37,21 @@ use Rattle.vlog_modules.specs.declared.file.SoFar.{SoFar}
 abbrev pub dir_words : List (List ℕ × Dir)
 dir_words = (codes "input", dirs.Input) ∷ (codes "output", dirs.Output) ∷ (codes "inout", dirs.Inout) ∷ []
 
--- attrs ("input"|"output"|"inout") ["wire"|"tri"] ["signed"] [range] NAME
-unfoldable pub port_decl : Vlog PortDecl
-port_decl = do
-  as_written ← attrs
-  dir ← choice dir_words
+-- ["wire"|"tri"] ["signed"] [range] NAME
+unfoldable pub port_rest : List Attr → Dir → Vlog PortDecl
+port_rest as_written dir = do
   k ← port_kind
   s ← signed
   r ← maybe_range
   n ← name
   gives (record { attrs = as_written; dir = dir; kind = k; signed = s; range = r; names = n ∷ [] })
+
+-- attrs ("input"|"output"|"inout") ["wire"|"tri"] ["signed"] [range] NAME
+unfoldable pub port_decl : Vlog PortDecl
+port_decl = do
+  as_written ← attrs
+  dir ← choice dir_words
+  port_rest as_written dir
 
 -- one more name of the last declaration
 abbrev pub with_name : PortDecls → List ℕ → PortDecls
@@ -183,7 +188,7 @@ net_type_of (token.Name n) = if same_bytes n (codes "none") then Ok false else E
 net_type_of t = Err (say.misplaced t)
 
 -- "wire" | "none"
-unfoldable pub net_type : Vlog Bool
+abbrev pub net_type : Vlog Bool
 net_type = one (λ _ x. net_type_of x.token)
 
 -- the directives that stand between modules

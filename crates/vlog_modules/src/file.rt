@@ -57,9 +57,10 @@ fn read_file<S: Source>(
 ) -> Result<VlogFile, ReadError>
     ensures { ReadsWhole vlog same file result cursor.old cursor.new (supply S.left S.faults source.old) (supply S.left S.faults source.new) }
 {
+    let implicit = true;
     let mut so_far = SoFar {
         modules: Seq::empty(alloc),
-        implicit: true,
+        implicit,
     };
     while at_piece(alloc, cursor, source)? {
         so_far = read_piece(alloc, cursor, so_far, source)?;
@@ -92,7 +93,7 @@ fn begins_piece(found: &VFound) -> bool
 {
     match &found.token {
         VToken::AttrStart => true,
-        VToken::Keyword(word) => word.bytes() == b"module",
+        VToken::Keyword(word) => word.bytes() == b"module".as_slice(),
         VToken::Directive(word) => directive_of(word.bytes()).is_some(),
         _ => false,
     }
@@ -102,10 +103,10 @@ fn begins_piece(found: &VFound) -> bool
 fn directive_of(word: &[u8]) -> Option<Directive>
     ensures { result ≡ directive_of word.now }
 {
-    if word == b"`default_nettype" {
+    if word == b"`default_nettype".as_slice() {
         return Some(Directive::Nettype);
     }
-    if word == b"`resetall" {
+    if word == b"`resetall".as_slice() {
         return Some(Directive::Reset);
     }
     None
@@ -205,13 +206,13 @@ fn net_type_of(alloc: Global, token: VToken) -> Result<Result<bool, Reason>, NoM
 {
     match token {
         VToken::Keyword(word) => {
-            if word.bytes() == b"wire" {
+            if word.bytes() == b"wire".as_slice() {
                 return Ok(Ok(true));
             }
             Ok(Err(Reason::NotInProfile(word)))
         }
         VToken::Name(name) => {
-            if name.bytes() == b"none" {
+            if name.bytes() == b"none".as_slice() {
                 return Ok(Ok(false));
             }
             Ok(Err(Reason::Unexpected))
