@@ -7,11 +7,10 @@ use Rattle.readers.proofs.Reading.{sequences}
 use Rattle.vlog_tokens.specs.declared.token.VFound.{VFound}
 use Rattle.vlog_tokens.specs.Language.{vlog}
 use Rattle.vlog_values.specs.declared.expression.Expr.{Expr}
-use Rattle.nl_base.specs.declared.number.Int.{Int}
 use Rattle.vlog_exprs.specs.declared.start.ExprStart.{ExprStart}
 use Rattle.vlog_exprs.specs.declared.start.ExprStart.TheVariants as starts
 use Rattle.vlog_exprs.specs.Language.{NoContext, Vlog}
-use Rattle.vlog_exprs.specs.Grammar.{expr_start, expr_rest, cat_rest, braced, inside, expr, expr_by}
+use Rattle.vlog_exprs.specs.Grammar.{expr_start, expr_rest, cat_rest, braced, inside, expr}
 
 pub inside_reads : (left : Bool) (room : ℕ) (k : NoContext) (s : Option (Ahead VFound)) → 0 < room → reading vlog (inside left room) k s ≡ reading vlog (sequence (expr_start left (room - 1)) (braced (expr left (room - 1)) (inside left (room - 1)))) k s
 unfolding inside expr

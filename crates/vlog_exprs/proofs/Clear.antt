@@ -1,9 +1,9 @@
 -- In each part a token that can be taken where it stands belongs there, where what follows the part cannot go on with it.
-use Rattle.std.proofs.Common.{◌≡◌, ◌∙◌, sym, ap, refl, ℕ, zero, suc, nat_eq, Bool, true, false, List, [], ◌∷◌, ◌++◌, Option, Some, None, ℤ, pos, neg_ℤ, Result, Ok, ◌⊎◌, inl, inr}
-use Rattle.grammar.specs.Part.{Glance, gives, sequence, takes, leaves}
+use Rattle.std.proofs.Common.{◌≡◌, refl, ℕ, zero, suc, nat_eq, Bool, false, List, [], ◌∷◌, ◌++◌, Option, Some, None, ℤ, pos, neg_ℤ, Result, Ok, ◌⊎◌, inl, inr}
+use Rattle.grammar.specs.Part.{gives, sequence, leaves}
 use Rattle.grammar.specs.Clear.{Empty, First, IsClear}
 use Rattle.grammar.specs.Clear as clear
-use Rattle.grammar.proofs.Follow.{clear_fewer, next_given, next_then, next_ahead, next_loop, next_token}
+use Rattle.grammar.proofs.Follow.{clear_fewer, next_given, next_then, next_loop, next_token}
 use Rattle.nl_base.specs.declared.fault.Reason.{Reason}
 use Rattle.readers.specs.Parts.{of_token, at_token, one, if_next, while_next}
 use Rattle.vlog_tokens.specs.declared.token.VFound.{VFound}
@@ -24,8 +24,8 @@ use Rattle.vlog_exprs.specs.declared.start.ConstStart.{ConstStart}
 use Rattle.vlog_exprs.specs.declared.start.ConstStart.TheVariants as const_starts
 use Rattle.vlog_exprs.specs.Language.{NoContext, Vlog}
 use Rattle.vlog_exprs.specs.Reasons as say
-use Rattle.vlog_exprs.specs.Grammar.{name, mark, group_end, after, commas, list, bound_number, bound, range_rest, range, maybe_range, select_rest, select, digits, sized, sized_const, expr_of_number, const_of_number, expr_start, expr_rest, expr_by, cat_rest, rep_rest, braced, inside, expr, maybe_expr, const_start, signed, const_rest, constant, attr_value, attr, group, groups, attrs}
-use Rattle.vlog_exprs.proofs.TokenKinds.{Next, TokenIs, due_is, taken_is, is_left, due_left, taken_left, mark_is, at_mark_is, group_end_is, group_is, bound_no_mark, digits_no_mark}
+use Rattle.vlog_exprs.specs.Grammar.{mark, group_end, after, commas, list, bound_number, bound, range_rest, range, maybe_range, select_rest, select, digits, sized, sized_const, expr_of_number, const_of_number, expr_rest, expr_by, cat_rest, rep_rest, braced, inside, expr, maybe_expr, const_rest, constant, attr_value, attr, group, groups}
+use Rattle.vlog_exprs.proofs.TokenKinds.{Next, TokenIs, due_is, taken_is, is_left, due_left, taken_left, mark_is, at_mark_is, group_end_is, bound_no_mark, digits_no_mark}
 
 -- what may follow a part, by its value
 abbrev pub Follows : Type 0 → Type 1
@@ -76,8 +76,11 @@ module _ {A : Type 0} (p : Vlog A) (close : NoContext → VFound → Result (Uni
   pub clear_commas : (so_far : List A) (F : Follows (List A)) → Clears p (λ _ x. InList last x) → Clears (commas p (one close) so_far) F
   unfolding commas while_next one
   clear_commas so_far F h = (
-    λ t _. (clear_fewer tt p (λ a. Comes (gives (t ++ a ∷ [])) (λ s. Comes (commas p (one close) s) F)) (λ _ x. InList last x)
-        (λ a x n. next_commas (t ++ a ∷ []) F x (given (t ++ a ∷ []) (λ s. Comes (commas p (one close) s) F) x n)) h, λ _. tt),
+    λ t _. (
+      clear_fewer tt p (λ a. Comes (gives (t ++ a ∷ [])) (λ s. Comes (commas p (one close) s) F)) (λ _ x. InList last x)
+          (λ a x n. next_commas (t ++ a ∷ []) F x (given (t ++ a ∷ []) (λ s. Comes (commas p (one close) s) F) x n)) h,
+      λ _. tt,
+    ),
     λ t. (tt, λ _. tt),
     λ t x n. let d = first_due close (λ _. gives t) F x n in is_left (say.at_mark 44) last x e.no_comma (due_is (close tt) last x d.0 e.is d.1),
   )

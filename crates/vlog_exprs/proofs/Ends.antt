@@ -1,13 +1,12 @@
 -- A call that takes the end of the input.
-use Rattle.std.proofs.Common.{◌≡◌, ◌∙◌, sym, ap, subst, refl, true, false, Option, Some, None, Result, Ok, Err, IfOk, IsErrAnd}
+use Rattle.std.proofs.Common.{◌≡◌, ◌∙◌, sym, ap, subst, refl, Some, None, Result, Ok, Err, IfOk, IsErrAnd}
 use Rattle.std.proofs.lemmas.Result.{err_from_is_err_and}
 use Rattle.grammar.specs.Whole.{proper, the_end}
 use Rattle.nl_base.specs.declared.fault.Reason.{Reason}
 use Rattle.nl_base.specs.declared.fault.ReadError.{ReadError}
-use Rattle.nl_base.specs.declared.fault.ReadError.TheVariants as errors
 use Rattle.nl_base.specs.declared.memory.NoMemory.{NoMemory}
 use Rattle.readers.specs.Sources.{Supply, IsNear}
-use Rattle.readers.specs.Readers.{Reader, Ends, stream, reading, looking, then_left, fault_at, IsCause}
+use Rattle.readers.specs.Readers.{Reader, Ends, stream, reading, looking, then_left, fault_at}
 use Rattle.readers.proofs.Moving.{near_text, near_no_memory}
 use Rattle.readers.proofs.Reading.{no_memory}
 use Rattle.readers.proofs.Looking.{seen_trailing, seen_end, cause_ending}

@@ -1,16 +1,14 @@
 -- A call that takes the next token where it fits, and answers what it is taken for.
-use Rattle.std.proofs.Common.{◌≡◌, ◌∙◌, sym, ap, subst, refl, Bool, true, false, Option, Some, None, is_some, Result, Ok, Err, IsErrAnd}
+use Rattle.std.proofs.Common.{◌≡◌, ◌∙◌, sym, subst, refl, Bool, true, Option, Some, None, is_some, Result, Ok, Err, IsErrAnd}
 use Rattle.std.proofs.lemmas.Result.{err_from_is_err_and}
 use Rattle.grammar.specs.Part as part
 use Rattle.grammar.specs.Part.{takes, refuses, leaves}
-use Rattle.nl_base.specs.declared.place.Place.{Place}
 use Rattle.nl_base.specs.declared.fault.Reason.{Reason}
 use Rattle.nl_base.specs.declared.fault.ReadError.{ReadError}
 use Rattle.readers.specs.Sources.{Supply, IsNear}
 use Rattle.readers.specs.Readers.{Reader, TakesNext, same}
 use Rattle.readers.proofs.Maybes.{none_at_end, none_at_token, none_by_error, some_at_token, refused_at_token}
 use Rattle.vlog_tokens.specs.declared.token.VFound.{VFound}
-use Rattle.vlog_tokens.specs.declared.token.VToken.{VToken}
 use Rattle.vlog_tokens.specs.Language.{vlog}
 use Rattle.vlog_exprs.specs.declared.glance.Glance.{Glance}
 use Rattle.vlog_exprs.specs.Language.{NoContext}

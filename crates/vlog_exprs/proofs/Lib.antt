@@ -1,7 +1,9 @@
 pub mod Braces
 pub mod Clear
-mod Ends
-mod Glances
-pub mod TokenKinds
+pub mod Constants
+pub mod Ends
+pub mod Expressions
+pub mod Glances
 pub mod Live
-mod OneToken
+pub mod OneToken
+pub mod TokenKinds

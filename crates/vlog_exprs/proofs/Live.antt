@@ -1,11 +1,9 @@
 -- From each place in a part some tokens lead to its end.
-use Rattle.std.proofs.Common.{◌≡◌, refl, ℕ, zero, suc, nat_eq, Bool, true, false, List, [], ◌∷◌, ◌++◌, Option, Some, None, ℤ, pos, neg_ℤ, Result, Ok}
+use Rattle.std.proofs.Common.{◌≡◌, refl, ℕ, zero, suc, nat_eq, Bool, true, false, List, [], ◌∷◌, ◌++◌, Some, None, ℤ, pos, neg_ℤ}
 use Rattle.std.proofs.lemmas.Bool.Decides.{Decides-eqb}
 use Rattle.grammar.specs.Part.{gives, sequence}
 use Rattle.grammar.specs.Clear.{IsLive}
-use Rattle.nl_base.specs.declared.place.Place.{Place}
 use Rattle.nl_base.specs.Place.{place_at_start}
-use Rattle.readers.specs.Parts.{one, if_next, while_next}
 use Rattle.readers.proofs.Shapes.{live_one, live_if, live_while}
 use Rattle.vlog_tokens.specs.declared.token.VFound.{VFound}
 use Rattle.vlog_tokens.specs.declared.token.VToken.{VToken}
@@ -16,9 +14,9 @@ use Rattle.vlog_exprs.specs.declared.start.ExprStart.{ExprStart}
 use Rattle.vlog_exprs.specs.declared.start.ExprStart.TheVariants as starts
 use Rattle.vlog_exprs.specs.declared.start.ConstStart.{ConstStart}
 use Rattle.vlog_exprs.specs.declared.start.ConstStart.TheVariants as const_starts
-use Rattle.vlog_exprs.specs.Language.{NoContext, Vlog}
+use Rattle.vlog_exprs.specs.Language.{Vlog}
 use Rattle.vlog_exprs.specs.Reasons as say
-use Rattle.vlog_exprs.specs.Grammar.{name, number, mark, keyword, group_end, after, commas, list, bound_number, bound, range_rest, range, maybe_range, select_rest, select, digits, sized, sized_const, expr_start, expr_rest, expr_by, cat_rest, rep_rest, braced, inside, expr, maybe_expr, const_start, signed, const_rest, constant, attr_value, attr, group, groups, attrs}
+use Rattle.vlog_exprs.specs.Grammar.{name, number, mark, group_end, after, commas, list, bound_number, bound, range_rest, range, maybe_range, select_rest, select, digits, sized, sized_const, expr_start, expr_rest, expr_by, cat_rest, rep_rest, braced, inside, expr, maybe_expr, const_start, signed, const_rest, constant, attr_value, attr, group, groups}
 
 -- a part that is live
 abbrev pub Lives : {A : Type 0} → Vlog A → Type 0

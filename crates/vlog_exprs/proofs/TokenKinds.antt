@@ -1,5 +1,5 @@
 -- Which token it is that a part takes, and which parts leave it.
-use Rattle.std.proofs.Common.{◌≡◌, ◌∙◌, sym, ap, refl, ℕ, nat_eq, Bool, true, false, ℤ, Result, Ok, Err, ◌⊎◌, inl, inr}
+use Rattle.std.proofs.Common.{◌≡◌, ◌∙◌, sym, ap, refl, ℕ, nat_eq, Bool, true, false, ℤ, Result, Ok, Err}
 use Rattle.std.proofs.lemmas.Bool.{eqb-true}
 use Rattle.grammar.specs.Part.{Glance, takes, leaves}
 use Rattle.grammar.specs.Whole.{Terminal, proper, end}
@@ -11,7 +11,7 @@ use Rattle.vlog_tokens.specs.declared.token.VFound.{VFound}
 use Rattle.vlog_tokens.specs.declared.token.VToken.{VToken}
 use Rattle.vlog_tokens.specs.declared.token.VToken.TheVariants as token
 use Rattle.vlog_values.specs.declared.literal.Literal.{Literal}
-use Rattle.vlog_exprs.specs.Reasons.{misplaced, mark_of, group_end_of, bound_of, at_mark, at_digits, at_group}
+use Rattle.vlog_exprs.specs.Reasons.{mark_of, group_end_of, bound_of, at_mark, at_digits, at_group}
 
 -- a token of the text, or its end
 abbrev pub Next : Type 0

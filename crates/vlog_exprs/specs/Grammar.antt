@@ -1,6 +1,6 @@
 -- Constants, attributes and expressions, and what all parts of the grammar are made of (IEEE 1364-2005, A.2.5, A.8 and A.9.1): a definition for
 -- each production, with the production before it. NAME, NUM, REAL, BASED and STR are tokens.
-use Rattle.std.specs.Prelude.{ℕ, zero, suc, Bool, true, false, List, [], ◌∷◌, ◌++◌, Option, Some, None, ℤ, pos, neg_ℤ}
+use Rattle.std.specs.Prelude.{ℕ, zero, suc, Bool, false, List, [], ◌∷◌, ◌++◌, Option, Some, None, ℤ, pos, neg_ℤ}
 use Rattle.grammar.specs.Part.{gives, sequence, ◌>>=◌}
 use Rattle.readers.specs.Parts.{one, if_next, while_next}
 use Rattle.nl_base.specs.Ranges.{Bounds}

@@ -1,6 +1,6 @@
 -- What a token says at its place, or the reason for which it may not stand there: one definition for each kind of place (IEEE 1364-2005, 3).
--- The order is that of the reasons, of which the first that fits is given: the end of the input and the faults within a token come before all
--- of these.
+-- The order is that of the reasons, of which the first that fits is given, but for the last two, which the others fall back on: the end of the
+-- input and the faults within a token come before all of these.
 use Rattle.std.specs.Prelude.{ℕ, zero, suc, nat_eq, Bool, true, false, ◌&&◌, if◌then◌else◌, List, [], ◌∷◌, Option, Some, None, option_map, Result, Ok, Err, ℤ, pos, negsuc, neg_ℤ, int_lt, nat_abs, map}
 use Rattle.std.specs.Borrow.{Bor}
 use Rattle.std.specs.List.{find}
@@ -8,11 +8,9 @@ use Rattle.grammar.specs.Part.{Glance, takes, refuses, leaves}
 use Rattle.nl_base.specs.Case.{same_bytes}
 use Rattle.nl_base.specs.declared.fault.Reason.{Reason}
 use Rattle.nl_base.specs.declared.fault.Reason.TheVariants as reasons
-use Rattle.nl_base.specs.declared.number.Scaled.{Scaled}
 use Rattle.vlog_values.specs.declared.expression.Const.{Const}
 use Rattle.vlog_values.specs.declared.expression.Const.TheVariants as consts
 use Rattle.vlog_values.specs.declared.literal.Literal.{Literal}
-use Rattle.vlog_values.specs.declared.literal.Based.{Based}
 use Rattle.vlog_tokens.specs.declared.token.VFound.{VFound}
 use Rattle.vlog_tokens.specs.declared.token.VToken.{VToken}
 use Rattle.vlog_tokens.specs.declared.token.VToken.TheVariants as token

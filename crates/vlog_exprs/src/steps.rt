@@ -8,7 +8,9 @@ ghost use Rattle.vlog_exprs.specs.Grammar.{name, number, mark, keyword, choice};
 ghost use Rattle.vlog_exprs.specs.Reasons as say;
 
 use crate::cursor::VCursor;
-use crate::reasons::{at_choice, at_mark, at_name, choice_of, keyword_of, mark_of, name_of, number_of};
+use crate::reasons::{
+    at_choice, at_mark, at_name, choice_of, keyword_of, mark_of, name_of, number_of,
+};
 use nl_base::{Int, ReadError, Text};
 use nl_io::Source;
 use std::alloc::Global;
