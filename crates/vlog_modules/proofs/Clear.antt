@@ -1,24 +1,23 @@
 -- In each part of a file a token that can be taken where it stands belongs there. The end of the input goes on with no file.
-use Rattle.std.proofs.Common.{◌≡◌, ◌∙◌, sym, ap, refl, ℕ, Bool, true, false, List, [], ◌∷◌, ◌++◌, Option, Some, None, ◌⊎◌, inl, inr, codes}
+use Rattle.std.proofs.Common.{◌≡◌, ◌∙◌, sym, ap, refl, ℕ, Bool, true, false, List, [], ◌∷◌, ◌++◌, Option, Ok, Err, ◌⊎◌, inl, inr, codes}
 use Rattle.std.proofs.lemmas.Slice.Eq.{bytes_eq-Decides}
 use Rattle.grammar.specs.Part.{Glance, gives, sequence, takes, leaves}
-use Rattle.grammar.specs.Clear.{Empty, First, IsClear}
+use Rattle.grammar.specs.Clear.{First, IsClear}
 use Rattle.grammar.specs.Whole.{end}
-use Rattle.grammar.proofs.Follow.{clear_fewer, next_given, next_then, next_ahead, next_loop}
+use Rattle.grammar.proofs.Follow.{next_given, next_then, next_ahead, next_loop}
 use Rattle.nl_base.specs.declared.fault.Reason.{Reason}
+use Rattle.nl_base.specs.declared.fault.Reason.TheVariants as reasons
 use Rattle.nl_base.specs.Case.{same_bytes}
 use Rattle.nl_base.specs.declared.place.Place.{Place}
 use Rattle.nl_base.specs.declared.value.Dir.{Dir}
 use Rattle.nl_base.specs.Ranges.{Bounds}
-use Rattle.readers.specs.Parts.{of_token, at_token, one, if_next, while_next}
+use Rattle.readers.specs.Parts.{at_token, one, if_next, while_next}
 use Rattle.vlog_tokens.specs.declared.token.VToken.{VToken}
 use Rattle.vlog_tokens.specs.declared.token.VToken.TheVariants as token
 use Rattle.vlog_values.specs.declared.expression.Attr.{Attr}
-use Rattle.vlog_values.specs.declared.expression.Const.{Const}
 use Rattle.vlog_values.specs.declared.declaration.PortKind.{PortKind}
 use Rattle.vlog_values.specs.declared.declaration.PortDecl.{PortDecl}
 use Rattle.vlog_values.specs.declared.declaration.ParamDecl.{ParamDecl}
-use Rattle.vlog_values.specs.declared.declaration.ParamSet.{ParamSet}
 use Rattle.vlog_values.specs.declared.declaration.ParamType.{ParamType}
 use Rattle.vlog_values.specs.declared.module.Header.{Header}
 use Rattle.vlog_values.specs.declared.module.Header.TheVariants as headers
@@ -28,17 +27,17 @@ use Rattle.vlog_values.specs.declared.module.VlogFile.{VlogFile}
 use Rattle.vlog_exprs.specs.Language.{NoContext, Vlog}
 use Rattle.vlog_exprs.specs.Reasons as say
 use Rattle.vlog_exprs.specs.Reasons.{meant_by}
-use Rattle.vlog_exprs.specs.Grammar.{name, mark, keyword, choice, after, commas, maybe_range, constant, attrs, group, groups}
-use Rattle.vlog_exprs.proofs.TokenKinds.{Next, TokenIs, due_is, taken_is, is_left, due_left, taken_left, at_mark_is, group_is}
+use Rattle.vlog_exprs.specs.Grammar.{name, mark, keyword, choice, after, attrs, group, groups}
+use Rattle.vlog_exprs.proofs.TokenKinds.{Next, TokenIs, due_is, taken_is, is_left, taken_left, at_mark_is, group_is}
 use Rattle.vlog_exprs.proofs.Clear.{Follows, first_due, clear_after, InList, Ends, clear_commas, ends_mark, NoDigits, clear_constant, clear_groups}
-use Rattle.vlog_items.specs.Grammar.{signed, port_kind, param_type, param_set, item_words, item}
-use Rattle.vlog_items.proofs.Clear.{NextOf, NameNext, name_left, ChoiceNext, choice_is, choice_left, WordNext, next_mark, mark_no_digits, list_no_digits, BeginsWith, begins_next, begins_then, begins_either, begins_name, Bracket, NoKind, no_kind, clear_port_kind, behind_sign, begins_sign, clear_sign, clear_param_type, begins_param_set, clear_param_set, clear_word_item, clear_instances_item, ItemNext, begins_item, clear_item}
+use Rattle.vlog_items.specs.Grammar.{port_kind, param_type, param_set, item_words, item}
+use Rattle.vlog_items.proofs.Clear.{NextOf, NameNext, ChoiceNext, choice_left, next_mark, list_no_digits, BeginsWith, begins_next, begins_then, begins_either, begins_name, no_kind, clear_port_kind, behind_sign, begins_sign, clear_sign, clear_param_type, begins_param_set, clear_param_set, clear_word_item, clear_instances_item, ItemNext, begins_item, clear_item}
 use Rattle.vlog_modules.specs.declared.header.PortDecls.{PortDecls}
 use Rattle.vlog_modules.specs.declared.parameter.ParamGroups.{ParamGroups}
 use Rattle.vlog_modules.specs.declared.file.Directive.{Directive}
 use Rattle.vlog_modules.specs.declared.file.Directive.TheVariants as directives
 use Rattle.vlog_modules.specs.declared.file.SoFar.{SoFar}
-use Rattle.vlog_modules.specs.Grammar.{dir_words, port_rest, port_decl, with_name, with_decl, port_turn, port_decls, name_header, decl_header, some_header, header, param_group, with_set, more_set, with_group, param_turn, param_groups, params_rest, params, ItemStart, at_group, at_module_name, at_word, at_item, item_rest, items, module_rest, module_of, net_type, with_implicit, with_module, directive, PieceStart, at_word_of, at_attributes, at_module, at_piece, piece_rest, pieces, file}
+use Rattle.vlog_modules.specs.Grammar.{dir_words, port_rest, port_decl, with_decl, port_turn, port_decls, name_header, decl_header, some_header, header, param_group, with_set, more_set, with_group, param_turn, param_groups, params_rest, params, ItemStart, at_group, at_module_name, at_word, at_item, item_rest, items, module_rest, module_of, directive, PieceStart, at_word_of, at_attributes, at_module, at_piece, piece_rest, pieces, file}
 
 -- ---- what comes next
 
@@ -68,7 +67,7 @@ keyword_is due (token.Keyword w) u h = by w (same_bytes w due) refl h
   where
     by : (w : List ℕ) (b : Bool) → same_bytes w due ≡ b → say.keyword_of due (token.Keyword w) ≡ Ok u → token.Keyword w ≡ token.Keyword due
     by w true e h = ap token.Keyword ((bytes_eq-Decides w due).0 e)
-    by w false e h = let k : say.keyword_of due (token.Keyword w) ≡ Err _ = rw e refl in let m = sym k ∙ h in absurd cc
+    by w false e h = let k : say.keyword_of due (token.Keyword w) ≡ Err (reasons.NotInProfile w) = rw e refl in let m = sym k ∙ h in absurd cc
 keyword_is due (token.Name n) u h = absurd cc
 keyword_is due (token.Punct b) u h = absurd cc
 keyword_is due (token.Number n) u h = absurd cc

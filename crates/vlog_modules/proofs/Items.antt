@@ -2,7 +2,7 @@
 use Rattle.std.proofs.Common.{◌≡◌, ◌∙◌, sym, ap, refl, ℕ, Bool, true, false, cond, ◌||◌, List, [], ◌∷◌, ◌++◌, Option, Some, None, is_some, Ok, Err, option_map, codes}
 use Rattle.std.specs.List.{find, list_any}
 use Rattle.std.proofs.lemmas.List.{map_push}
-use Rattle.grammar.specs.Part.{Glance, gives, sequence, takes, refuses, leaves}
+use Rattle.grammar.specs.Part.{gives, sequence, takes, leaves}
 use Rattle.grammar.specs.Reading.{read, and_then, Found as Answer}
 use Rattle.grammar.specs.Whole.{Terminal, proper, end}
 use Rattle.grammar.proofs.Loops.{read_loop}
@@ -24,9 +24,9 @@ use Rattle.vlog_values.specs.declared.module.ItemV.{ItemV}
 use Rattle.vlog_exprs.specs.Language.{NoContext, Vlog}
 use Rattle.vlog_exprs.specs.Reasons as say
 use Rattle.vlog_exprs.specs.Reasons.{meant_by}
-use Rattle.vlog_exprs.specs.Grammar.{attrs, group, groups, choice, keyword}
+use Rattle.vlog_exprs.specs.Grammar.{attrs, group, groups, keyword}
 use Rattle.vlog_items.specs.declared.item.ItemWord.{ItemWord}
-use Rattle.vlog_items.specs.Grammar.{item_words, word_item, instances_item, item}
+use Rattle.vlog_items.specs.Grammar.{item_words, instances_item, item}
 use Rattle.vlog_modules.specs.Grammar.{ItemStart, at_group, at_module_name, at_word, word_start, at_item, item_rest, items}
 use Rattle.vlog_modules.specs.Starts.{is_taken, begins_item}
 

@@ -1,9 +1,9 @@
 -- Directives and modules are read one by one, each from its first token on.
-use Rattle.std.proofs.Common.{◌≡◌, ◌∙◌, sym, ap, refl, ℕ, Bool, true, false, cond, List, [], ◌∷◌, ◌++◌, Option, Some, None, Ok, Err, codes}
+use Rattle.std.proofs.Common.{◌≡◌, ◌∙◌, sym, ap, refl, ℕ, Bool, true, false, List, [], ◌∷◌, Option, Some, None, Ok, codes}
 use Rattle.std.proofs.lemmas.List.{map_push}
-use Rattle.grammar.specs.Part.{Glance, gives, sequence, takes, refuses, leaves}
-use Rattle.grammar.specs.Reading.{read, and_then, Found as Answer}
-use Rattle.grammar.specs.Whole.{Terminal, proper, end}
+use Rattle.grammar.specs.Part.{gives, sequence, takes, leaves}
+use Rattle.grammar.specs.Reading.{read, and_then}
+use Rattle.grammar.specs.Whole.{proper, end}
 use Rattle.grammar.proofs.Loops.{read_loop}
 use Rattle.nl_base.specs.Case.{same_bytes}
 use Rattle.nl_base.specs.declared.fault.ReadError.{ReadError}
@@ -16,13 +16,11 @@ use Rattle.vlog_tokens.specs.Language.{vlog}
 use Rattle.vlog_tokens.specs.declared.token.VFound.{VFound}
 use Rattle.vlog_tokens.specs.declared.token.VToken.{VToken}
 use Rattle.vlog_tokens.specs.declared.token.VToken.TheVariants as token
-use Rattle.vlog_values.specs.declared.module.VlogFile.{VlogFile}
-use Rattle.vlog_exprs.specs.Language.{NoContext, Vlog}
+use Rattle.vlog_exprs.specs.Language.{NoContext}
 use Rattle.vlog_exprs.specs.Reasons as say
-use Rattle.vlog_exprs.specs.Grammar.{attrs, group, groups, keyword}
 use Rattle.vlog_modules.specs.declared.file.Directive.{Directive}
 use Rattle.vlog_modules.specs.declared.file.SoFar.{SoFar}
-use Rattle.vlog_modules.specs.Grammar.{module_rest, module_of, with_module, directive_of, at_directive, directive, PieceStart, at_word_of, at_attributes, at_module, directive_start, at_piece, piece_rest, pieces}
+use Rattle.vlog_modules.specs.Grammar.{module_rest, module_of, with_module, directive_of, at_directive, directive, PieceStart, at_word_of, at_attributes, at_module, module_start, directive_start, at_piece, piece_rest, pieces}
 use Rattle.vlog_modules.specs.Starts.{is_taken, begins_piece, one_module, piece}
 use Rattle.vlog_modules.proofs.Items.{Tokens, behind_none, behind_some}
 
@@ -48,7 +46,7 @@ module_first : (s : SoFar) (x : VFound) (w : List ℕ) (ts : Tokens) (k : NoCont
 unfolding one_module piece_rest
 module_first s x w ts k is same = ap (λ r. and_then r (λ m. Ok (with_module s m.0, m.1))) (behind_none (module_of s.implicit) x ts k (ap say.at_group is) ∙ module_word s.implicit x w ts k is same)
 
-word_first : (s : SoFar) (x : VFound) (w : List ℕ) (ts : Tokens) (k : NoContext) (c : PieceStart) (b : Bool) → x.token ≡ token.Keyword w → same_bytes w (codes "module") ≡ b → cond b (takes at_module) leaves ≡ takes c → read k (piece s) (proper x ∷ ts) ≡ read k (piece_rest s c) ts
+word_first : (s : SoFar) (x : VFound) (w : List ℕ) (ts : Tokens) (k : NoContext) (c : PieceStart) (b : Bool) → x.token ≡ token.Keyword w → same_bytes w (codes "module") ≡ b → module_start b ≡ takes c → read k (piece s) (proper x ∷ ts) ≡ read k (piece_rest s c) ts
 word_first s x w ts k c true is same h = let e : at_module ≡ c = cc in other_first s x ts k (ap at_directive is) ∙ module_first s x w ts k is same ∙ rw (← e) refl
 word_first s x w ts k c false is same h = absurd cc
 
@@ -73,7 +71,7 @@ first_piece s x (token.Symbol b) ts k c is h = absurd cc
 
 -- ---- the loop
 
-word_taken : (b : Bool) → is_taken {R = _} (cond b (takes at_module) leaves) ≡ true → (c : PieceStart) × (cond b (takes at_module) leaves ≡ takes c)
+word_taken : (b : Bool) → is_taken (module_start b) ≡ true → (c : PieceStart) × (module_start b ≡ takes c)
 word_taken true h = (at_module, refl)
 word_taken false h = absurd cc
 
@@ -94,7 +92,7 @@ taken (token.Punct b) h = absurd cc
 taken token.AttrStop h = absurd cc
 taken (token.Symbol b) h = absurd cc
 
-word_left : (b : Bool) → is_taken {R = _} (cond b (takes at_module) leaves) ≡ false → cond b (takes at_module) leaves ≡ leaves
+word_left : (b : Bool) → is_taken (module_start b) ≡ false → module_start b ≡ leaves
 word_left true h = absurd cc
 word_left false h = refl
 

@@ -9,7 +9,6 @@ use Rattle.nl_base.specs.declared.fault.Reason.TheVariants as reasons
 use Rattle.nl_base.specs.declared.value.Dir.{Dir}
 use Rattle.nl_base.specs.declared.value.Dir.TheVariants as dirs
 use Rattle.vlog_values.specs.declared.expression.Attr.{Attr}
-use Rattle.vlog_values.specs.declared.expression.Const.{Const}
 use Rattle.vlog_values.specs.declared.declaration.PortDecl.{PortDecl}
 use Rattle.vlog_values.specs.declared.declaration.ParamDecl.{ParamDecl}
 use Rattle.vlog_values.specs.declared.declaration.ParamSet.{ParamSet}
@@ -219,6 +218,11 @@ pub data PieceStart : Type 0 where
   at_attributes : PieceStart
   at_module : PieceStart
 
+-- what a keyword begins, where it is "module"
+abbrev pub module_start : Bool → Glance PieceStart Reason
+module_start true = takes at_module
+module_start false = leaves
+
 -- what a directive begins
 abbrev pub directive_start : Option Directive → Glance PieceStart Reason
 directive_start (Some d) = takes (at_word_of d)
@@ -227,7 +231,7 @@ directive_start None = leaves
 -- a token with which a directive or a module begins
 abbrev pub at_piece : VToken → Glance PieceStart Reason
 at_piece token.AttrStart = takes at_attributes
-at_piece (token.Keyword w) = if same_bytes w (codes "module") then takes at_module else leaves
+at_piece (token.Keyword w) = module_start (same_bytes w (codes "module"))
 at_piece (token.Directive w) = directive_start (directive_of w)
 at_piece t = leaves
 

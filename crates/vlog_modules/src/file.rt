@@ -10,9 +10,10 @@ ghost use Rattle.vlog_modules.specs.Starts.{begins_piece, one_module, piece};
 ghost use Rattle.vlog_modules.specs.Grammar.{net_type, net_type_of, directive_of, at_directive, directive, file};
 
 use crate::module::read_module;
-use nl_base::{NoMemory, ReadError, Reason, Seq, Text};
+use nl_base::{ReadError, Reason, Seq};
 use nl_io::Source;
 use std::alloc::Global;
+use vlog_exprs::reasons::{Said, misplaced};
 use vlog_exprs::{Glance, VCursor, read_attrs};
 use vlog_tokens::{VFound, VToken, VTokens};
 use vlog_values::{Module, VlogFile};
@@ -201,7 +202,7 @@ fn read_net_type<S: Source>(
 }
 
 /// What a token says of the net kind of names that are used without a declaration.
-fn net_type_of(alloc: Global, token: VToken) -> Result<Result<bool, Reason>, NoMemory>
+fn net_type_of(alloc: Global, token: VToken) -> Said<bool>
     ensures { IfOk result (λ said. said ≡ net_type_of token) }
 {
     match token {
@@ -217,12 +218,10 @@ fn net_type_of(alloc: Global, token: VToken) -> Result<Result<bool, Reason>, NoM
             }
             Ok(Err(Reason::Unexpected))
         }
-        VToken::Symbol(byte) => {
-            let word = Text::copy(alloc, &[byte])?;
-            Ok(Err(Reason::NotInProfile(word)))
+        other => {
+            let reason = misplaced(alloc, other)?;
+            Ok(Err(reason))
         }
-        VToken::Directive(word) => Ok(Err(Reason::NotInProfile(word))),
-        _ => Ok(Err(Reason::Unexpected)),
     }
 }
 

@@ -92,7 +92,10 @@ fn read_port_turn<S: Source>(
 ) -> Result<PortDecls, ReadError>
     ensures { Reads vlog same (port_turn decls) result cursor.old cursor.new (supply S.left S.faults source.old) (supply S.left S.faults source.new) }
 {
-    let PortDecls { mut before, mut last } = decls;
+    let PortDecls {
+        mut before,
+        mut last,
+    } = decls;
     match cursor.takes_name(alloc, source)? {
         Some(name) => {
             cursor.add(&mut last.names, name)?;

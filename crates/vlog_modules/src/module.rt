@@ -34,7 +34,6 @@ fn is_one_of(word: &[u8], words: &[&[u8]]) -> bool
 }
 
 /// Whether a keyword begins an item.
-#[tactic(auto, using(crate::proofs::Items::meant_any))]
 fn is_item_word(word: &[u8]) -> bool
     ensures { result ≡ is_some (meant_by item_words word.now) }
 {

@@ -56,13 +56,11 @@ fn files_are_read(rt: HostRuntime) -> Result<(), Fail> {
         (b"".as_slice(), 0),
         (b"module m; endmodule".as_slice(), 1),
         (
-            b"module m (input [1:0] a, b, output y);\n assign y = {a[0], 2{b}};\n endmodule"
-                .as_slice(),
+            b"module m (input [1:0] a, b, output y);\n assign y = {a[0], 2{b}};\n endmodule".as_slice(),
             u64::MAX,
         ),
         (
-            b"module m (input [1:0] a, b, output y); assign y = {a[0], {2{b}}}; endmodule"
-                .as_slice(),
+            b"module m (input [1:0] a, b, output y); assign y = {a[0], {2{b}}}; endmodule".as_slice(),
             11,
         ),
         (
@@ -70,8 +68,7 @@ fn files_are_read(rt: HostRuntime) -> Result<(), Fail> {
             17,
         ),
         (
-            b"module L (); endmodule module m (); L #(.A(1)) u (); defparam u.A = 2; endmodule"
-                .as_slice(),
+            b"module L (); endmodule module m (); L #(.A(1)) u (); defparam u.A = 2; endmodule".as_slice(),
             7,
         ),
     ] {
@@ -91,18 +88,14 @@ fn directives_say_which_names_are_nets(rt: HostRuntime) -> Result<(), Fail> {
             0,
         ),
         (
-            b"`default_nettype none\nmodule a; endmodule\n`resetall\nmodule b; endmodule"
-                .as_slice(),
+            b"`default_nettype none\nmodule a; endmodule\n`resetall\nmodule b; endmodule".as_slice(),
             1,
         ),
         (
             b"`default_nettype \\none \nmodule a; endmodule\n`default_nettype wire\nmodule b; endmodule module c; endmodule".as_slice(),
             2,
         ),
-        (
-            b"`default_nettype tri\nmodule a; endmodule".as_slice(),
-            100,
-        ),
+        (b"`default_nettype tri\nmodule a; endmodule".as_slice(), 100),
     ] {
         let mut source = source_of(alloc, text)?;
         assert_eq!(rt; implicit_in(alloc, &mut source), count);

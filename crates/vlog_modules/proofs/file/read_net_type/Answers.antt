@@ -1,4 +1,4 @@
-use Rattle.vlog_modules.proofs.OneToken.{one_says, one_fails}
+use Rattle.vlog_exprs.proofs.OneToken.{one_says, one_fails}
 use Rattle.vlog_modules.specs.Grammar.{net_type_of}
 use Rattle.vlog_modules.proofs.file.read_net_type.Goals as goal
 

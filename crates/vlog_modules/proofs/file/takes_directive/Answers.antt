@@ -1,6 +1,6 @@
 use Rattle.std.proofs.Common.{None, refl}
 use Rattle.readers.specs.Readers.{same}
-use Rattle.vlog_modules.proofs.Glances.{seen_says, seen_none, seen_fails}
+use Rattle.vlog_exprs.proofs.Glances.{seen_says, seen_none, seen_fails}
 use Rattle.vlog_modules.specs.Grammar.{at_directive}
 use Rattle.vlog_modules.proofs.file.takes_directive.Goals as goal
 
