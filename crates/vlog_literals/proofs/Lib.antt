@@ -1,0 +1,5 @@
+pub mod DigitLaws
+pub mod Steps
+pub mod Sizes
+pub mod Limits
+pub mod SpelledLaws
