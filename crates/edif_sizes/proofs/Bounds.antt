@@ -1,6 +1,5 @@
 -- What a part spells has no more items than tokens: one fact for each way in which a part is made.
-use Rattle.std.proofs.Common.{◌≡◌, ◌∙◌, refl, ap, sym, ℕ, suc, ◌+◌, ◌≤◌, Bool, true, false, cond, List, [], ◌∷◌, ◌++◌, length, length-append, Result, arith, inl, inr}
-use Rattle.std.specs.List.{sum_by}
+use Rattle.std.proofs.Common.{◌≡◌, ◌∙◌, ap, ℕ, suc, ◌+◌, ◌≤◌, Bool, true, false, cond, List, [], ◌∷◌, ◌++◌, length, length-append, arith}
 use Rattle.std.proofs.lemmas.List.Sums.{sum_by_push}
 use Rattle.grammar.specs.Part.{Glance, gives, sequence, under, takes}
 use Rattle.grammar.specs.Texts.{Spells, Rounds, ends, goes, TakenText}
@@ -22,7 +21,7 @@ pub record Bounded {A : Type 0} (part : Edif A) (size : A → ℕ) (before : ℕ
 -- ---- how a part is made
 
 pub bounded_gives : {A : Type 0} {size : A → ℕ} {n : ℕ} (a : A) → size a ≤ n → Bounded (gives a) size n
-bounded_gives {size = size} a le = record { bound = λ table ts v spells. let same = ap size spells.2 in omega (arith, le, same) }
+bounded_gives {size = size} a le = record { bound = λ table ts v spells. let same = ap size spells.1 in omega (arith, le, same) }
 
 pub bounded_then : {A B : Type 0} {p : Edif A} {q : A → Edif B} {size : A → ℕ} {size' : B → ℕ} {n : ℕ} → Bounded p size n → ((u : A) → Bounded (q u) size' (size u)) → Bounded (sequence p q) size' n
 bounded_then first next = record {
@@ -46,7 +45,7 @@ bounded_cond true p q h l = h
 bounded_cond false p q h l = l
 
 -- the same part behind more
-pub bounded_behind : {A : Type 0} {p : Edif A} {size : A → ℕ} {n : ℕ} (more : ℕ) → Bounded p size n → Bounded p (λ v. size v + more) (n + more)
+pub bounded_behind : {A : Type 0} {p : Edif A} {size : A → ℕ} (more : ℕ) → Bounded p size 0 → Bounded p (λ v. size v + more) more
 bounded_behind more known = record { bound = λ table ts v spells. let h = known.bound table ts v spells in omega (arith, h) }
 
 -- a smaller size

@@ -1,5 +1,5 @@
 -- Ports, instances and nets have no more items than tokens.
-use Rattle.std.proofs.Common.{ℕ, ◌+◌, ◌≤◌, List, [], ◌∷◌, length, arith}
+use Rattle.std.proofs.Common.{ℕ, [], ◌∷◌, length, arith}
 use Rattle.edif_keywords.specs.declared.keyword.Keyword.{Keyword}
 use Rattle.edif_keywords.specs.declared.keyword.Keyword.TheVariants as k
 use Rattle.edif_keywords.specs.Keywords.{same_keyword}
