@@ -50,15 +50,18 @@ module _ {K X V O : Type 0} (L : Language X) (trail : X → Reason) (k : K) (par
 
   -- the text is not read
   text_is_refused : (e : ReadError) → ReadsText L trail k same part (Err e) i j → new ≡ old → Does taken accepts faults c i j old new (Err (failure_of e))
-  text_is_refused (errors.Text f) h s = (record {
-    first = if_told i.left (λ bs. IsFirstFault (fault_at L) k (whole trail part) (tokens_of L bs) f) (λ bs. Gives c bs (faulty f)) h.error (λ bs first. speaks.of_fault bs f first);
-    taken = h.taken;
-    left = h.left;
-    near = h.near;
-  }, s)
+  text_is_refused (errors.Text f) h s = (
+    record {
+      first = if_told i.left (λ bs. IsFirstFault (fault_at L) k (whole trail part) (tokens_of L bs) f) (λ bs. Gives c bs (faulty f)) h.error (λ bs first. speaks.of_fault bs f first);
+      taken = h.taken;
+      left = h.left;
+      near = h.near;
+    },
+    s,
+  )
   text_is_refused errors.ReadFault h s = (h.cause refl, s)
   text_is_refused errors.TooLong h s = (if_told i.left (λ bs. IsCut k (whole trail part) (tokens_of L bs)) (λ bs. Gives c bs too_long) h.error (λ bs cut. speaks.of_cut bs cut), s)
-  text_is_refused errors.NoMemory h s = s
+  text_is_refused errors.NoMemory h s = (tt, s)
   text_is_refused errors.Spent h s = absurd (h.never_spent refl)
 
 -- ---- EDIF
