@@ -17,7 +17,8 @@ use Rattle.netlist_cli.specs.Lines.{line}
 use Rattle.netlist_cli.specs.Outcomes.{written, faulty, too_long, Gives}
 use Rattle.netlist_cli.specs.Runs.{PutsText, WroteText, BrokeOff, HasFault, IsTooLong, IsTold, TakesFrom, TellsFault, FitsBytes, IsDecided, Does, Performs}
 use Rattle.netlist_cli.proofs.Told.{if_told, any_told}
-use Rattle.edif_library.proofs.AtMostOne.{file_or_fault, file_or_cut, fault_or_cut}
+use Rattle.edif_library.proofs.AtMostOne as edif
+use Rattle.vlog_modules.proofs.AtMostOne as verilog
 
 -- the status of an answer
 abbrev pub ending : Result (Unit {0}) Failure → Status
@@ -27,13 +28,16 @@ ending (Err f) = status_of f
 -- ---- no two of a text, a fault and a cut come of the same bytes
 
 text_or_fault : (c : Command) (bs t : List ℕ) (f : TextFault) → Gives c bs (written t) → Gives c bs (faulty f) → ⊥
-text_or_fault commands.Format bs t f h k = file_or_fault bs h.value f h.reads_as k
+text_or_fault commands.Format bs t f h k = edif.file_or_fault bs h.value f h.reads_as k
+text_or_fault commands.Vformat bs t f h k = verilog.file_or_fault bs h.value f h.reads_as k
 
 text_or_cut : (c : Command) (bs t : List ℕ) → Gives c bs (written t) → Gives c bs too_long → ⊥
-text_or_cut commands.Format bs t h k = file_or_cut bs h.value h.reads_as k
+text_or_cut commands.Format bs t h k = edif.file_or_cut bs h.value h.reads_as k
+text_or_cut commands.Vformat bs t h k = verilog.file_or_cut bs h.value h.reads_as k
 
 no_fault_of_cut : (c : Command) (bs : List ℕ) (f : TextFault) → Gives c bs (faulty f) → Gives c bs too_long → ⊥
-no_fault_of_cut commands.Format bs f h k = fault_or_cut bs f h k
+no_fault_of_cut commands.Format bs f h k = edif.fault_or_cut bs f h k
+no_fault_of_cut commands.Vformat bs f h k = verilog.fault_or_cut bs f h k
 
 -- no byte is taken
 pub takes_none : (i : Supply) → TakesFrom i i
