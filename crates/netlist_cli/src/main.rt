@@ -31,6 +31,8 @@ use std::rt::Env;
 
 #[cfg(test)]
 mod tests;
+#[cfg(test)]
+mod texts;
 
 /// The words behind the program's name. A word that is not UTF-8 is no word of a command.
 fn words(rt: &(impl Env + AllocGlobal)) -> Result<Seq<Text>, Failure> {

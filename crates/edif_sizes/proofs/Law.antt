@@ -1,0 +1,60 @@
+-- The size of a file that was read.
+use Rattle.std.proofs.Common.{◌∙◌, ap, ℕ, suc, ◌≤◌, List, [], ◌++◌, map, length, length-append, arith}
+use Rattle.std.proofs.lemmas.List.{length-map}
+use Rattle.grammar.specs.Texts.{Spells}
+use Rattle.grammar.specs.Whole.{Terminal, proper, whole, the_end}
+use Rattle.nl_base.specs.declared.place.Place.{Place}
+use Rattle.nl_base.specs.Place.{place_at_start}
+use Rattle.nl_bytes.specs.declared.bytes.TheConstants.{LIMIT}
+use Rattle.edif_tokens.specs.declared.token.Found.{Found}
+use Rattle.edif_tokens.specs.Streams as streams
+use Rattle.edif_tokens.specs.Stream.{tokens}
+use Rattle.edif_keywords.specs.Language.{last}
+use Rattle.edif_keywords.specs.Reasons.{trailing}
+use Rattle.edif_library.specs.declared.file.EdifFile.{EdifFile}
+use Rattle.edif_library.specs.Grammar.{file}
+use Rattle.edif_library.specs.Sizes.{edif_size}
+use Rattle.edif_library.specs.Text.{EdifReads}
+use Rattle.edif_sizes.proofs.Library.{bounded_file}
+use Rattle.edif_sizes.proofs.Tokens.{few_tokens, read_within}
+
+-- the end of the input is no token of a file
+whole_size : (ts : List (Terminal Found Place)) (v : EdifFile) → Spells [] (whole trailing (file [])) ts v → suc (edif_size v) ≤ length ts
+unfolding whole the_end
+whole_size ts v (u, a, b, is, in_file, (ended, c, d, is_end, (x, one_more, told), (none, same))) =
+    let l = ap length is ∙ length-append a b in
+    let m = ap length is_end ∙ length-append c d in
+    let k = ap length one_more in
+    let h = (bounded_file []).bound [] a u in_file in
+    let s = ap edif_size same in
+    omega (arith, l, m, k, h, s)
+
+-- a token of the text
+abbrev proper_token : Found → Terminal Found Place
+proper_token x = proper x
+
+last_one : (finish : streams.Finish) → length (last finish) ≤ 1
+last_one (streams.End p) = omega arith
+last_one (streams.Bad fault) = omega arith
+last_one streams.Over = omega arith
+
+-- A file that was read has no more items than tokens.
+pub items_within : (bs : List ℕ) (v : EdifFile) → EdifReads bs v → edif_size v ≤ length (tokens bs).tokens
+items_within bs v reads =
+    let l = length-append (map proper (tokens bs).tokens) (last (tokens bs).finish) in
+    let m = length-map (tokens bs).tokens proper_token in
+    let o = last_one (tokens bs).finish in
+    let h = whole_size (map proper (tokens bs).tokens ++ last (tokens bs).finish) v reads.0 in
+    omega (arith, l, m, o, h)
+
+-- There are no more tokens than bytes.
+pub tokens_within : (bs : List ℕ) → length (tokens bs).tokens ≤ length bs
+tokens_within bs = few_tokens place_at_start bs
+
+-- Bytes that read as a file are within the limit of an input.
+pub input_within : (bs : List ℕ) (v : EdifFile) → EdifReads bs v → length bs ≤ LIMIT
+input_within bs v reads = let h = read_within place_at_start bs reads.1 in omega (arith, h)
+
+-- So the size of the file is.
+pub file_within : (bs : List ℕ) (v : EdifFile) → EdifReads bs v → edif_size v ≤ LIMIT
+file_within bs v reads = let a = items_within bs v reads in let b = tokens_within bs in let c = input_within bs v reads in omega (arith, a, b, c)

@@ -1,0 +1,6 @@
+pub mod Bounds
+pub mod Status
+pub mod Nets
+pub mod Library
+pub mod Tokens
+pub mod Law
