@@ -4,6 +4,9 @@ use Rattle.nl_base.specs.declared.fault.TextFault.{TextFault}
 use Rattle.edif_library.specs.Text.{EdifReads, EdifFault, EdifCut}
 use Rattle.edif_library.proofs.AtMostOne as edif
 use Rattle.edif_writer.specs.Forms.{edif_text}
+use Rattle.vlog_modules.specs.Text.{VlogReads, VlogFault, VlogCut}
+use Rattle.vlog_modules.proofs.AtMostOne as verilog
+use Rattle.vlog_writer.specs.Forms.{vlog_text}
 use Rattle.netlist_cli.specs.declared.command.Command.{Command}
 use Rattle.netlist_cli.specs.declared.command.Command.TheVariants as commands
 use Rattle.netlist_cli.specs.Outcomes.{Outcome, written, faulty, too_long, Formats, Gives}
@@ -38,5 +41,9 @@ module _ {V : Type 0} (reads : List ℕ → V → Type 0) (fault : List ℕ → 
 edif_exact : IsExact EdifReads EdifFault EdifCut
 edif_exact = record { one = edif.one_file; one_fault = edif.one_first_fault; no_fault = edif.file_or_fault; no_cut = edif.file_or_cut; no_fault_of_cut = edif.fault_or_cut }
 
+verilog_exact : IsExact VlogReads VlogFault VlogCut
+verilog_exact = record { one = verilog.one_file; one_fault = verilog.one_first_fault; no_fault = verilog.file_or_fault; no_cut = verilog.file_or_cut; no_fault_of_cut = verilog.fault_or_cut }
+
 pub one_outcome : (c : Command) (bs : List ℕ) (a b : Outcome) → Gives c bs a → Gives c bs b → a ≡ b
 one_outcome commands.Format = one_of_formatting EdifReads EdifFault EdifCut edif_exact edif_text commands.Format (λ bs t h. h) (λ bs f h. h) (λ bs h. h)
+one_outcome commands.Vformat = one_of_formatting VlogReads VlogFault VlogCut verilog_exact vlog_text commands.Vformat (λ bs t h. h) (λ bs f h. h) (λ bs h. h)

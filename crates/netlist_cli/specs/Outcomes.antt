@@ -3,6 +3,8 @@ use Rattle.std.specs.Prelude.{◌≡◌, ℕ, List, ⊤}
 use Rattle.nl_base.specs.declared.fault.TextFault.{TextFault}
 use Rattle.edif_library.specs.Text.{EdifReads, EdifFault, EdifCut}
 use Rattle.edif_writer.specs.Forms.{edif_text}
+use Rattle.vlog_modules.specs.Text.{VlogReads, VlogFault, VlogCut}
+use Rattle.vlog_writer.specs.Forms.{vlog_text}
 use Rattle.netlist_cli.specs.declared.command.Command.{Command}
 use Rattle.netlist_cli.specs.declared.command.Command.TheVariants as commands
 use Rattle.netlist_cli.specs.declared.status.Status.{Status}
@@ -40,9 +42,13 @@ pub record Formats {V : Type 0} (reads : List ℕ → V → Type 0) (text_of : V
 -- the text is one that the command writes
 abbrev pub IsText : Command → List ℕ → Type 0
 IsText commands.Format text = IsTextOf edif_text text
+IsText commands.Vformat text = IsTextOf vlog_text text
 
 -- what comes of the bytes for the command
 abbrev pub Gives : Command → List ℕ → Outcome → Type 0
 Gives commands.Format bytes (written text) = Formats EdifReads edif_text bytes text
 Gives commands.Format bytes (faulty fault) = EdifFault bytes fault
 Gives commands.Format bytes too_long = EdifCut bytes
+Gives commands.Vformat bytes (written text) = Formats VlogReads vlog_text bytes text
+Gives commands.Vformat bytes (faulty fault) = VlogFault bytes fault
+Gives commands.Vformat bytes too_long = VlogCut bytes

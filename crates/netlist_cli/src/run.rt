@@ -1,33 +1,17 @@
 ghost use Rattle.std.specs.Prelude.{◌≡◌, ◌≢◌, ◌↔◌, Ok, Err, Some, None, IfSome};
 ghost use Rattle.nl_io.specs.Causes.{Rose};
 ghost use Rattle.readers.specs.Sources.{supply};
-ghost use Rattle.netlist_cli.specs.declared.command.Command.TheVariants as commands;
 ghost use Rattle.netlist_cli.specs.Commands.{command};
-ghost use Rattle.netlist_cli.specs.Runs.{BrokeOff, Does, FitsBytes, IsDecided, Performs, TakesFrom, TellsFailure, WroteText};
+ghost use Rattle.netlist_cli.specs.Runs.{BrokeOff, FitsBytes, IsDecided, Performs, TakesFrom, TellsFailure, WroteText};
 
 use crate::command::Command;
 use crate::failure::Failure;
+use crate::formatting::{format, vformat};
 use crate::line::report;
 use crate::status::Status;
-use edif_library::read_edif;
-use edif_writer::write_edif;
 use nl_base::{Seq, Text};
-use nl_io::{Failed, Sink, Source};
+use nl_io::{Sink, Source};
 use std::alloc::Global;
-
-/// Reads an EDIF file and writes its text.
-fn format<S: Source, O: Sink>(alloc: Global, input: &mut S, output: &mut O) -> Result<(), Failure>
-    ensures does { Does O.taken O.accepts O.faults commands.Format (supply S.left S.faults input.old) (supply S.left S.faults input.new) output.old output.new result }
-    ensures taken { TakesFrom (supply S.left S.faults input.old) (supply S.left S.faults input.new) }
-{
-    match read_edif(alloc, input) {
-        Ok(file) => match write_edif(&file, output) {
-            Ok(()) => Ok(()),
-            Err(Failed) => Err(Failure::WriteFault),
-        },
-        Err(error) => Err(Failure::of_read_error(error)),
-    }
-}
 
 /// Does what the words ask for.
 fn perform<S: Source, O: Sink>(
@@ -41,6 +25,7 @@ fn perform<S: Source, O: Sink>(
 {
     match Command::of(words) {
         Some(Command::Format) => format(alloc, input, output),
+        Some(Command::Vformat) => vformat(alloc, input, output),
         None => Err(Failure::Usage),
     }
 }

@@ -42,6 +42,14 @@ fn format_of(text: &[u8]) -> Given<'_> {
     }
 }
 
+/// `vformat` on a text in one piece, with room enough and no failure.
+fn vformat_of(text: &[u8]) -> Given<'_> {
+    Given {
+        word: b"vformat",
+        ..format_of(text)
+    }
+}
+
 /// Pieces of one byte each.
 fn bytes_of(alloc: Global, text: &[u8]) -> Result<Vec<Vec<u8>>, Fail> {
     let mut pieces = Vec::new(alloc);
@@ -112,15 +120,26 @@ fn ends_so(alloc: Global, given: &Given<'_>, wanted: &Wanted<'_>) -> Result<bool
     ends_from(alloc, given, &words, wanted)
 }
 
-/// Whether `format` on the text ends with a text fault told by this line. The text is taken whole.
-fn is_refused(alloc: Global, text: &[u8], line: &[u8]) -> Result<bool, Fail> {
+/// Whether a run that takes its whole text ends with a text fault told by this line.
+fn is_refused(alloc: Global, given: &Given<'_>, line: &[u8]) -> Result<bool, Fail> {
     let wanted = Wanted {
         status: 1,
         output: b"",
         errors: line,
-        taken: text.len() as u64,
+        taken: given.text.len() as u64,
     };
-    ends_so(alloc, &format_of(text), &wanted)
+    ends_so(alloc, given, &wanted)
+}
+
+/// Whether a run that takes its whole text puts this text.
+fn is_written(alloc: Global, given: &Given<'_>, output: &[u8]) -> Result<bool, Fail> {
+    let wanted = Wanted {
+        status: 0,
+        output,
+        errors: b"",
+        taken: given.text.len() as u64,
+    };
+    ends_so(alloc, given, &wanted)
 }
 
 #[test]
@@ -269,7 +288,44 @@ fn fault_is_told(rt: HostRuntime) -> Result<(), Fail> {
             b"fault 1:163 ViewType SCHEMATIC\n",
         ),
     ] {
-        assert_eq!(rt; is_refused(rt.alloc(), text, line)?, true);
+        assert_eq!(rt; is_refused(rt.alloc(), &format_of(text), line)?, true);
+    }
+    Ok(())
+}
+
+/// A module by ports of a header of names, and as it is written.
+const MODULE: &[u8] =
+    b"module m(a,y);input [1:0]a;output y;(*k=2*)wire w;BUF #(.N(4'HA)) u1(.I(a[0]),.O(w)),u2({1{w}},);assign y=w;endmodule";
+
+const MODULE_WRITTEN: &[u8] =
+    b"module m (a, y);\n  input [1:0] a;\n  output y;\n  (* k = 2 *) wire w;\n  BUF #(.N(4'hA)) u1 (.I(a[0]), .O(w)), u2 ({1{w}}, );\n  assign y = w;\nendmodule\n";
+
+#[test]
+fn modules_are_written(rt: HostRuntime) -> Result<(), Fail> {
+    for (text, written) in [
+        (MODULE, MODULE_WRITTEN),
+        (MODULE_WRITTEN, MODULE_WRITTEN),
+        (b"".as_slice(), b"".as_slice()),
+    ] {
+        assert_eq!(rt; is_written(rt.alloc(), &vformat_of(text), written)?, true);
+    }
+    Ok(())
+}
+
+#[test]
+fn faults_of_modules_are_told(rt: HostRuntime) -> Result<(), Fail> {
+    for (text, line) in [
+        (
+            b"module m (input a, output y); assign y = a &".as_slice(),
+            b"fault 1:44 NotInProfile &\n".as_slice(),
+        ),
+        (
+            b"module m (input a);\n  always",
+            b"fault 2:3 NotInProfile always\n",
+        ),
+        (b"module m ((", b"fault 1:11 Unexpected\n"),
+    ] {
+        assert_eq!(rt; is_refused(rt.alloc(), &vformat_of(text), line)?, true);
     }
     Ok(())
 }
