@@ -1,4 +1,5 @@
 pub mod Lines
 pub mod Told
+pub mod Results
 pub mod Reading
 pub mod Ends

@@ -13,6 +13,11 @@ use Rattle.readers.specs.Sources.{Supply, Language}
 use Rattle.readers.specs.Texts.{tokens_of, SpellsText, ReadsText}
 use Rattle.edif_keywords.specs.Language.{edif}
 use Rattle.edif_keywords.specs.Reasons.{trailing}
+use Rattle.vlog_tokens.specs.Language.{vlog}
+use Rattle.vlog_exprs.specs.Reasons as verilog
+use Rattle.vlog_values.specs.declared.module.VlogFile.{VlogFile}
+use Rattle.vlog_modules.specs.Grammar as modules
+use Rattle.vlog_writer.specs.Forms.{vlog_text}
 use Rattle.edif_library.specs.declared.file.EdifFile.{EdifFile}
 use Rattle.edif_library.specs.Grammar.{file}
 use Rattle.edif_writer.specs.Forms.{edif_text}
@@ -50,15 +55,18 @@ module _ {K X V O : Type 0} (L : Language X) (trail : X → Reason) (k : K) (par
 
   -- the text is not read
   text_is_refused : (e : ReadError) → ReadsText L trail k same part (Err e) i j → new ≡ old → Does taken accepts faults c i j old new (Err (failure_of e))
-  text_is_refused (errors.Text f) h s = (record {
-    first = if_told i.left (λ bs. IsFirstFault (fault_at L) k (whole trail part) (tokens_of L bs) f) (λ bs. Gives c bs (faulty f)) h.error (λ bs first. speaks.of_fault bs f first);
-    taken = h.taken;
-    left = h.left;
-    near = h.near;
-  }, s)
+  text_is_refused (errors.Text f) h s = (
+    record {
+      first = if_told i.left (λ bs. IsFirstFault (fault_at L) k (whole trail part) (tokens_of L bs) f) (λ bs. Gives c bs (faulty f)) h.error (λ bs first. speaks.of_fault bs f first);
+      taken = h.taken;
+      left = h.left;
+      near = h.near;
+    },
+    s,
+  )
   text_is_refused errors.ReadFault h s = (h.cause refl, s)
   text_is_refused errors.TooLong h s = (if_told i.left (λ bs. IsCut k (whole trail part) (tokens_of L bs)) (λ bs. Gives c bs too_long) h.error (λ bs cut. speaks.of_cut bs cut), s)
-  text_is_refused errors.NoMemory h s = s
+  text_is_refused errors.NoMemory h s = (tt, s)
   text_is_refused errors.Spent h s = absurd (h.never_spent refl)
 
 -- ---- EDIF
@@ -80,3 +88,23 @@ module _ {O : Type 0} (taken : O → List ℕ → Type 0) (accepts : O → ℕ �
 
   pub file_is_refused : (e : ReadError) → ReadsText edif trailing [] same (file []) (Err e) i j → new ≡ old → Does taken accepts faults commands.Format i j old new (Err (failure_of e))
   file_is_refused = text_is_refused edif trailing [] (file []) edif_text commands.Format format_speaks taken accepts faults i j old new
+
+-- ---- Verilog
+
+vformat_speaks : Speaks vlog verilog.trailing tt modules.file vlog_text commands.Vformat
+vformat_speaks = record {
+  is_text = λ v. record { value = v; is_text = refl };
+  of_text = λ bs v h. record { value = v; reads_as = h; is_text = refl };
+  of_fault = λ bs f h. h;
+  of_cut = λ bs h. h;
+}
+
+pub modules_take : (i j : Supply) (r : Result VlogFile ReadError) → ReadsText vlog verilog.trailing tt same modules.file r i j → TakesFrom i j
+modules_take = text_takes vlog verilog.trailing tt modules.file
+
+module _ {O : Type 0} (taken : O → List ℕ → Type 0) (accepts : O → ℕ → Type 0) (faults : O → ℕ) (i j : Supply) (old new : O) where
+  pub modules_are_written : (v : VlogFile) (r : Result (Unit {0}) Failed) → ReadsText vlog verilog.trailing tt same modules.file (Ok v) i j → Writes taken accepts faults old new (vlog_text v) r → PutsText taken accepts faults commands.Vformat i j old new r
+  modules_are_written = text_is_written vlog verilog.trailing tt modules.file vlog_text commands.Vformat vformat_speaks taken accepts faults i j old new
+
+  pub modules_are_refused : (e : ReadError) → ReadsText vlog verilog.trailing tt same modules.file (Err e) i j → new ≡ old → Does taken accepts faults commands.Vformat i j old new (Err (failure_of e))
+  modules_are_refused = text_is_refused vlog verilog.trailing tt modules.file vlog_text commands.Vformat vformat_speaks taken accepts faults i j old new

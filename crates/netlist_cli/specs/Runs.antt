@@ -1,5 +1,5 @@
 -- What a run has done, by the status with which it ends.
-use Rattle.std.specs.Prelude.{◌≡◌, ◌≢◌, ◌⊎◌, ℕ, ◌+◌, ◌≤◌, List, Option, Some, None, Result, Ok, Err, IfSome}
+use Rattle.std.specs.Prelude.{◌≡◌, ◌≢◌, ◌⊎◌, ℕ, ◌+◌, ◌≤◌, List, Option, Some, None, Result, Ok, Err, IfSome, ⊤}
 use Rattle.std.specs.Io.KnownBytes.{IsAtEnd}
 use Rattle.nl_base.specs.declared.fault.TextFault.{TextFault}
 use Rattle.nl_io.specs.Causes.{Rose}
@@ -11,8 +11,9 @@ use Rattle.netlist_cli.specs.declared.failure.Failure.{Failure}
 use Rattle.netlist_cli.specs.declared.failure.Failure.TheVariants as failures
 use Rattle.netlist_cli.specs.declared.status.Status.{Status}
 use Rattle.netlist_cli.specs.declared.status.Status.TheVariants as statuses
+use Rattle.netlist_cli.specs.Statuses.{status_of}
 use Rattle.netlist_cli.specs.Lines.{line}
-use Rattle.netlist_cli.specs.Outcomes.{Outcome, written, faulty, too_long, IsText, Gives}
+use Rattle.netlist_cli.specs.Outcomes.{Outcome, written, faulty, too_long, status_due, IsWriting, IsText, Gives}
 
 -- The input was read to its end, and this is how the writing of the text that the command makes of it went.
 pub record PutsText {O : Type 0} (taken : O → List ℕ → Type 0) (accepts : O → ℕ → Type 0) (faults : O → ℕ) (c : Command) (i j : Supply) (old new : O) (result : Result (Unit {0}) Failed) : Type 0 where
@@ -45,43 +46,50 @@ pub record TakesFrom (i j : Supply) : Type 0 where
   pub left : j.left ≡ skip taken 0 i.left
   pub faults : i.faults ≤ j.faults
 
--- The input goes on past the limit, and has no first fault within it.
-abbrev pub IsTooLong : Command → Supply → Type 0
-IsTooLong c i = IfSome i.left (λ bs. Gives c bs too_long)
-
 -- The text was written to a sink, or a front of it where a put failed.
 abbrev pub IsTold : {E : Type 0} → (E → List ℕ → Type 0) → (E → ℕ → Type 0) → (E → ℕ) → E → E → List ℕ → Type 0
 IsTold taken accepts faults old new text = (answer : Result (Unit {0}) Failed) × Writes taken accepts faults old new text answer
 
--- The input has a first fault, which was told.
-pub record TellsFault {E : Type 0} (taken : E → List ℕ → Type 0) (accepts : E → ℕ → Type 0) (faults : E → ℕ) (c : Command) (i j : Supply) (old new : E) : Type 0 where
-  pub fault : TextFault
-  pub is_first : HasFault c i j fault
-  pub told : IsTold taken accepts faults old new (line (failures.Text fault))
+-- When each failure of a command comes.
+abbrev pub IsCause : Command → Supply → Supply → Failure → Type 0
+IsCause c i j (failures.Text f) = HasFault c i j f
+IsCause c i j failures.ReadFault = Rose i.faults j.faults
+IsCause c i j failures.WriteFault = ⊤
+IsCause c i j failures.Usage = ⊥
+IsCause c i j failures.NoMemory = ⊤
+IsCause c i j failures.InputLimit = IfSome i.left (λ bs. Gives c bs too_long)
 
--- Which statuses the bytes of the input rule out.
-pub record FitsBytes (c : Command) (bs : List ℕ) (status : Status) : Type 0 where
-  pub text : (t : List ℕ) → Gives c bs (written t) → (status ≢ statuses.TextFault) × (status ≢ statuses.Limit)
-  pub fault : (f : TextFault) → Gives c bs (faulty f) → (status ≢ statuses.Done) × (status ≢ statuses.WriteFault) × (status ≢ statuses.Limit)
-  pub cut : Gives c bs too_long → (status ≢ statuses.Done) × (status ≢ statuses.WriteFault) × (status ≢ statuses.TextFault)
+-- When each failure comes for what the words ask for: without a command it is that of the usage.
+abbrev pub Fails : Option Command → Supply → Supply → Failure → Type 0
+Fails None i j f = f ≡ failures.Usage
+Fails (Some c) i j f = IsCause c i j f
 
--- Which statuses are left where the input does not fail.
-pub record IsDecided (c : Command) (bs : List ℕ) (output_failed : Type 0) (status : Status) : Type 0 where
-  pub text : (t : List ℕ) → Gives c bs (written t) → ¬ output_failed → (status ≡ statuses.Done) ⊎ (status ≡ statuses.NoMemory)
-  pub fault : (f : TextFault) → Gives c bs (faulty f) → (status ≡ statuses.TextFault) ⊎ (status ≡ statuses.NoMemory)
-  pub cut : Gives c bs too_long → (status ≡ statuses.Limit) ⊎ (status ≡ statuses.NoMemory)
+-- A failure of this status came with its cause, and was told.
+pub record TellsFailure {E : Type 0} (taken : E → List ℕ → Type 0) (accepts : E → ℕ → Type 0) (faults : E → ℕ) (m : Option Command) (i j : Supply) (old new : E) (status : Status) : Type 0 where
+  pub failure : Failure
+  pub is_status : status ≡ status_of failure
+  pub cause : Fails m i j failure
+  pub told : IsTold taken accepts faults old new (line failure)
+
+-- The statuses that fit what comes of the input, where input, output and memory may fail.
+abbrev pub FitsOutcome : Outcome → Status → Type 0
+FitsOutcome o status = (status ≡ status_due o) ⊎ ((status ≡ statuses.WriteFault) × IsWriting o) ⊎ (status ≡ statuses.ReadFault) ⊎ (status ≡ statuses.NoMemory)
+
+-- The status fits the bytes of the input.
+abbrev pub FitsBytes : Command → List ℕ → Status → Type 0
+FitsBytes c bs status = (o : Outcome) → Gives c bs o → FitsOutcome o status
+
+-- Where the input does not fail, and the output does not where a text is to be written, the status is the one that is due, want of memory aside.
+abbrev pub IsDecided : Command → List ℕ → Type 0 → Status → Type 0
+IsDecided c bs output_failed status = (o : Outcome) → Gives c bs o → (IsWriting o → ¬ output_failed) → (status ≡ status_due o) ⊎ (status ≡ statuses.NoMemory)
 
 -- ---- the parts of a run
 
 -- What is done with the input and the output for a command. Until the whole text is read nothing is put.
 abbrev pub Does : {O : Type 0} → (O → List ℕ → Type 0) → (O → ℕ → Type 0) → (O → ℕ) → Command → Supply → Supply → O → O → Result (Unit {0}) Failure → Type 0
 Does taken accepts faults c i j old new (Ok u) = WroteText taken accepts faults c i j old new
-Does taken accepts faults c i j old new (Err (failures.Text f)) = HasFault c i j f × (new ≡ old)
-Does taken accepts faults c i j old new (Err failures.ReadFault) = Rose i.faults j.faults × (new ≡ old)
 Does taken accepts faults c i j old new (Err failures.WriteFault) = BrokeOff taken accepts faults c i j old new
-Does taken accepts faults c i j old new (Err failures.Usage) = ⊥
-Does taken accepts faults c i j old new (Err failures.NoMemory) = new ≡ old
-Does taken accepts faults c i j old new (Err failures.InputLimit) = IsTooLong c i × (new ≡ old)
+Does taken accepts faults c i j old new (Err f) = IsCause c i j f × (new ≡ old)
 
 -- What is done for the command that the words have, if any.
 abbrev pub Performs : {S O : Type 0} → (O → List ℕ → Type 0) → (O → ℕ → Type 0) → (O → ℕ) → (S → Supply) → Option Command → S → S → O → O → Result (Unit {0}) Failure → Type 0

@@ -8,6 +8,8 @@ use nl_base::{Seq, Text};
 pub enum Command {
     /// Reads an EDIF file and writes it in the project's layout.
     Format,
+    /// Reads a Verilog file and writes it in the project's layout.
+    Vformat,
 }
 
 impl Command {
@@ -17,6 +19,7 @@ impl Command {
     {
         match words.items() {
             [word] if word.bytes() == b"format".as_slice() => Some(Command::Format),
+            [word] if word.bytes() == b"vformat".as_slice() => Some(Command::Vformat),
             _ => None,
         }
     }

@@ -1,8 +1,9 @@
 // The program `netlist`.
 //
 // `netlist format` reads an EDIF 2 0 0 text from the standard input and writes the same file in the project's own layout to the standard
-// output. What it does is `run`, over any source and sinks: it reads the input to its end or to its first fault, and writes nothing
-// before the whole text is read. Its contract says for each status when it comes and what was written then:
+// output; `netlist vformat` does so for structural Verilog (IEEE 1364-2005). What the program does is `run`, over any source and sinks: it
+// reads the input to its end or to its first fault, and writes nothing before the whole text is read. Its contract says for each status
+// when it comes and what was written then:
 //
 // 0 done: the input is the text of a file, and that file's written text was put. 1 text fault: the input has this first fault, and the
 // line `fault LINE:COLUMN REASON` tells it. 3 read fault and 4 write fault: the input or the output failed. 5 usage: the words are no
@@ -12,6 +13,7 @@
 
 pub mod command;
 pub mod failure;
+pub mod formatting;
 pub mod line;
 pub mod run;
 pub mod status;
@@ -29,6 +31,8 @@ use std::rt::Env;
 
 #[cfg(test)]
 mod tests;
+#[cfg(test)]
+mod texts;
 
 /// The words behind the program's name. A word that is not UTF-8 is no word of a command.
 fn words(rt: &(impl Env + AllocGlobal)) -> Result<Seq<Text>, Failure> {

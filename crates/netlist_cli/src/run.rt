@@ -1,35 +1,17 @@
 ghost use Rattle.std.specs.Prelude.{◌≡◌, ◌≢◌, ◌↔◌, Ok, Err, Some, None, IfSome};
 ghost use Rattle.nl_io.specs.Causes.{Rose};
 ghost use Rattle.readers.specs.Sources.{supply};
-ghost use Rattle.netlist_cli.specs.declared.command.Command.TheVariants as commands;
 ghost use Rattle.netlist_cli.specs.Commands.{command};
-ghost use Rattle.netlist_cli.specs.Lines.{line};
-ghost use Rattle.netlist_cli.specs.Runs.{BrokeOff, Does, FitsBytes, IsDecided, IsTold, IsTooLong, Performs, TakesFrom, TellsFault, WroteText};
-ghost use Rattle.netlist_cli.specs.Statuses.{status_of};
+ghost use Rattle.netlist_cli.specs.Runs.{BrokeOff, FitsBytes, IsDecided, Performs, TakesFrom, TellsFailure, WroteText};
 
 use crate::command::Command;
 use crate::failure::Failure;
+use crate::formatting::{format, vformat};
 use crate::line::report;
 use crate::status::Status;
-use edif_library::read_edif;
-use edif_writer::write_edif;
 use nl_base::{Seq, Text};
-use nl_io::{Failed, Sink, Source};
+use nl_io::{Sink, Source};
 use std::alloc::Global;
-
-/// Reads an EDIF file and writes its text.
-fn format<S: Source, O: Sink>(alloc: Global, input: &mut S, output: &mut O) -> Result<(), Failure>
-    ensures does { Does O.taken O.accepts O.faults commands.Format (supply S.left S.faults input.old) (supply S.left S.faults input.new) output.old output.new result }
-    ensures taken { TakesFrom (supply S.left S.faults input.old) (supply S.left S.faults input.new) }
-{
-    match read_edif(alloc, input) {
-        Ok(file) => match write_edif(&file, output) {
-            Ok(()) => Ok(()),
-            Err(Failed) => Err(Failure::WriteFault),
-        },
-        Err(error) => Err(Failure::of_read_error(error)),
-    }
-}
 
 /// Does what the words ask for.
 fn perform<S: Source, O: Sink>(
@@ -43,6 +25,7 @@ fn perform<S: Source, O: Sink>(
 {
     match Command::of(words) {
         Some(Command::Format) => format(alloc, input, output),
+        Some(Command::Vformat) => vformat(alloc, input, output),
         None => Err(Failure::Usage),
     }
 }
@@ -58,19 +41,15 @@ pub fn run<S: Source, O: Sink, E: Sink>(
 ) -> Status
     ensures done { result ≡ Status.Done
         → IfSome (command words.now) (λ c. WroteText O.taken O.accepts O.faults c (supply S.left S.faults input.old) (supply S.left S.faults input.new) output.old output.new) }
-    ensures text_fault { result ≡ Status.TextFault
-        → IfSome (command words.now) (λ c. TellsFault E.taken E.accepts E.faults c (supply S.left S.faults input.old) (supply S.left S.faults input.new) errors.old errors.new) }
-    ensures refused { result ≢ Status.Refused }
-    ensures read_fault { result ≡ Status.ReadFault → Rose (S.faults input.old) (S.faults input.new) }
     ensures write_fault { result ≡ Status.WriteFault
         → IfSome (command words.now) (λ c. BrokeOff O.taken O.accepts O.faults c (supply S.left S.faults input.old) (supply S.left S.faults input.new) output.old output.new) }
+    ensures failed { result ≢ Status.Done
+        → TellsFailure E.taken E.accepts E.faults (command words.now) (supply S.left S.faults input.old) (supply S.left S.faults input.new) errors.old errors.new result }
     ensures usage { (result ≡ Status.Usage) ↔ (command words.now ≡ None) }
-    ensures limit { result ≡ Status.Limit → IfSome (command words.now) (λ c. IsTooLong c (supply S.left S.faults input.old)) }
     ensures taken { TakesFrom (supply S.left S.faults input.old) (supply S.left S.faults input.new) }
     ensures unread { result ≡ Status.Usage → input.new ≡ input.old }
     ensures unwritten { result ≢ Status.Done → result ≢ Status.WriteFault → output.new ≡ output.old }
     ensures silent { result ≡ Status.Done → errors.new ≡ errors.old }
-    ensures told { (failure : Failure) → status_of failure ≡ result → result ≢ Status.TextFault → IsTold E.taken E.accepts E.faults errors.old errors.new (line failure) }
     ensures exact { IfSome (command words.now) (λ c. IfSome (S.left input.old) (λ bs. FitsBytes c bs result)) }
     ensures complete { ¬ Rose (S.faults input.old) (S.faults input.new)
         → IfSome (command words.now) (λ c. IfSome (S.left input.old) (λ bs. IsDecided c bs (Rose (O.faults output.old) (O.faults output.new)) result)) }

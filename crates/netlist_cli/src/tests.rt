@@ -1,17 +1,10 @@
 use crate::run::run;
 use crate::status::Status;
+use crate::texts::{ALIASED, BLINKER, BLINKER_WRITTEN, PARTS, PARTS_WRITTEN, SMALL, WRITTEN};
 use nl_base::{Seq, Text};
 use nl_io::{MemSink, MemSource};
 use std::alloc::Global;
 use std::test::Fail;
-
-/// A file of one cell, by keywords in small letters, in capitals and in both.
-const SMALL: &[u8] =
-    b"(edif a(edifversion 2 0 0)(EDIFLEVEL 0)(keywordMap(keywordLevel 0))(library w(edifLevel 0)(technology(numberDefinition))(cell c(cellType GENERIC)(view v(viewType NETLIST)(interface))))(design a(cellRef c(libraryRef w))))";
-
-/// The same file as it is written.
-const WRITTEN: &[u8] =
-    b"(edif a\n  (edifVersion 2 0 0)\n  (edifLevel 0)\n  (keywordMap (keywordLevel 0))\n  (library w\n    (edifLevel 0)\n    (technology (numberDefinition))\n    (cell c\n      (cellType GENERIC)\n      (view v\n        (viewType NETLIST)\n        (interface\n        )\n      )\n    )\n  )\n  (design a (cellRef c (libraryRef w)))\n)\n";
 
 const USAGE: &[u8] =
     b"usage: netlist format or vformat or check [--top NAME] or report [--top NAME] [--zero CELL.PORT] [--one CELL.PORT] or to-verilog {--parameter NAME} or to-edif --top NAME [--zero CELL.PORT] [--one CELL.PORT] or generate SEED CELLS or lint [--top NAME] [--zero CELL.PORT] [--one CELL.PORT] or flatten [--top NAME] [--zero CELL.PORT] [--one CELL.PORT] or to-spice [--top NAME]\n";
@@ -44,8 +37,16 @@ fn format_of(text: &[u8]) -> Given<'_> {
         text,
         whole: true,
         failing_take: 0,
-        room: 2000,
+        room: 4000,
         errors_fail: false,
+    }
+}
+
+/// `vformat` on a text in one piece, with room enough and no failure.
+fn vformat_of(text: &[u8]) -> Given<'_> {
+    Given {
+        word: b"vformat",
+        ..format_of(text)
     }
 }
 
@@ -119,20 +120,39 @@ fn ends_so(alloc: Global, given: &Given<'_>, wanted: &Wanted<'_>) -> Result<bool
     ends_from(alloc, given, &words, wanted)
 }
 
-/// Whether `format` on the text ends with a text fault told by this line. The text is taken whole.
-fn is_refused(alloc: Global, text: &[u8], line: &[u8]) -> Result<bool, Fail> {
+/// Whether a run that takes its whole text ends with a text fault told by this line.
+fn is_refused(alloc: Global, given: &Given<'_>, line: &[u8]) -> Result<bool, Fail> {
     let wanted = Wanted {
         status: 1,
         output: b"",
         errors: line,
-        taken: text.len() as u64,
+        taken: given.text.len() as u64,
     };
-    ends_so(alloc, &format_of(text), &wanted)
+    ends_so(alloc, given, &wanted)
+}
+
+/// Whether a run that takes its whole text puts this text.
+fn is_written(alloc: Global, given: &Given<'_>, output: &[u8]) -> Result<bool, Fail> {
+    let wanted = Wanted {
+        status: 0,
+        output,
+        errors: b"",
+        taken: given.text.len() as u64,
+    };
+    ends_so(alloc, given, &wanted)
 }
 
 #[test]
-fn file_is_written(rt: HostRuntime) -> Result<(), Fail> {
-    for text in [SMALL, WRITTEN] {
+fn files_are_written(rt: HostRuntime) -> Result<(), Fail> {
+    for (text, written) in [
+        (SMALL, WRITTEN),
+        (ALIASED, WRITTEN),
+        (WRITTEN, WRITTEN),
+        (PARTS, PARTS_WRITTEN),
+        (PARTS_WRITTEN, PARTS_WRITTEN),
+        (BLINKER, BLINKER_WRITTEN),
+        (BLINKER_WRITTEN, BLINKER_WRITTEN),
+    ] {
         for whole in [true, false] {
             let given = Given {
                 whole,
@@ -140,13 +160,83 @@ fn file_is_written(rt: HostRuntime) -> Result<(), Fail> {
             };
             let wanted = Wanted {
                 status: 0,
-                output: WRITTEN,
+                output: written,
                 errors: b"",
                 taken: text.len() as u64,
             };
             assert_eq!(rt; ends_so(rt.alloc(), &given, &wanted)?, true);
         }
     }
+    Ok(())
+}
+
+/// A text with so many of a byte in it.
+fn text_around(
+    alloc: Global,
+    front: &[u8],
+    byte: u8,
+    count: usize,
+    rest: &[u8],
+) -> Result<Vec<u8>, Fail> {
+    let mut text = Vec::from_slice(alloc, front)?;
+    let middle = vec![in alloc; byte; count]?;
+    text.extend_from_slice(middle.as_slice())?;
+    text.extend_from_slice(rest)?;
+    Ok(text)
+}
+
+#[test]
+fn identifiers_have_a_limit(rt: HostRuntime) -> Result<(), Fail> {
+    let alloc = rt.alloc();
+    let rest = b"(edifVersion 2 0 0)(edifLevel 0)(keywordMap(keywordLevel 0)))";
+    let longest = text_around(alloc, b"(edif ", b'x', 1024, rest)?;
+    let written = text_around(
+        alloc,
+        b"(edif ",
+        b'x',
+        1024,
+        b"\n  (edifVersion 2 0 0)\n  (edifLevel 0)\n  (keywordMap (keywordLevel 0))\n)\n",
+    )?;
+    let wanted = Wanted {
+        status: 0,
+        output: written.as_slice(),
+        errors: b"",
+        taken: longest.len() as u64,
+    };
+    assert_eq!(rt;
+        ends_so(alloc, &format_of(longest.as_slice()), &wanted)?,
+        true
+    );
+    let too_long = text_around(alloc, b"(edif ", b'x', 1025, rest)?;
+    assert_eq!(rt;
+        is_refused(alloc, too_long.as_slice(), b"fault 1:7 TokenTooLong\n")?,
+        true
+    );
+    Ok(())
+}
+
+/// Whether `format` on the text in one piece ends with a text fault told by this line, and takes at most so many bytes.
+fn is_refused_early(alloc: Global, text: &[u8], line: &[u8], most: u64) -> Result<bool, Fail> {
+    let words = words_of(alloc, b"format")?;
+    let mut input = source_of(alloc, &format_of(text))?;
+    let mut output = sink_of(alloc, 10, 0)?;
+    let mut errors = sink_of(alloc, 100, 0)?;
+    let status = run(alloc, &words, &mut input, &mut output, &mut errors).number();
+    Ok(status == 1 && errors.taken() == line && input.given() <= most)
+}
+
+#[test]
+fn little_is_taken_behind_a_fault(rt: HostRuntime) -> Result<(), Fail> {
+    let alloc = rt.alloc();
+    let text = text_around(
+        alloc,
+        b"(edif a(edifversion 2 0 0)(EDIFLEVEL 0)(keywordMap(keywordLevel 0))(foo",
+        b' ',
+        100_000,
+        b" w(edifLevel 0)(technology(numberDefinition))(cell c(cellType GENERIC)(view v(viewType NETLIST)(interface))))(design a(cellRef c(libraryRef w))))",
+    )?;
+    let line = b"fault 1:69 UnknownWord foo\n";
+    assert_eq!(rt; is_refused_early(alloc, text.as_slice(), line, 4168)?, true);
     Ok(())
 }
 
@@ -165,8 +255,77 @@ fn fault_is_told(rt: HostRuntime) -> Result<(), Fail> {
             b"(edif a\n(edifVersion 2 0 0)(edifLevel 0)(keywordMap(keywordLevel 0))(netBundle",
             b"fault 2:62 NotInProfile netBundle\n",
         ),
+        (
+            b"(edif a(edifVersion 2 0 0)(edifLevel 0)(keywordMap(keywordLevel 1)(keywordAlias view cell)))",
+            b"fault 1:81 AliasClash\n",
+        ),
+        (
+            b"(edif a(edifVersion 2 0 0)(edifLevel 0)(keywordMap(keywordLevel 1)(keywordAlias kc sell)))",
+            b"fault 1:84 AliasUnknown\n",
+        ),
+        (
+            b"(edif a(edifVersion 2 0 0)(edifLevel 0)(keywordMap(keywordLevel 0))(comment \"50%\"))",
+            b"fault 1:80 BadEscape\n",
+        ),
+        (
+            b"(edif a(edifVersion 2 0 0)(edifLevel 0)(keywordMap(keywordLevel 0))",
+            b"fault 1:68 EndOfInput\n",
+        ),
+        (
+            b"(edif a(edifVersion 2 0 0)(edifLevel 0)(keywordMap(keywordLevel 0))(netBundle",
+            b"fault 1:69 NotInProfile netBundle\n",
+        ),
+        (
+            b"(edif a(edifVersion 2 0 0)(edifLevel 0)(keywordMap(keywordLevel 0))(foo",
+            b"fault 1:69 UnknownWord foo\n",
+        ),
+        (
+            b"(edif a(edifVersion 2 0 0)(edifLevel 0)(keywordMap(keywordLevel 0)))x",
+            b"fault 1:69 Trailing\n",
+        ),
+        (
+            b"(edif a(edifVersion 2 0 0)(edifLevel 0)(keywordMap(keywordLevel 0))(library w(edifLevel 0)(technology(numberDefinition))(cell c(cellType GENERIC)(view v(viewType SCHEMATIC",
+            b"fault 1:163 ViewType SCHEMATIC\n",
+        ),
     ] {
-        assert_eq!(rt; is_refused(rt.alloc(), text, line)?, true);
+        assert_eq!(rt; is_refused(rt.alloc(), &format_of(text), line)?, true);
+    }
+    Ok(())
+}
+
+/// A module by ports of a header of names, and as it is written.
+const MODULE: &[u8] =
+    b"module m(a,y);input [1:0]a;output y;(*k=2*)wire w;BUF #(.N(4'HA)) u1(.I(a[0]),.O(w)),u2({1{w}},);assign y=w;endmodule";
+
+const MODULE_WRITTEN: &[u8] =
+    b"module m (a, y);\n  input [1:0] a;\n  output y;\n  (* k = 2 *) wire w;\n  BUF #(.N(4'hA)) u1 (.I(a[0]), .O(w)), u2 ({1{w}}, );\n  assign y = w;\nendmodule\n";
+
+#[test]
+fn modules_are_written(rt: HostRuntime) -> Result<(), Fail> {
+    for (text, written) in [
+        (MODULE, MODULE_WRITTEN),
+        (MODULE_WRITTEN, MODULE_WRITTEN),
+        (b"".as_slice(), b"".as_slice()),
+    ] {
+        assert_eq!(rt; is_written(rt.alloc(), &vformat_of(text), written)?, true);
+    }
+    Ok(())
+}
+
+#[test]
+fn faults_of_modules_are_told(rt: HostRuntime) -> Result<(), Fail> {
+    for (text, line) in [
+        (
+            b"module m (input a, output y); assign y = a &".as_slice(),
+            b"fault 1:44 NotInProfile &\n".as_slice(),
+        ),
+        (
+            b"module m (input a);\n  always",
+            b"fault 2:3 NotInProfile always\n",
+        ),
+        (b"module m ((", b"fault 1:11 Unexpected\n"),
+    ] {
+        assert_eq!(rt; is_refused(rt.alloc(), &vformat_of(text), line)?, true);
     }
     Ok(())
 }

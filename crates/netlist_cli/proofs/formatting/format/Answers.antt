@@ -1,7 +1,7 @@
 use Rattle.std.proofs.Common.{refl}
 use Rattle.readers.specs.Sources.{supply}
 use Rattle.netlist_cli.proofs.Reading.{file_is_written, file_is_refused, file_takes}
-use Rattle.netlist_cli.proofs.run.format.Goals as goal
+use Rattle.netlist_cli.proofs.formatting.format.Goals as goal
 
 pub returns-in-Ok-write_edif : goal.returns-in-Ok-write_edif
 returns-in-Ok-write_edif g c = record {

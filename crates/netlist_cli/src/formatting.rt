@@ -1,0 +1,47 @@
+ghost use Rattle.readers.specs.Sources.{supply};
+ghost use Rattle.netlist_cli.specs.declared.command.Command.TheVariants as commands;
+ghost use Rattle.netlist_cli.specs.Runs.{Does, TakesFrom};
+
+use crate::failure::Failure;
+use edif_library::read_edif;
+use edif_writer::write_edif;
+use nl_io::{Failed, Sink, Source};
+use std::alloc::Global;
+use vlog_modules::read_vlog;
+use vlog_writer::write_vlog;
+
+/// Reads an EDIF file and writes its text.
+pub fn format<S: Source, O: Sink>(
+    alloc: Global,
+    input: &mut S,
+    output: &mut O,
+) -> Result<(), Failure>
+    ensures does { Does O.taken O.accepts O.faults commands.Format (supply S.left S.faults input.old) (supply S.left S.faults input.new) output.old output.new result }
+    ensures taken { TakesFrom (supply S.left S.faults input.old) (supply S.left S.faults input.new) }
+{
+    match read_edif(alloc, input) {
+        Ok(file) => match write_edif(&file, output) {
+            Ok(()) => Ok(()),
+            Err(Failed) => Err(Failure::WriteFault),
+        },
+        Err(error) => Err(Failure::of_read_error(error)),
+    }
+}
+
+/// Reads a Verilog file and writes its text.
+pub fn vformat<S: Source, O: Sink>(
+    alloc: Global,
+    input: &mut S,
+    output: &mut O,
+) -> Result<(), Failure>
+    ensures does { Does O.taken O.accepts O.faults commands.Vformat (supply S.left S.faults input.old) (supply S.left S.faults input.new) output.old output.new result }
+    ensures taken { TakesFrom (supply S.left S.faults input.old) (supply S.left S.faults input.new) }
+{
+    match read_vlog(alloc, input) {
+        Ok(file) => match write_vlog(&file, output) {
+            Ok(()) => Ok(()),
+            Err(Failed) => Err(Failure::WriteFault),
+        },
+        Err(error) => Err(Failure::of_read_error(error)),
+    }
+}
