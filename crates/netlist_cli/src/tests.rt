@@ -209,16 +209,25 @@ fn identifiers_have_a_limit(rt: HostRuntime) -> Result<(), Fail> {
     );
     let too_long = text_around(alloc, b"(edif ", b'x', 1025, rest)?;
     assert_eq!(rt;
-        is_refused(alloc, too_long.as_slice(), b"fault 1:7 TokenTooLong\n")?,
+        is_refused(
+            alloc,
+            &format_of(too_long.as_slice()),
+            b"fault 1:7 TokenTooLong\n"
+        )?,
         true
     );
     Ok(())
 }
 
-/// Whether `format` on the text in one piece ends with a text fault told by this line, and takes at most so many bytes.
-fn is_refused_early(alloc: Global, text: &[u8], line: &[u8], most: u64) -> Result<bool, Fail> {
-    let words = words_of(alloc, b"format")?;
-    let mut input = source_of(alloc, &format_of(text))?;
+/// Whether a run ends with a text fault told by this line, and takes at most so many bytes.
+fn is_refused_early(
+    alloc: Global,
+    given: &Given<'_>,
+    line: &[u8],
+    most: u64,
+) -> Result<bool, Fail> {
+    let words = words_of(alloc, given.word)?;
+    let mut input = source_of(alloc, given)?;
     let mut output = sink_of(alloc, 10, 0)?;
     let mut errors = sink_of(alloc, 100, 0)?;
     let status = run(alloc, &words, &mut input, &mut output, &mut errors).number();
@@ -236,7 +245,8 @@ fn little_is_taken_behind_a_fault(rt: HostRuntime) -> Result<(), Fail> {
         b" w(edifLevel 0)(technology(numberDefinition))(cell c(cellType GENERIC)(view v(viewType NETLIST)(interface))))(design a(cellRef c(libraryRef w))))",
     )?;
     let line = b"fault 1:69 UnknownWord foo\n";
-    assert_eq!(rt; is_refused_early(alloc, text.as_slice(), line, 4168)?, true);
+    let given = format_of(text.as_slice());
+    assert_eq!(rt; is_refused_early(alloc, &given, line, 4168)?, true);
     Ok(())
 }
 
@@ -309,6 +319,16 @@ fn modules_are_written(rt: HostRuntime) -> Result<(), Fail> {
     ] {
         assert_eq!(rt; is_written(rt.alloc(), &vformat_of(text), written)?, true);
     }
+    Ok(())
+}
+
+#[test]
+fn many_open_parentheses_are_refused_at_the_second(rt: HostRuntime) -> Result<(), Fail> {
+    let alloc = rt.alloc();
+    let text = text_around(alloc, b"module m (", b'(', 100_000, b"")?;
+    let given = vformat_of(text.as_slice());
+    let line = b"fault 1:11 Unexpected\n";
+    assert_eq!(rt; is_refused_early(alloc, &given, line, 4107)?, true);
     Ok(())
 }
 
