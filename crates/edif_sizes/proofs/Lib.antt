@@ -4,3 +4,4 @@ pub mod Nets
 pub mod Library
 pub mod Tokens
 pub mod Law
+pub mod Limited
