@@ -1,0 +1,4 @@
+pub mod Spelling
+pub mod Layout
+pub mod Forms
+pub mod Pending

@@ -1,0 +1,23 @@
+// The written text of a Verilog file (IEEE 1364-2005, 12, structural).
+//
+// `write_vlog` puts exactly one text for each file: `vlog_text`. A module is the line of its attributes, a line with its name, its parameters and the
+// names of its ports, each item on a line with two blanks of indent, and `endmodule`; where the header declares the ports, each declaration has a
+// line of its own. A name is written as itself where it is a simple identifier and no keyword, else as an escaped identifier, which one blank ends.
+// A based literal has its normal spelling. A string has the bytes 32 to 126 other than `"` and `\` as themselves, and escapes for all others. A line
+// with `default_nettype` stands before each module at which it changes whether nets may stand without a declaration.
+//
+// It answers `Ok` exactly where the sink took the whole text; else a put of the sink failed, and the sink took a front of the text. It takes no
+// memory.
+#![tactic(auto)]
+
+pub mod declaration;
+pub mod expression;
+pub mod file;
+pub mod forms;
+pub mod item;
+pub mod literal;
+pub mod name;
+pub mod statement;
+pub mod string;
+
+pub use file::write_vlog;
