@@ -1,4 +1,4 @@
-ghost use Rattle.std.specs.Prelude.{map};
+ghost use Rattle.std.specs.Prelude.{false};
 ghost use Rattle.vlog_writer.specs.Forms.{attr_form, bounds_form, cat_form, const_form, expr_form, ref_form, set_form, square, value_form};
 ghost use Rattle.vlog_writer.specs.Layout.{attributed, between, each, inline};
 ghost use Rattle.nl_output.specs.Writing.{state, Puts};

@@ -58,7 +58,7 @@ fn lay_decls<O: Sink>(decls: &[PortDecl], output: &mut Output, sink: &mut O)
 
 /// The first line of a module, up to its header.
 fn write_heading<O: Sink>(module: &Module, output: &mut Output, sink: &mut O)
-    ensures { Puts (inline (Row (Word (codes "module")) (both (part (Name module.now.name)) (hashed (each group_form module.now.params))))) (state O.taken O.accepts O.faults sink.old output.old) (state O.taken O.accepts O.faults sink.new output.new) }
+    ensures { Puts (inline (Row (Word (codes "module")) (both (part (Name «module».now.name)) (hashed (each group_form «module».now.params))))) (state O.taken O.accepts O.faults sink.old output.old) (state O.taken O.accepts O.faults sink.new output.new) }
 {
     output.put(b"module ", sink);
     module.name.write(output, sink);
@@ -76,7 +76,7 @@ fn write_names<O: Sink>(names: &[Text], output: &mut Output, sink: &mut O)
 
 /// The header of a module (IEEE 1364-2005, 12.3).
 fn lay_header<O: Sink>(module: &Module, output: &mut Output, sink: &mut O)
-    ensures { Puts (laid (header_lines module.now module.now.header)) (state O.taken O.accepts O.faults sink.old output.old) (state O.taken O.accepts O.faults sink.new output.new) }
+    ensures { Puts (laid (header_lines «module».now «module».now.header)) (state O.taken O.accepts O.faults sink.old output.old) (state O.taken O.accepts O.faults sink.new output.new) }
 {
     match &module.header {
         Header::Names(names) => {
@@ -94,7 +94,7 @@ fn lay_header<O: Sink>(module: &Module, output: &mut Output, sink: &mut O)
 
 /// A module (IEEE 1364-2005, 12.1).
 fn lay_module<O: Sink>(module: &Module, output: &mut Output, sink: &mut O)
-    ensures { Puts (laid (module_lines module.now)) (state O.taken O.accepts O.faults sink.old output.old) (state O.taken O.accepts O.faults sink.new output.new) }
+    ensures { Puts (laid (module_lines «module».now)) (state O.taken O.accepts O.faults sink.old output.old) (state O.taken O.accepts O.faults sink.new output.new) }
 {
     lay_attributes(module.attrs.items(), output, sink);
     lay_header(module, output, sink);

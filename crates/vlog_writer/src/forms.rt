@@ -1,4 +1,4 @@
-ghost use Rattle.std.specs.Prelude.{◌∷◌};
+ghost use Rattle.std.specs.Prelude.{◌∷◌, false};
 ghost use Rattle.vlog_writer.specs.Layout.{Form, between, comma_where, each, inline};
 ghost use Rattle.nl_output.specs.Writing.{state, Puts};
 

@@ -1,3 +1,4 @@
+ghost use Rattle.std.specs.Prelude.{false};
 ghost use Rattle.vlog_writer.specs.Forms.{assignment_form, assigns_form, conn_form, conns_form, def_form, defparams_form, hashed, inst_form, instances_form, override_form};
 ghost use Rattle.vlog_writer.specs.Layout.{Path, between, each, inline, spaced};
 ghost use Rattle.nl_output.specs.Writing.{state, Puts};

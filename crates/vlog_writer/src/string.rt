@@ -1,4 +1,4 @@
-ghost use Rattle.std.specs.Prelude.{◌≡◌, ◌<◌, ◌≤◌, ◌++◌, length};
+ghost use Rattle.std.specs.Prelude.{◌≡◌, ◌+◌, ◌<◌, ◌≤◌, ◌++◌, length};
 ghost use Rattle.std.specs.List.{prefix_len};
 ghost use Rattle.vlog_writer.specs.Spelling.{escape_of, is_plain, octal, quoted, string_byte, written, PutsUntil};
 ghost use Rattle.nl_output.specs.Writing.{state, Puts};

@@ -1,0 +1,4 @@
+pub mod Steps
+pub mod Literals
+pub mod Strings
+pub mod Expressions
