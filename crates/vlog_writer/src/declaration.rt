@@ -4,7 +4,7 @@ ghost use Rattle.vlog_writer.specs.Layout.{each, inline, spaced};
 ghost use Rattle.nl_output.specs.Writing.{state, Puts};
 
 use crate::expression::{write_attributes, write_bounds};
-use crate::forms::{OnLine, write_listed};
+use crate::forms::{OnLine, write_between, write_listed};
 use nl_base::{Dir, Range};
 use nl_io::Sink;
 use nl_output::Output;
@@ -130,12 +130,10 @@ pub(crate) fn write_param<O: Sink>(param: &ParamDecl, output: &mut Output, sink:
 pub(crate) fn write_hashed<T: OnLine, O: Sink>(items: &[T], output: &mut Output, sink: &mut O)
     ensures { Puts (spaced (hashed (each T.form items.now))) (state O.taken O.accepts O.faults sink.old output.old) (state O.taken O.accepts O.faults sink.new output.new) }
 {
-    match items {
-        [] => {}
-        [..] => {
-            output.put(b" #(", sink);
-            write_listed(items, output, sink);
-            output.put(b")", sink);
-        }
+    if let [first, others @ ..] = items {
+        output.put(b" #(", sink);
+        first.write(output, sink);
+        write_between(true, others, output, sink);
+        output.put(b")", sink);
     }
 }

@@ -31,6 +31,7 @@ fn are_name_bytes(bytes: &[u8]) -> bool
 }
 
 /// Whether a name is a simple identifier (IEEE 1364-2005, 3.7).
+#[tactic(auto, unfolding(crate::specs::Spelling::is_simple))]
 fn is_simple(name: &[u8]) -> bool
     ensures { result ≡ is_simple name.now }
 {
@@ -43,6 +44,7 @@ fn is_simple(name: &[u8]) -> bool
 }
 
 /// Whether a name is written as itself.
+#[tactic(auto, unfolding(crate::specs::Spelling::is_bare))]
 fn is_bare(name: &[u8]) -> bool
     ensures { result ≡ is_bare name.now }
 {

@@ -1,10 +1,9 @@
-ghost use Rattle.std.specs.Prelude.{false};
 ghost use Rattle.vlog_writer.specs.Forms.{assignment_form, assigns_form, conn_form, conns_form, def_form, defparams_form, hashed, inst_form, instances_form, override_form};
-ghost use Rattle.vlog_writer.specs.Layout.{Path, between, each, inline, spaced};
+ghost use Rattle.vlog_writer.specs.Layout.{Path, each, further, inline, spaced};
 ghost use Rattle.nl_output.specs.Writing.{state, Puts};
 
 use crate::expression::{write_attributes, write_expr};
-use crate::forms::{OnLine, put_comma, write_listed};
+use crate::forms::{OnLine, write_listed};
 use nl_base::Text;
 use nl_io::Sink;
 use nl_output::Output;
@@ -77,15 +76,13 @@ fn write_override<O: Sink>(set: &ParamSet, output: &mut Output, sink: &mut O)
     output.put(b")", sink);
 }
 
-/// Values of parameters with commas between them.
+/// Values of parameters, each after a comma.
 fn write_overrides<O: Sink>(sets: &[ParamSet], output: &mut Output, sink: &mut O)
-    ensures { Puts (between false (each override_form sets.now)) (state O.taken O.accepts O.faults sink.old output.old) (state O.taken O.accepts O.faults sink.new output.new) }
+    ensures { Puts (further (each override_form sets.now)) (state O.taken O.accepts O.faults sink.old output.old) (state O.taken O.accepts O.faults sink.new output.new) }
 {
-    let mut due = false;
     for set in sets {
-        put_comma(due, output, sink);
+        output.put(b", ", sink);
         write_override(set, output, sink);
-        due = true;
     }
 }
 
@@ -93,13 +90,11 @@ fn write_overrides<O: Sink>(sets: &[ParamSet], output: &mut Output, sink: &mut O
 fn write_params<O: Sink>(sets: &[ParamSet], output: &mut Output, sink: &mut O)
     ensures { Puts (spaced (hashed (each override_form sets.now))) (state O.taken O.accepts O.faults sink.old output.old) (state O.taken O.accepts O.faults sink.new output.new) }
 {
-    match sets {
-        [] => {}
-        [..] => {
-            output.put(b" #(", sink);
-            write_overrides(sets, output, sink);
-            output.put(b")", sink);
-        }
+    if let [first, others @ ..] = sets {
+        output.put(b" #(", sink);
+        write_override(first, output, sink);
+        write_overrides(others, output, sink);
+        output.put(b")", sink);
     }
 }
 

@@ -1,4 +1,4 @@
-ghost use Rattle.std.specs.Prelude.{◌≡◌, ◌+◌, ◌<◌, ◌≤◌, ◌++◌, length};
+ghost use Rattle.std.specs.Prelude.{◌≡◌, ◌-◌, ◌<◌, ◌≤◌, ◌++◌, length};
 ghost use Rattle.std.specs.List.{prefix_len};
 ghost use Rattle.vlog_writer.specs.Spelling.{escape_of, is_plain, octal, quoted, string_byte, written, PutsUntil};
 ghost use Rattle.nl_output.specs.Writing.{state, Puts};
@@ -68,7 +68,7 @@ fn put_byte<O: Sink>(byte: u8, output: &mut Output, sink: &mut O)
 
 /// The byte in front, if there is one; the bytes behind it are answered.
 fn put_front<'a, O: Sink>(bytes: &'a [u8], output: &mut Output, sink: &mut O) -> &'a [u8]
-    ensures shorter { length bytes.now ≤ length result.now + 1 }
+    ensures shorter { length result.now ≤ length bytes.now - 1 }
     ensures puts { PutsUntil (written bytes.now) (written result.now) (state O.taken O.accepts O.faults sink.old output.old) (state O.taken O.accepts O.faults sink.new output.new) }
 {
     match bytes {

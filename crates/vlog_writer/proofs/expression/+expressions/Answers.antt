@@ -26,7 +26,7 @@ write_expr-returns-in-Cat g t c = rw (c.in-Cat.is, cat_is) (rw c.items.ensures a
 pub write_expr-returns-in-Rep : goal.write_expr-returns-in-Rep
 write_expr-returns-in-Rep g t c =
     let cat = rw c.items-in-Rep.ensures at c.write_cat-in-Rep.ensures in
-    rw (c.in-Rep.is, rep_is) (λ b rest s. c.put-in-Rep-2.ensures b rest (cat b _ (c.put_int-in-Rep.ensures b _ (c.put-in-Rep.ensures b _ s))))
+    rw (c.in-Rep.is, rep_is) (λ b rest s. c.put-in-Rep.ensures b rest (cat b _ (c.put_int-in-Rep.ensures b _ (c.put.ensures b _ s))))
 
 pub write_exprs-loop-expr-preserved : goal.write_exprs-loop-expr-preserved
 write_exprs-loop-expr-preserved g t c b rest s =

@@ -1,10 +1,10 @@
-use Rattle.std.proofs.Common.{ℕ, List, drop, false}
+use Rattle.std.proofs.Common.{ℕ, List, drop}
 use Rattle.vlog_writer.specs.Forms.{override_form}
-use Rattle.vlog_writer.specs.Layout.{between, each}
+use Rattle.vlog_writer.specs.Layout.{each, further}
 use Rattle.nl_output.specs.Writing.{Begin, state, ToCome}
 use Rattle.vlog_writer.proofs.statement.write_overrides.Given as goal
 
 abbrev pub invariant-loop-set : goal.invariant-loop-set
 invariant-loop-set g l =
-    (b : Begin) (rest : List ℕ) → ToCome b (state g.O.Sink.taken g.O.Sink.accepts g.O.Sink.faults l.fn.sink l.fn.output) (between false (each override_form l.sets) rest)
-    → ToCome b (state g.O.Sink.taken g.O.Sink.accepts g.O.Sink.faults l.sink l.output) (between l.due (each override_form (drop l.set-index l.sets)) rest)
+    (b : Begin) (rest : List ℕ) → ToCome b (state g.O.Sink.taken g.O.Sink.accepts g.O.Sink.faults l.fn.sink l.fn.output) (further (each override_form l.sets) rest)
+    → ToCome b (state g.O.Sink.taken g.O.Sink.accepts g.O.Sink.faults l.sink l.output) (further (each override_form (drop l.set-index l.sets)) rest)

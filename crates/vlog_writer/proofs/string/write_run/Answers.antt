@@ -1,7 +1,10 @@
-use Rattle.std.proofs.Common.{ℕ, List, ◌∙◌, ap, subst, drop, take}
+use Rattle.std.proofs.Common.{arith, ℕ, List, ◌∙◌, ap, subst, drop, take}
 use Rattle.nl_output.specs.Writing.{state, ToCome}
 use Rattle.vlog_writer.proofs.Strings.{run_next}
 use Rattle.vlog_writer.proofs.string.write_run.Goals as goal
+
+pub returns-clause-shorter : goal.returns-clause-shorter
+returns-clause-shorter g c = omega (arith, c.put_front-rest.ensures.shorter, c.split_at.ensures.back_len, c.requires)
 
 pub returns-clause-puts : goal.returns-clause-puts
 returns-clause-puts g c b rest s =
