@@ -268,11 +268,15 @@ abbrev pub nettype_form : Bool → Form
 nettype_form true = Word (codes "wire")
 nettype_form false = Name (codes "none")
 
--- the line that changes whether names may stand without a declaration, where that changes (19.2)
+-- the line that says it (19.2)
+abbrev pub nettype_line : Bool → Lines
+nettype_line implicit = line 0 (Row (Directive (codes "`default_nettype")) (part (nettype_form implicit)))
+
+-- that line, where it changes what was so before
 abbrev pub nettype_lines : Bool → Bool → Lines
 nettype_lines true true = nothing
-nettype_lines true false = line 0 (Row (Directive (codes "`default_nettype")) (part (nettype_form false)))
-nettype_lines false true = line 0 (Row (Directive (codes "`default_nettype")) (part (nettype_form true)))
+nettype_lines true false = nettype_line false
+nettype_lines false true = nettype_line true
 nettype_lines false false = nothing
 
 -- modules behind one for which that was so

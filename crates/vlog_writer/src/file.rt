@@ -1,5 +1,5 @@
 ghost use Rattle.std.specs.Prelude.{◌∷◌, ◌++◌, codes, true};
-ghost use Rattle.vlog_writer.specs.Forms.{attr_form, attribute_lines, decl_lines, file_lines, group_form, hashed, header_lines, module_lines, names_form, nettype_lines, round, vlog_text};
+ghost use Rattle.vlog_writer.specs.Forms.{attr_form, attribute_lines, decl_lines, file_lines, group_form, hashed, header_lines, module_lines, names_form, nettype_line, nettype_lines, round, vlog_text};
 ghost use Rattle.vlog_writer.specs.Layout.{Mark, Name, Row, Word, both, each, inline, laid, part, ◌▸◌};
 ghost use Rattle.vlog_writer.specs.Pending.{break_where, end_where};
 ghost use Rattle.nl_output.specs.Writing.{state, Puts, Writes};
@@ -102,19 +102,29 @@ fn lay_module<O: Sink>(module: &Module, output: &mut Output, sink: &mut O)
     output.put(b"endmodule\n", sink);
 }
 
-/// The line that changes whether names may stand without a declaration, where that changes (IEEE 1364-2005, 19.2).
+/// The line that says whether names may stand without a declaration (IEEE 1364-2005, 19.2).
+fn put_nettype<O: Sink>(implicit: bool, output: &mut Output, sink: &mut O)
+    ensures { Puts (laid (nettype_line implicit)) (state O.taken O.accepts O.faults sink.old output.old) (state O.taken O.accepts O.faults sink.new output.new) }
+{
+    if implicit {
+        output.put(b"`default_nettype wire\n", sink);
+        return;
+    }
+    output.put(b"`default_nettype none\n", sink);
+}
+
+/// That line, where it changes what was so before.
 fn lay_nettype<O: Sink>(before: bool, implicit: bool, output: &mut Output, sink: &mut O)
     ensures { Puts (laid (nettype_lines before implicit)) (state O.taken O.accepts O.faults sink.old output.old) (state O.taken O.accepts O.faults sink.new output.new) }
 {
     if before {
-        if implicit {
-            return;
+        if !implicit {
+            put_nettype(false, output, sink);
         }
-        output.put(b"`default_nettype none\n", sink);
         return;
     }
     if implicit {
-        output.put(b"`default_nettype wire\n", sink);
+        put_nettype(true, output, sink);
     }
 }
 

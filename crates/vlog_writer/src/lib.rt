@@ -21,3 +21,6 @@ pub mod statement;
 pub mod string;
 
 pub use file::write_vlog;
+
+#[cfg(test)]
+mod tests;

@@ -5,7 +5,7 @@ ghost use Rattle.vlog_writer.specs.Layout.{Number, Real};
 ghost use Rattle.vlog_writer.specs.Spelling.{real_text};
 ghost use Rattle.nl_output.specs.Writing.{state, Puts};
 
-use nl_base::{Int, Scaled};
+use nl_base::{Int, Scaled, Text};
 use nl_io::Sink;
 use nl_output::Output;
 use vlog_values::{Base, Based, Literal};
@@ -52,13 +52,20 @@ fn put_base<O: Sink>(base: Base, output: &mut Output, sink: &mut O)
     }
 }
 
+/// The digits of a based literal, as they stand.
+fn put_digits<O: Sink>(digits: &Text, output: &mut Output, sink: &mut O)
+    ensures { Puts (λ rest. digits.now ++ rest) (state O.taken O.accepts O.faults sink.old output.old) (state O.taken O.accepts O.faults sink.new output.new) }
+{
+    output.put(digits.bytes(), sink);
+}
+
 /// A based literal without a size (IEEE 1364-2005, 3.5.1).
 pub(crate) fn write_based<O: Sink>(based: &Based, output: &mut Output, sink: &mut O)
     ensures { Puts (λ rest. based_spelling based.now ++ rest) (state O.taken O.accepts O.faults sink.old output.old) (state O.taken O.accepts O.faults sink.new output.new) }
 {
     put_quote(based.signed, output, sink);
     put_base(based.base, output, sink);
-    output.put(based.digits.bytes(), sink);
+    put_digits(&based.digits, output, sink);
 }
 
 /// A based literal (IEEE 1364-2005, 3.5.1).
