@@ -116,6 +116,18 @@ second_follows : (alone : Bool) (g : Form) (rest : List ℕ) → IsWritable g �
 second_follows true g rest good h other = form_not_star g good rest other
 second_follows false g rest good h other = begins g rest h
 
+-- the end of attributes, behind a blank
+closing : (rest : List ℕ) (ts : List VToken) → Lexes rest ts → Lexes (32 ∷ 42 ∷ 41 ∷ rest) (t.AttrStop ∷ ts)
+closing rest ts l = lexes_space 32 (42 ∷ 41 ∷ rest) (t.AttrStop ∷ ts) refl (lexes_attributes_end rest ts l)
+
+-- attributes between `(*` and `*)`
+around : (fs : Forms) (rest : List ℕ) (ts : List VToken) → Lexes (listed fs (32 ∷ 42 ∷ 41 ∷ rest)) (listed_tokens fs ++ t.AttrStop ∷ ts)
+    → Lexes (40 ∷ 42 ∷ 32 ∷ listed fs (32 ∷ 42 ∷ 41 ∷ rest)) (t.AttrStart ∷ ((listed_tokens fs ++ t.AttrStop ∷ []) ++ ts))
+around fs rest ts l =
+    lexes_attributes (32 ∷ listed fs (32 ∷ 42 ∷ 41 ∷ rest)) ((listed_tokens fs ++ t.AttrStop ∷ []) ++ ts)
+    (lexes_space 32 (listed fs (32 ∷ 42 ∷ 41 ∷ rest)) ((listed_tokens fs ++ t.AttrStop ∷ []) ++ ts) refl
+    (regroup (listed fs (32 ∷ 42 ∷ 41 ∷ rest)) (listed_tokens fs) (t.AttrStop ∷ []) ts l))
+
 mutual
   pub inline_lexes : (f : Form) → IsWritable f → (rest : List ℕ) (ts : List VToken) → Follows (is_alone f) rest → Lexes rest ts → Lexes (inline f rest) (tokens f ++ ts)
   inline_lexes Empty good rest ts h l = l
@@ -136,11 +148,10 @@ mutual
       regroup (inline f (spaced ps rest)) (tokens f) (part_tokens ps) ts
       (inline_lexes f good.0 (spaced ps rest) (part_tokens ps ++ ts) (follows (is_alone f) (spaced ps rest) (spaced_apart ps rest h)) (spaced_lex ps good.1 rest ts h l))
   inline_lexes (Listed fs) good rest ts h l = listed_lex fs good rest ts h l
-  inline_lexes (Attributes fs) good rest ts h l = attributes_lex fs good rest ts l
-  inline_lexes (Attributed none f) good rest ts h l = inline_lexes f good.1 rest ts (follows (is_alone f) rest h) l
-  inline_lexes (Attributed (more a others) f) good rest ts h l =
-      regroup (attributed (more a others) (inline f rest)) (attributed_tokens (more a others)) (tokens f) ts
-      (attributes_lex (more a others) good.0 (32 ∷ inline f rest) (tokens f ++ ts) (lexes_space 32 (inline f rest) (tokens f ++ ts) refl (inline_lexes f good.1 rest ts (follows (is_alone f) rest h) l)))
+  inline_lexes (Attributes fs) good rest ts h l = around fs rest ts (listed_lex fs good (32 ∷ 42 ∷ 41 ∷ rest) (t.AttrStop ∷ ts) refl (closing rest ts l))
+  inline_lexes (Attributed fs f) good rest ts h l =
+      regroup (attributed fs (inline f rest)) (attributed_tokens fs) (tokens f) ts
+      (attributed_lex fs good.0 (inline f rest) (tokens f ++ ts) (inline_lexes f good.1 rest ts (follows (is_alone f) rest h) l))
 
   spaced_lex : (ps : Parts) → AreParts ps → (rest : List ℕ) (ts : List VToken) → Apart rest → Lexes rest ts → Lexes (spaced ps rest) (part_tokens ps ++ ts)
   spaced_lex no_part good rest ts h l = l
@@ -163,13 +174,14 @@ mutual
       (regroup (inline f (further fs rest)) (tokens f) (further_tokens fs) ts
       (inline_lexes f good.0 (further fs rest) (further_tokens fs ++ ts) (follows (is_alone f) (further fs rest) (further_apart fs rest h)) (further_lex fs good.1 rest ts h l))))
 
-  attributes_lex : (fs : Forms) → AreWritable fs → (rest : List ℕ) (ts : List VToken) → Lexes rest ts
-      → Lexes (40 ∷ 42 ∷ 32 ∷ listed fs (32 ∷ 42 ∷ 41 ∷ rest)) (t.AttrStart ∷ ((listed_tokens fs ++ t.AttrStop ∷ []) ++ ts))
-  attributes_lex fs good rest ts l =
-      lexes_attributes (32 ∷ listed fs (32 ∷ 42 ∷ 41 ∷ rest)) ((listed_tokens fs ++ t.AttrStop ∷ []) ++ ts)
-      (lexes_space 32 (listed fs (32 ∷ 42 ∷ 41 ∷ rest)) ((listed_tokens fs ++ t.AttrStop ∷ []) ++ ts) refl
-      (regroup (listed fs (32 ∷ 42 ∷ 41 ∷ rest)) (listed_tokens fs) (t.AttrStop ∷ []) ts
-      (listed_lex fs good (32 ∷ 42 ∷ 41 ∷ rest) (t.AttrStop ∷ ts) refl (lexes_space 32 (42 ∷ 41 ∷ rest) (t.AttrStop ∷ ts) refl (lexes_attributes_end rest ts l)))))
+  attributed_lex : (fs : Forms) → AreWritable fs → (rest : List ℕ) (ts : List VToken) → Lexes rest ts → Lexes (attributed fs rest) (attributed_tokens fs ++ ts)
+  attributed_lex none good rest ts l = l
+  attributed_lex (more f fs) good rest ts l =
+      let end : List ℕ = 32 ∷ 42 ∷ 41 ∷ 32 ∷ rest in
+      around (more f fs) (32 ∷ rest) ts
+      (regroup (inline f (further fs end)) (tokens f) (further_tokens fs) (t.AttrStop ∷ ts)
+      (inline_lexes f good.0 (further fs end) (further_tokens fs ++ t.AttrStop ∷ ts) (follows (is_alone f) (further fs end) (further_apart fs end refl))
+      (further_lex fs good.1 end (t.AttrStop ∷ ts) refl (closing (32 ∷ rest) ts (lexes_space 32 rest ts refl l)))))
 
 -- ---- lines
 
