@@ -71,11 +71,11 @@ digits_stay base (d ∷ ds) h = (rw h.0 refl, digits_stay base ds h.1)
 
 digits_end : (base : Base) (c : ℕ) → is_apart c ≡ true → next_step (phase.Digits base) c ≡ Ends
 unfolding next_step
-digits_end base c h = let s = stops c h in rw (digit_based base c s.based, s.underscore, s.based) refl
+digits_end base c h = let s = stops c h in rw (digit_based base c s.based, s.based, s.underscore) refl
 
 unknown_ends : (c : ℕ) → is_apart c ≡ true → next_step phase.Unknown c ≡ Ends
 unfolding next_step
-unknown_ends c h = let s = stops c h in rw (s.underscore, s.based) refl
+unknown_ends c h = let s = stops c h in rw (s.based, s.underscore) refl
 
 first_step : (base : Base) (d : ℕ) → is_digit base d ≡ true → next_step (phase.Letter base) d ≡ Keep (phase.Digits base)
 unfolding next_step
@@ -152,23 +152,18 @@ record ReadAs (base : Base) (ds : List ℕ) : Type 0 where
   kept_are : filter is_kept ds ≡ ds
 
 digits_read : (base : Base) (d : ℕ) (ds : List ℕ) → Digits base (d ∷ ds) → has_value base (d ∷ ds) ≡ true → ReadAs base (d ∷ ds)
-unfolding most_of item_of
+unfolding most_of item_of is_complete
 digits_read base d ds all value = record {
   phase_of = phase.Digits base;
   reads = λ text rest n short h.
       steps_to (phase.Letter base) (phase.Digits base) text n d (ds ++ rest) (first_step base d all.0) (omega (arith, short))
       ∙ goes_on (phase.Digits base) (text ++ d ∷ []) ds rest (n + 1) (digits_stay base ds all.1) (omega (arith, short, length-append text (d ∷ [])))
-      ∙ comes_to_end is_apart (phase.Digits base) ((text ++ d ∷ []) ++ ds) (n + 1 + length ds) rest complete (digits_end base) h
+      ∙ comes_to_end is_apart (phase.Digits base) ((text ++ d ∷ []) ++ ds) (n + 1 + length ds) rest refl (digits_end base) h
       ∙ ap (λ (z : List ℕ). ended (phase.Digits base) z (n + 1 + length ds) (first rest)) (append_assoc text (d ∷ []) ds)
       ∙ ap (λ (k : ℕ). ended (phase.Digits base) (text ++ d ∷ ds) k (first rest)) (omega arith);
   item = λ text e. rw (e, value) refl;
   kept_are = all_kept base (d ∷ ds) all;
 }
-  where
-    complete : is_complete (phase.Digits base) ≡ true
-    unfolding is_complete
-    complete = refl
-
 open_read : (d : ℕ) → is_open d ≡ true → ReadAs Decimal (d ∷ [])
 unfolding most_of item_of decimal_value is_complete
 open_read d h = record {
@@ -264,7 +259,7 @@ based_read b rest good h =
 
 pub lexes_based : (b : Based) (rest : List ℕ) (ts : List VToken) → IsBased b → Apart rest → Lexes rest ts → Lexes (based_spelling b ++ rest) (t.Based b ∷ ts)
 lexes_based b rest ts good h l =
-    let long = omega (arith, length-append (front b.signed b.base) b.digits, behind_length b.signed b.base b.digits) in
+    let long : length (front b.signed b.base) + length b.digits ≡ length (behind b.signed b.base b.digits) + 1 = omega (arith, length-append (front b.signed b.base) b.digits, behind_length b.signed b.base b.digits) in
     rw (spelling_is b) (lexes_token 39 (behind b.signed b.base b.digits) rest (t.Based b) (length (front b.signed b.base) + length b.digits) (length (front b.signed b.base) + length b.digits + one_if (first rest)) ts
     (based_read b rest good h) long l)
 

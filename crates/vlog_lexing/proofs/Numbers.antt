@@ -166,7 +166,10 @@ positive_value : (n d : ℕ) (ds : List ℕ) → n < 2 ^ 63 → Spelled n (d ∷
 unfolding decimal_value
 positive_value n d ds small s =
     let same : n - 0 ≡ n = omega arith in
-    rw (no_minus d s.digits.0, s.value, same, lt-ltb n (2 ^ 63) small) refl
+    rw (no_minus d s.digits.0, s.value, at_least n, same, lt-ltb n (2 ^ 63) small) refl
+  where
+    at_least : (n : ℕ) → nat_le 0 n ≡ true
+    at_least n = grind (arith, nat_tests)
 
 negative_value : (n : ℕ) (ds : List ℕ) → suc n < 2 ^ 63 → Spelled (suc n) ds → lowered (is_negative (101 ∷ 45 ∷ ds)) (decimal_value (101 ∷ 45 ∷ ds)) 0 ≡ Some (negsuc n)
 unfolding decimal_value

@@ -31,7 +31,7 @@ stands b h = (grind (arith, nat_tests), grind (arith, nat_tests), grind (arith, 
 
 plain_byte : (b : ℕ) → is_plain b ≡ true → ReadsByte (b ∷ []) b
 unfolding string_at
-plain_byte b h v rest n small = let s = stands b h in rw (s.0, s.1, s.2, not_full v small) refl
+plain_byte b h v rest n small = let s = stands b h in rw (s.2, s.0, s.1, not_full v small) refl
 
 -- ---- escapes
 
@@ -127,7 +127,7 @@ reads_on (b ∷ s) v rest n all short =
 pub lexes_string : (s rest : List ℕ) (ts : List VToken) → IsString s → Lexes rest ts → Lexes (quoted s rest) (t.Str s ∷ ts)
 unfolding item_at
 lexes_string s rest ts good l =
-    let r = reads_on s [] rest 1 good.bytes good.short in
+    let r = reads_on s [] rest 1 good.bytes (omega (arith, good.short)) in
     let plain : Lexes (34 ∷ (written s [] ++ rest)) (t.Str s ∷ ts) =
     lexes_token 34 (written s []) rest (t.Str s) (1 + length (written s [])) (1 + length (written s [])) ts (rw r refl) (omega arith) l in
     subst (λ (z : List ℕ). Lexes (34 ∷ z) (t.Str s ∷ ts)) (sym (written_then s rest)) plain
