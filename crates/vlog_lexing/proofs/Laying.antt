@@ -17,9 +17,6 @@ use Rattle.vlog_lexing.proofs.Numbers.{lexes_number, lexes_real, number_not_star
 use Rattle.vlog_lexing.proofs.Scanning.{is_apart, Apart, NotStar, apart_not_star, lexes_end, lexes_space, lexes_mark, lexes_open, lexes_attributes, lexes_attributes_end}
 use Rattle.vlog_lexing.proofs.Strings.{lexes_string}
 
-regroup : (bs : List ℕ) (x y z : List VToken) → Lexes bs (x ++ (y ++ z)) → Lexes bs ((x ++ y) ++ z)
-regroup bs x y z h = subst (Lexes bs) (sym (append_assoc x y z)) h
-
 -- ---- what may stand behind a form
 
 mark_apart : (b : ℕ) → (is_punctuation b && not (b == 46)) ≡ true → is_apart b ≡ true
@@ -121,15 +118,14 @@ closing : (rest : List ℕ) (ts : List VToken) → Lexes rest ts → Lexes (32 �
 closing rest ts l = lexes_space 32 (42 ∷ 41 ∷ rest) (t.AttrStop ∷ ts) refl (lexes_attributes_end rest ts l)
 
 -- attributes between `(*` and `*)`
-around : (fs : Forms) (rest : List ℕ) (ts : List VToken) → Lexes (listed fs (32 ∷ 42 ∷ 41 ∷ rest)) (listed_tokens fs ++ t.AttrStop ∷ ts)
-    → Lexes (40 ∷ 42 ∷ 32 ∷ listed fs (32 ∷ 42 ∷ 41 ∷ rest)) (t.AttrStart ∷ ((listed_tokens fs ++ t.AttrStop ∷ []) ++ ts))
+around : (fs : Forms) (rest : List ℕ) (ts : List VToken) → Lexes (listed fs (32 ∷ 42 ∷ 41 ∷ rest)) (listed_tokens fs (t.AttrStop ∷ ts))
+    → Lexes (40 ∷ 42 ∷ 32 ∷ listed fs (32 ∷ 42 ∷ 41 ∷ rest)) (t.AttrStart ∷ listed_tokens fs (t.AttrStop ∷ ts))
 around fs rest ts l =
-    lexes_attributes (32 ∷ listed fs (32 ∷ 42 ∷ 41 ∷ rest)) ((listed_tokens fs ++ t.AttrStop ∷ []) ++ ts)
-    (lexes_space 32 (listed fs (32 ∷ 42 ∷ 41 ∷ rest)) ((listed_tokens fs ++ t.AttrStop ∷ []) ++ ts) refl
-    (regroup (listed fs (32 ∷ 42 ∷ 41 ∷ rest)) (listed_tokens fs) (t.AttrStop ∷ []) ts l))
+    lexes_attributes (32 ∷ listed fs (32 ∷ 42 ∷ 41 ∷ rest)) (listed_tokens fs (t.AttrStop ∷ ts))
+    (lexes_space 32 (listed fs (32 ∷ 42 ∷ 41 ∷ rest)) (listed_tokens fs (t.AttrStop ∷ ts)) refl l)
 
 mutual
-  pub inline_lexes : (f : Form) → IsWritable f → (rest : List ℕ) (ts : List VToken) → Follows (is_alone f) rest → Lexes rest ts → Lexes (inline f rest) (tokens f ++ ts)
+  pub inline_lexes : (f : Form) → IsWritable f → (rest : List ℕ) (ts : List VToken) → Follows (is_alone f) rest → Lexes rest ts → Lexes (inline f rest) (tokens f ts)
   inline_lexes Empty good rest ts h l = l
   inline_lexes (Name w) good rest ts h l = lexes_name w rest ts good (apart_ends rest h) l
   inline_lexes (Word w) good rest ts h l = lexes_word w rest ts good h l
@@ -142,46 +138,37 @@ mutual
   inline_lexes (Str s) good rest ts h l = lexes_string s rest ts good l
   inline_lexes (Path u w) good rest ts h l = lexes_name u (46 ∷ named w rest) (t.Punct 46 ∷ t.Name w ∷ ts) good.0 refl (lexes_mark 46 (named w rest) (t.Name w ∷ ts) refl (lexes_name w rest ts good.1 (apart_ends rest h) l))
   inline_lexes (f ▸ g) good rest ts h l =
-      regroup (inline f (inline g rest)) (tokens f) (tokens g) ts
-      (inline_lexes f good.0 (inline g rest) (tokens g ++ ts) (second_follows (is_alone f) g rest good.1 good.2 (apart_not_star rest h)) (inline_lexes g good.1 rest ts (follows (is_alone g) rest h) l))
+      inline_lexes f good.0 (inline g rest) (tokens g ts) (second_follows (is_alone f) g rest good.1 good.2 (apart_not_star rest h)) (inline_lexes g good.1 rest ts (follows (is_alone g) rest h) l)
   inline_lexes (Row f ps) good rest ts h l =
-      regroup (inline f (spaced ps rest)) (tokens f) (part_tokens ps) ts
-      (inline_lexes f good.0 (spaced ps rest) (part_tokens ps ++ ts) (follows (is_alone f) (spaced ps rest) (spaced_apart ps rest h)) (spaced_lex ps good.1 rest ts h l))
+      inline_lexes f good.0 (spaced ps rest) (part_tokens ps ts) (follows (is_alone f) (spaced ps rest) (spaced_apart ps rest h)) (spaced_lex ps good.1 rest ts h l)
   inline_lexes (Listed fs) good rest ts h l = listed_lex fs good rest ts h l
   inline_lexes (Attributes fs) good rest ts h l = around fs rest ts (listed_lex fs good (32 ∷ 42 ∷ 41 ∷ rest) (t.AttrStop ∷ ts) refl (closing rest ts l))
-  inline_lexes (Attributed fs f) good rest ts h l =
-      regroup (attributed fs (inline f rest)) (attributed_tokens fs) (tokens f) ts
-      (attributed_lex fs good.0 (inline f rest) (tokens f ++ ts) (inline_lexes f good.1 rest ts (follows (is_alone f) rest h) l))
+  inline_lexes (Attributed fs f) good rest ts h l = attributed_lex fs good.0 (inline f rest) (tokens f ts) (inline_lexes f good.1 rest ts (follows (is_alone f) rest h) l)
 
-  spaced_lex : (ps : Parts) → AreParts ps → (rest : List ℕ) (ts : List VToken) → Apart rest → Lexes rest ts → Lexes (spaced ps rest) (part_tokens ps ++ ts)
+  spaced_lex : (ps : Parts) → AreParts ps → (rest : List ℕ) (ts : List VToken) → Apart rest → Lexes rest ts → Lexes (spaced ps rest) (part_tokens ps ts)
   spaced_lex no_part good rest ts h l = l
-  spaced_lex (part f) good rest ts h l = lexes_space 32 (inline f rest) (tokens f ++ ts) refl (inline_lexes f good rest ts (follows (is_alone f) rest h) l)
-  spaced_lex (both ps qs) good rest ts h l =
-      regroup (spaced ps (spaced qs rest)) (part_tokens ps) (part_tokens qs) ts
-      (spaced_lex ps good.0 (spaced qs rest) (part_tokens qs ++ ts) (spaced_apart qs rest h) (spaced_lex qs good.1 rest ts h l))
+  spaced_lex (part f) good rest ts h l = lexes_space 32 (inline f rest) (tokens f ts) refl (inline_lexes f good rest ts (follows (is_alone f) rest h) l)
+  spaced_lex (both ps qs) good rest ts h l = spaced_lex ps good.0 (spaced qs rest) (part_tokens qs ts) (spaced_apart qs rest h) (spaced_lex qs good.1 rest ts h l)
 
-  listed_lex : (fs : Forms) → AreWritable fs → (rest : List ℕ) (ts : List VToken) → Apart rest → Lexes rest ts → Lexes (listed fs rest) (listed_tokens fs ++ ts)
+  listed_lex : (fs : Forms) → AreWritable fs → (rest : List ℕ) (ts : List VToken) → Apart rest → Lexes rest ts → Lexes (listed fs rest) (listed_tokens fs ts)
   listed_lex none good rest ts h l = l
   listed_lex (more f fs) good rest ts h l =
-      regroup (inline f (further fs rest)) (tokens f) (further_tokens fs) ts
-      (inline_lexes f good.0 (further fs rest) (further_tokens fs ++ ts) (follows (is_alone f) (further fs rest) (further_apart fs rest h)) (further_lex fs good.1 rest ts h l))
+      inline_lexes f good.0 (further fs rest) (further_tokens fs ts) (follows (is_alone f) (further fs rest) (further_apart fs rest h)) (further_lex fs good.1 rest ts h l)
 
-  further_lex : (fs : Forms) → AreWritable fs → (rest : List ℕ) (ts : List VToken) → Apart rest → Lexes rest ts → Lexes (further fs rest) (further_tokens fs ++ ts)
+  further_lex : (fs : Forms) → AreWritable fs → (rest : List ℕ) (ts : List VToken) → Apart rest → Lexes rest ts → Lexes (further fs rest) (further_tokens fs ts)
   further_lex none good rest ts h l = l
   further_lex (more f fs) good rest ts h l =
-      lexes_mark 44 (32 ∷ inline f (further fs rest)) ((tokens f ++ further_tokens fs) ++ ts) refl
-      (lexes_space 32 (inline f (further fs rest)) ((tokens f ++ further_tokens fs) ++ ts) refl
-      (regroup (inline f (further fs rest)) (tokens f) (further_tokens fs) ts
-      (inline_lexes f good.0 (further fs rest) (further_tokens fs ++ ts) (follows (is_alone f) (further fs rest) (further_apart fs rest h)) (further_lex fs good.1 rest ts h l))))
+      lexes_mark 44 (32 ∷ inline f (further fs rest)) (tokens f (further_tokens fs ts)) refl
+      (lexes_space 32 (inline f (further fs rest)) (tokens f (further_tokens fs ts)) refl
+      (inline_lexes f good.0 (further fs rest) (further_tokens fs ts) (follows (is_alone f) (further fs rest) (further_apart fs rest h)) (further_lex fs good.1 rest ts h l)))
 
-  attributed_lex : (fs : Forms) → AreWritable fs → (rest : List ℕ) (ts : List VToken) → Lexes rest ts → Lexes (attributed fs rest) (attributed_tokens fs ++ ts)
+  attributed_lex : (fs : Forms) → AreWritable fs → (rest : List ℕ) (ts : List VToken) → Lexes rest ts → Lexes (attributed fs rest) (attributed_tokens fs ts)
   attributed_lex none good rest ts l = l
   attributed_lex (more f fs) good rest ts l =
       let end : List ℕ = 32 ∷ 42 ∷ 41 ∷ 32 ∷ rest in
       around (more f fs) (32 ∷ rest) ts
-      (regroup (inline f (further fs end)) (tokens f) (further_tokens fs) (t.AttrStop ∷ ts)
-      (inline_lexes f good.0 (further fs end) (further_tokens fs ++ t.AttrStop ∷ ts) (follows (is_alone f) (further fs end) (further_apart fs end refl))
-      (further_lex fs good.1 end (t.AttrStop ∷ ts) refl (closing (32 ∷ rest) ts (lexes_space 32 rest ts refl l)))))
+      (inline_lexes f good.0 (further fs end) (further_tokens fs (t.AttrStop ∷ ts)) (follows (is_alone f) (further fs end) (further_apart fs end refl))
+      (further_lex fs good.1 end (t.AttrStop ∷ ts) refl (closing (32 ∷ rest) ts (lexes_space 32 rest ts refl l))))
 
 -- ---- lines
 
@@ -189,12 +176,11 @@ blanks_lex : (n : ℕ) (rest : List ℕ) (ts : List VToken) → Lexes rest ts �
 blanks_lex zero rest ts l = l
 blanks_lex (suc n) rest ts l = lexes_space 32 (blanks n ++ rest) ts refl (blanks_lex n rest ts l)
 
-pub laid_lexes : (lines : Lines) → CanBeLaid lines → (rest : List ℕ) (ts : List VToken) → Lexes rest ts → Lexes (laid lines rest) (line_tokens lines ++ ts)
+pub laid_lexes : (lines : Lines) → CanBeLaid lines → (rest : List ℕ) (ts : List VToken) → Lexes rest ts → Lexes (laid lines rest) (line_tokens lines ts)
 laid_lexes nothing good rest ts l = l
-laid_lexes (line n f) good rest ts l = blanks_lex n (inline f (10 ∷ rest)) (tokens f ++ ts) (inline_lexes f good (10 ∷ rest) ts (follows (is_alone f) (10 ∷ rest) refl) (lexes_space 10 rest ts refl l))
-laid_lexes (lines below others) good rest ts l =
-    regroup (laid lines (laid others rest)) (line_tokens lines) (line_tokens others) ts (laid_lexes lines good.0 (laid others rest) (line_tokens others ++ ts) (laid_lexes others good.1 rest ts l))
+laid_lexes (line n f) good rest ts l = blanks_lex n (inline f (10 ∷ rest)) (tokens f ts) (inline_lexes f good (10 ∷ rest) ts (follows (is_alone f) (10 ∷ rest) refl) (lexes_space 10 rest ts refl l))
+laid_lexes (lines below others) good rest ts l = laid_lexes lines good.0 (laid others rest) (line_tokens others ts) (laid_lexes others good.1 rest ts l)
 
 -- The tokens of the text of lines are those of the lines.
-pub text_lexes : (lines : Lines) → CanBeLaid lines → Lexes (laid lines []) (line_tokens lines)
-text_lexes lines good = subst (Lexes (laid lines [])) (append-nil (line_tokens lines)) (laid_lexes lines good [] [] lexes_end)
+pub text_lexes : (lines : Lines) → CanBeLaid lines → Lexes (laid lines []) (line_tokens lines [])
+text_lexes lines good = laid_lexes lines good [] [] lexes_end

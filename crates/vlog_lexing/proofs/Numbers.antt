@@ -105,7 +105,7 @@ digits_lex n (d ∷ ds) rest ts small s short h l =
 pub lexes_count : (n : ℕ) (rest : List ℕ) (ts : List VToken) → n < 2 ^ 63 → Apart rest → Lexes rest ts → Lexes (decimal n ++ rest) (t.Number (pos n) ∷ ts)
 lexes_count n rest ts small h l = digits_lex n (decimal n) rest ts small (decimal_spelled n (omega arith)) (decimal_short n small) h l
 
-pub lexes_number : (z : ℤ) (rest : List ℕ) (ts : List VToken) → IsNumber z → Apart rest → Lexes rest ts → Lexes (signed_decimal z ++ rest) (number_tokens z ++ ts)
+pub lexes_number : (z : ℤ) (rest : List ℕ) (ts : List VToken) → IsNumber z → Apart rest → Lexes rest ts → Lexes (signed_decimal z ++ rest) (number_tokens z ts)
 lexes_number (pos n) rest ts good h l = lexes_count n rest ts good h l
 lexes_number (negsuc n) rest ts good h l = lexes_mark 45 (decimal (suc n) ++ rest) (t.Number (pos (suc n)) ∷ ts) refl (lexes_count (suc n) rest ts good h l)
 
@@ -275,7 +275,7 @@ real_digits m e (d ∷ ds) bs rest ts small s short x h l =
     (lexes_token d (ds ++ (101 ∷ bs)) rest (t.Real (record { mantissa = pos m; exponent = e })) (1 + length ds + 1 + length bs) (1 + length ds + 1 + length bs + one_if (first rest)) ts
     (real_read m d e ds bs rest small s short x h) long l)
 
-pub lexes_real : (m e : ℤ) (rest : List ℕ) (ts : List VToken) → IsNumber m → IsNumber e → Apart rest → Lexes rest ts → Lexes (signed_decimal m ++ (101 ∷ (signed_decimal e ++ rest))) (real_tokens m e ++ ts)
+pub lexes_real : (m e : ℤ) (rest : List ℕ) (ts : List VToken) → IsNumber m → IsNumber e → Apart rest → Lexes rest ts → Lexes (signed_decimal m ++ (101 ∷ (signed_decimal e ++ rest))) (real_tokens m e ts)
 lexes_real (pos n) e rest ts small near h l = real_digits n e (decimal n) (signed_decimal e) rest ts small (decimal_spelled n (omega (arith, small))) (decimal_short n small) (exponent e near) h l
 lexes_real (negsuc n) e rest ts small near h l =
     let less : suc n < 2 ^ 63 = small in

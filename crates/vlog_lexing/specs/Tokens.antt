@@ -10,62 +10,62 @@ use Rattle.vlog_tokens.specs.declared.token.VToken.TheVariants as t
 use Rattle.vlog_writer.specs.Layout.{Form, Empty, Name, Word, Directive, Mark, Number, Real, Sized, Loose, Str, Path, ◌▸◌, Row, Listed, Attributes, Attributed, Parts, no_part, part, both, Forms, none, more, Lines, nothing, line, ◌below◌}
 use Rattle.vlog_writer.specs.Spelling.{is_simple}
 
--- an integer, with `-` in front of a negative one
-abbrev pub number_tokens : ℤ → List VToken
-number_tokens (pos n) = t.Number (pos n) ∷ []
-number_tokens (negsuc n) = t.Punct 45 ∷ t.Number (pos (suc n)) ∷ []
+-- an integer, with `-` in front of a negative one, before what follows
+abbrev pub number_tokens : ℤ → List VToken → List VToken
+number_tokens (pos n) ts = t.Number (pos n) ∷ ts
+number_tokens (negsuc n) ts = t.Punct 45 ∷ t.Number (pos (suc n)) ∷ ts
 
--- a real of this mantissa and exponent, with `-` in front of a negative mantissa
-abbrev pub real_tokens : ℤ → ℤ → List VToken
-real_tokens (pos n) e = t.Real (record { mantissa = pos n; exponent = e }) ∷ []
-real_tokens (negsuc n) e = t.Punct 45 ∷ t.Real (record { mantissa = pos (suc n); exponent = e }) ∷ []
+-- a real of this mantissa and exponent, with `-` in front of a negative mantissa, before what follows
+abbrev pub real_tokens : ℤ → ℤ → List VToken → List VToken
+real_tokens (pos n) e ts = t.Real (record { mantissa = pos n; exponent = e }) ∷ ts
+real_tokens (negsuc n) e ts = t.Punct 45 ∷ t.Real (record { mantissa = pos (suc n); exponent = e }) ∷ ts
 
 abbrev mutual
-  -- the tokens of a form
-  pub tokens : Form → List VToken
-  tokens Empty = []
-  tokens (Name name) = t.Name name ∷ []
-  tokens (Word word) = t.Keyword word ∷ []
-  tokens (Directive word) = t.Directive word ∷ []
-  tokens (Mark b) = t.Punct b ∷ []
-  tokens (Number n) = number_tokens n
-  tokens (Real r) = real_tokens r.mantissa r.exponent
-  tokens (Sized literal) = t.Number (pos literal.size) ∷ t.Based literal.based ∷ []
-  tokens (Loose based) = t.Based based ∷ []
-  tokens (Str s) = t.Str s ∷ []
-  tokens (Path outer name) = t.Name outer ∷ t.Punct 46 ∷ t.Name name ∷ []
-  tokens (f ▸ g) = tokens f ++ tokens g
-  tokens (Row f parts) = tokens f ++ part_tokens parts
-  tokens (Listed fs) = listed_tokens fs
-  tokens (Attributes fs) = t.AttrStart ∷ (listed_tokens fs ++ t.AttrStop ∷ [])
-  tokens (Attributed fs f) = attributed_tokens fs ++ tokens f
+  -- the tokens of a form, before what follows
+  pub tokens : Form → List VToken → List VToken
+  tokens Empty ts = ts
+  tokens (Name name) ts = t.Name name ∷ ts
+  tokens (Word word) ts = t.Keyword word ∷ ts
+  tokens (Directive word) ts = t.Directive word ∷ ts
+  tokens (Mark b) ts = t.Punct b ∷ ts
+  tokens (Number n) ts = number_tokens n ts
+  tokens (Real r) ts = real_tokens r.mantissa r.exponent ts
+  tokens (Sized literal) ts = t.Number (pos literal.size) ∷ t.Based literal.based ∷ ts
+  tokens (Loose based) ts = t.Based based ∷ ts
+  tokens (Str s) ts = t.Str s ∷ ts
+  tokens (Path outer name) ts = t.Name outer ∷ t.Punct 46 ∷ t.Name name ∷ ts
+  tokens (f ▸ g) ts = tokens f (tokens g ts)
+  tokens (Row f parts) ts = tokens f (part_tokens parts ts)
+  tokens (Listed fs) ts = listed_tokens fs ts
+  tokens (Attributes fs) ts = t.AttrStart ∷ listed_tokens fs (t.AttrStop ∷ ts)
+  tokens (Attributed fs f) ts = attributed_tokens fs (tokens f ts)
 
   -- those of the parts of a row
-  pub part_tokens : Parts → List VToken
-  part_tokens no_part = []
-  part_tokens (part f) = tokens f
-  part_tokens (both ps qs) = part_tokens ps ++ part_tokens qs
+  pub part_tokens : Parts → List VToken → List VToken
+  part_tokens no_part ts = ts
+  part_tokens (part f) ts = tokens f ts
+  part_tokens (both ps qs) ts = part_tokens ps (part_tokens qs ts)
 
   -- those of forms with commas between them
-  pub listed_tokens : Forms → List VToken
-  listed_tokens none = []
-  listed_tokens (more f fs) = tokens f ++ further_tokens fs
+  pub listed_tokens : Forms → List VToken → List VToken
+  listed_tokens none ts = ts
+  listed_tokens (more f fs) ts = tokens f (further_tokens fs ts)
 
   -- those of forms, each after a comma
-  pub further_tokens : Forms → List VToken
-  further_tokens none = []
-  further_tokens (more f fs) = t.Punct 44 ∷ (tokens f ++ further_tokens fs)
+  pub further_tokens : Forms → List VToken → List VToken
+  further_tokens none ts = ts
+  further_tokens (more f fs) ts = t.Punct 44 ∷ tokens f (further_tokens fs ts)
 
   -- those of attributes, if there are any
-  pub attributed_tokens : Forms → List VToken
-  attributed_tokens none = []
-  attributed_tokens (more f fs) = t.AttrStart ∷ ((tokens f ++ further_tokens fs) ++ t.AttrStop ∷ [])
+  pub attributed_tokens : Forms → List VToken → List VToken
+  attributed_tokens none ts = ts
+  attributed_tokens (more f fs) ts = t.AttrStart ∷ tokens f (further_tokens fs (t.AttrStop ∷ ts))
 
--- those of lines
-abbrev pub line_tokens : Lines → List VToken
-line_tokens nothing = []
-line_tokens (line n f) = tokens f
-line_tokens (lines below others) = line_tokens lines ++ line_tokens others
+-- those of lines, before what follows
+abbrev pub line_tokens : Lines → List VToken → List VToken
+line_tokens nothing ts = ts
+line_tokens (line n f) ts = tokens f ts
+line_tokens (lines below others) ts = line_tokens lines (line_tokens others ts)
 
 -- a byte of punctuation
 abbrev pub is_punctuation : ℕ → Bool

@@ -5,5 +5,5 @@ ghost use Rattle.vlog_writer.specs.Layout.{Lines, laid};
 
 /// The tokens of the text of lines are those of the lines.
 pub fn text_lexes()
-    ensures { (lines : Lines) → CanBeLaid lines → Lexes (laid lines []) (line_tokens lines) }
+    ensures { (lines : Lines) → CanBeLaid lines → Lexes (laid lines []) (line_tokens lines []) }
 {}
