@@ -40,7 +40,7 @@ use Rattle.vlog_items.specs.Grammar.{signed_word, signed, port_kind_words, port_
 use Rattle.vlog_items.specs.declared.item.ItemWord.{ItemWord}
 use Rattle.vlog_items.specs.declared.item.ItemWord.TheVariants as words
 use Rattle.vlog_writer.specs.Forms as form
-use Rattle.vlog_writer.specs.Layout.{Form, Name, Word, Mark, Row, ◌▸◌, Parts, part, both, each}
+use Rattle.vlog_writer.specs.Layout.{Form, Name, Word, Row, Listed, part, both, each}
 use Rattle.vlog_lexing.specs.Tokens.{tokens, part_tokens, listed_tokens, further_tokens}
 use Rattle.vlog_rereading.proofs.Expressions.{maybe_range_front, const_front, groups_front, expr_front, maybe_expr_front}
 use Rattle.vlog_rereading.proofs.Fronts.{Front, nothing, then, at_last, as_value, a_name, a_mark, a_choice, taken, left, some_taken, none_taken, after_mark, no_mark, commas_front, list_front}
@@ -189,29 +189,110 @@ instances_front i ts good =
     then (overrides_front i.params (listed_tokens (each form.inst_form i.insts) (t.Punct 59 ∷ ts)) good.params)
     (at_last {g = λ us. record { attrs = i.attrs; «module» = i.«module»; params = i.params; insts = us }} (list_front instance (mark 59) (t.Punct 59) form.inst_form IsInstance (λ ts. a_mark 59 ts refl) instance_front i.insts ts good.insts))
 
--- ---- items
+-- ---- items, behind their attributes and their first word
 
--- an item behind its attributes: its first token, and the rest behind it, also where it comes behind attributes
-pub record Begun (as_written : List Attr) (i : ItemV) (body ts : List VToken) : Type 1 where
-  pub token : VToken
-  pub mid : List VToken
-  pub is : body ≡ token ∷ mid
-  pub rest : Vlog ItemV
-  pub front : Front rest i mid ts
-  pub behind : Front (item as_written) i body ts
-
--- an item that begins with a keyword
-word_begun : (as_written : List Attr) (word : List ℕ) (w : ItemWord) (i : ItemV) (mid ts : List VToken) → say.meant_by item_words word ≡ Some w
-    → Front (word_item as_written w) i mid ts → Front (item as_written) i (t.Keyword word ∷ mid) ts
-unfolding item
-word_begun as_written word w i mid ts meant x = left say.at_name (instances_item as_written) (sequence (choice item_words) (word_item as_written)) (then (a_choice item_words word w mid meant) x)
-
--- an item that begins with the name of a module
-name_begun : (as_written : List Attr) (m : List ℕ) (i : ItemV) (mid ts : List VToken) → Front (instances_item as_written m) i mid ts → Front (item as_written) i (t.Name m ∷ mid) ts
-unfolding item
-name_begun as_written m i mid ts x = taken say.at_name (instances_item as_written) (sequence (choice item_words) (word_item as_written)) (t.Name m) m refl x
-
-dir_word : Dir → List ℕ
+-- the word of a direction
+abbrev pub dir_word : Dir → List ℕ
 dir_word dirs.Input = codes "input"
 dir_word dirs.Output = codes "output"
 dir_word dirs.Inout = codes "inout"
+
+pub dir_tokens : (d : Dir) (ts : List VToken) → tokens (form.dir_form d) ts ≡ t.Keyword (dir_word d) ∷ ts
+dir_tokens dirs.Input ts = refl
+dir_tokens dirs.Output ts = refl
+dir_tokens dirs.Inout ts = refl
+
+-- the word of a net's kind
+abbrev kind_word : NetKind → List ℕ
+kind_word net_kinds.Wire = codes "wire"
+kind_word net_kinds.Tri = codes "tri"
+kind_word net_kinds.Supply0 = codes "supply0"
+kind_word net_kinds.Supply1 = codes "supply1"
+
+kind_tokens : (k : NetKind) (ts : List VToken) → tokens (form.net_kind_form k) ts ≡ t.Keyword (kind_word k) ∷ ts
+kind_tokens net_kinds.Wire ts = refl
+kind_tokens net_kinds.Tri ts = refl
+kind_tokens net_kinds.Supply0 ts = refl
+kind_tokens net_kinds.Supply1 ts = refl
+
+-- an item without its attributes: its first token, with which an item begins, and the rest of it behind that token
+pub record Plain (as_written : List Attr) (i : ItemV) (body ts : List VToken) : Type 0 where
+  pub word : List ℕ
+  pub meant : ItemWord
+  pub mid : List VToken
+  pub is : body ≡ t.Keyword word ∷ mid
+  pub says : say.meant_by item_words word ≡ Some meant
+  pub front : Front (word_item as_written meant) i mid ts
+
+-- the same of a statement of instances, which begins with the name of their module
+pub record Named (as_written : List Attr) (i : ItemV) (body ts : List VToken) : Type 0 where
+  pub of_module : List ℕ
+  pub mid : List VToken
+  pub is : body ≡ t.Name of_module ∷ mid
+  pub front : Front (instances_item as_written of_module) i mid ts
+
+port_means : (d : Dir) → say.meant_by item_words (dir_word d) ≡ Some (words.Port d)
+unfolding say.meant_by
+port_means dirs.Input = refl
+port_means dirs.Output = refl
+port_means dirs.Inout = refl
+
+net_means : (k : NetKind) → say.meant_by item_words (kind_word k) ≡ Some (words.Net k)
+unfolding say.meant_by
+net_means net_kinds.Wire = refl
+net_means net_kinds.Tri = refl
+net_means net_kinds.Supply0 = refl
+net_means net_kinds.Supply1 = refl
+
+-- the form of an item behind its attributes
+abbrev pub port_body : PortDecl → Form
+port_body d = Row (form.dir_form d.dir) (both (form.port_kind_part d.kind) (both (form.vector_parts d.signed d.range) (part (form.names_form d.names))))
+
+abbrev pub net_body : NetDecl → Form
+net_body d = Row (form.net_kind_form d.kind) (both (form.vector_parts d.signed d.range) (part (form.names_form d.names)))
+
+abbrev pub instances_body : Instances → Form
+instances_body i = Row (Name i.«module») (both (form.hashed (each form.override_form i.params)) (part (Listed (each form.inst_form i.insts))))
+
+abbrev pub assigns_body : Assigns → Form
+assigns_body a = Row (Word (codes "assign")) (part (Listed (each form.assignment_form a.sets)))
+
+abbrev pub defparams_body : Defparams → Form
+defparams_body d = Row (Word (codes "defparam")) (part (Listed (each form.def_form d.sets)))
+
+pub port_plain : (d : PortDecl) (ts : List VToken) → IsPortDecl d → Plain d.attrs (items.Port d) (tokens (port_body d) (t.Punct 59 ∷ ts)) ts
+unfolding word_item
+port_plain d ts good = record { word = dir_word d.dir; meant = words.Port d.dir; mid = _; is = dir_tokens d.dir _; says = port_means d.dir; front = at_last {g = λ d. items.Port d} (port_front d ts good) }
+
+pub net_plain : (d : NetDecl) (ts : List VToken) → IsNetDecl d → Plain d.attrs (items.Net d) (tokens (net_body d) (t.Punct 59 ∷ ts)) ts
+unfolding word_item
+net_plain d ts good = record { word = kind_word d.kind; meant = words.Net d.kind; mid = _; is = kind_tokens d.kind _; says = net_means d.kind; front = at_last {g = λ d. items.Net d} (net_front d ts good) }
+
+pub param_plain : (d : ParamDecl) (ts : List VToken) → IsParamDecl d → Plain d.attrs (items.Param d) (tokens (form.group_form d) (t.Punct 59 ∷ ts)) ts
+unfolding word_item say.meant_by
+param_plain d ts good = record { word = codes "parameter"; meant = words.Param; mid = _; is = refl; says = refl; front = at_last {g = λ d. items.Param d} (param_front d ts good) }
+
+pub assigns_plain : (a : Assigns) (ts : List VToken) → AreAssigns a → Plain a.attrs (items.Assign a) (tokens (assigns_body a) (t.Punct 59 ∷ ts)) ts
+unfolding word_item say.meant_by
+assigns_plain a ts good = record { word = codes "assign"; meant = words.Assign; mid = _; is = refl; says = refl; front = at_last {g = λ a. items.Assign a} (assigns_front a ts good) }
+
+pub defparams_plain : (d : Defparams) (ts : List VToken) → AreDefparams d → Plain d.attrs (items.Defparam d) (tokens (defparams_body d) (t.Punct 59 ∷ ts)) ts
+unfolding word_item say.meant_by
+defparams_plain d ts good = record { word = codes "defparam"; meant = words.Defparam; mid = _; is = refl; says = refl; front = at_last {g = λ d. items.Defparam d} (defparams_front d ts good) }
+
+pub instances_named : (i : Instances) (ts : List VToken) → AreInstances i → Named i.attrs (items.Instances i) (tokens (instances_body i) (t.Punct 59 ∷ ts)) ts
+unfolding instances_item
+instances_named i ts good = record { of_module = i.«module»; mid = _; is = refl; front = at_last {g = λ i. items.Instances i} (instances_front i ts good) }
+
+-- an item behind attributes
+pub plain_item : {as_written : List Attr} {i : ItemV} {body ts : List VToken} → Plain as_written i body ts → Front (item as_written) i body ts
+unfolding item
+plain_item {as_written} {i} {body} {ts} p =
+    subst (λ (z : List VToken). Front (item as_written) i z ts) (sym p.is)
+    (left say.at_name (instances_item as_written) (sequence (choice item_words) (word_item as_written)) (then (a_choice item_words p.word p.meant p.mid p.says) p.front))
+
+pub named_item : {as_written : List Attr} {i : ItemV} {body ts : List VToken} → Named as_written i body ts → Front (item as_written) i body ts
+unfolding item
+named_item {as_written} {i} {body} {ts} p =
+    subst (λ (z : List VToken). Front (item as_written) i z ts) (sym p.is)
+    (taken say.at_name (instances_item as_written) (sequence (choice item_words) (word_item as_written)) (t.Name p.of_module) p.of_module refl p.front)

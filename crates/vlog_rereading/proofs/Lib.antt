@@ -1,3 +1,4 @@
 pub mod Fronts
 pub mod Expressions
 pub mod Items
+pub mod Modules
