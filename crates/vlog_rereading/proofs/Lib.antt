@@ -2,3 +2,4 @@ pub mod Fronts
 pub mod Expressions
 pub mod Items
 pub mod Modules
+pub mod Writable
