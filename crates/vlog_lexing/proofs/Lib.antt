@@ -4,3 +4,4 @@ pub mod Numbers
 pub mod Literals
 pub mod Strings
 pub mod Laying
+pub mod Limits

@@ -3,3 +3,4 @@ pub mod Expressions
 pub mod Items
 pub mod Modules
 pub mod Writable
+pub mod Law
