@@ -23,11 +23,7 @@ use Rattle.vlog_exprs.specs.Reasons as say
 use Rattle.vlog_exprs.specs.Grammar.{name, mark, keyword, choice, maybe_range, constant, attrs, group, groups, commas, after}
 use Rattle.vlog_items.specs.Grammar.{signed, port_kind, param_type, param_set, item_words, word_item, instances_item, item}
 use Rattle.vlog_items.specs.declared.item.ItemWord.{ItemWord}
-use Rattle.vlog_modules.specs.Grammar.{dir_words, port_decl, with_name, with_decl, port_turn, port_decls, name_header, decl_header, some_header, header, param_group, with_set, with_group, more_set, param_turn, param_groups, params_rest, params, ItemStart, at_group, at_module_name, at_word, at_item, word_start, item_rest, items, module_rest, module_of, net_type_of, net_type, with_module, with_implicit, directive, PieceStart, at_word_of, at_attributes, at_module, at_piece, piece_rest, pieces, file}
-use Rattle.vlog_modules.specs.declared.header.PortDecls.{PortDecls}
-use Rattle.vlog_modules.specs.declared.parameter.ParamGroups.{ParamGroups}
-use Rattle.vlog_modules.specs.declared.file.Directive.TheVariants as directives
-use Rattle.vlog_modules.specs.declared.file.SoFar.{SoFar}
+use Rattle.vlog_modules.specs.Grammar.{dir_words, port_rest, port_decl, with_name, with_decl, port_turn, port_decls, name_header, decl_header, some_header, header, param_group, with_set, with_group, more_set, param_turn, param_groups, params_rest, params, ItemStart, at_group, at_module_name, at_word, at_item, word_start, item_rest, items, module_rest, module_of, net_type_of, net_type, with_module, with_implicit, directive, PieceStart, at_word_of, at_attributes, at_module, at_piece, piece_rest, pieces, file}
 use Rattle.vlog_writer.specs.Forms as form
 use Rattle.vlog_writer.specs.Layout.{Form, Name, Word, Mark, ◌▸◌, Forms, Lines, each, all}
 use Rattle.vlog_lexing.specs.Tokens.{tokens, part_tokens, listed_tokens, further_tokens, attributed_tokens, line_tokens}
@@ -41,9 +37,9 @@ use Rattle.vlog_rereading.proofs.Items.{signed_front, port_kind_front, param_typ
 abbrev naming : PortDecl → List (List ℕ) → PortDecl
 naming d ns = record { attrs = d.attrs; dir = d.dir; kind = d.kind; signed = d.signed; range = d.range; names = ns }
 
--- declarations, of which the last has these further names
-abbrev with_names : PortDecls → List (List ℕ) → PortDecls
-with_names ds ns = record { before = ds.before; last = naming ds.last (ds.last.names ++ ns) }
+-- further declarations behind some declarations and a last one, which may have further names
+abbrev decls_from : List PortDecl → PortDecl → Vlog (List PortDecl)
+decls_from before last = port_decls (record { before = before; last = last })
 
 dir_means : (d : Dir) → say.meant_by dir_words (dir_word d) ≡ Some d
 unfolding say.meant_by
@@ -54,7 +50,7 @@ dir_means dirs.Inout = refl
 -- a declaration up to its first name
 decl_front : (d : PortDecl) (n : List ℕ) (ts : List VToken) → IsPortDecl d
     → Front port_decl (naming d (n ∷ [])) (attributed_tokens (each form.attr_form d.attrs) (tokens (form.dir_form d.dir) (part_tokens (form.port_kind_part d.kind) (part_tokens (form.vector_parts d.signed d.range) (t.Name n ∷ ts))))) ts
-unfolding port_decl
+unfolding port_decl port_rest
 decl_front d n ts good =
     let vector = part_tokens (form.vector_parts d.signed d.range) (t.Name n ∷ ts) in
     let kind = part_tokens (form.port_kind_part d.kind) vector in
@@ -65,39 +61,40 @@ decl_front d n ts good =
 
 module _ {v : List PortDecl} {rest : List VToken} where
   -- further names of the last declaration, and what follows them
-  names_then : (ds : PortDecls) (ns : List (List ℕ)) (mid : List VToken) → Front (port_decls (with_names ds ns)) v mid rest → Front (port_decls ds) v (further_tokens (each Name ns) mid) rest
+  names_then : (before : List PortDecl) (last : PortDecl) (ns : List (List ℕ)) (mid : List VToken) → Front (decls_from before (naming last (last.names ++ ns))) v mid rest
+      → Front (decls_from before last) v (further_tokens (each Name ns) mid) rest
   unfolding port_decls port_turn
-  names_then ds [] mid x = subst (λ (ns : List (List ℕ)). Front (port_decls (record { before = ds.before; last = naming ds.last ns })) v mid rest) (append-nil ds.last.names) x
-  names_then ds (n ∷ ns) mid x =
-      next_round (say.at_mark 44) (λ ds _. port_turn ds) (λ ds. sequence (mark 41) (λ _. gives (ds.before ++ ds.last ∷ []))) ds (t.Punct 44) tt (with_name ds n) refl
-      (taken say.at_name (λ n. gives (with_name ds n)) (sequence port_decl (λ d. gives (with_decl ds d))) (t.Name n) n refl (nothing (with_name ds n) (further_tokens (each Name ns) mid)))
-      (names_then (with_name ds n) ns mid
-      (subst (λ (all : List (List ℕ)). Front (port_decls (record { before = ds.before; last = naming ds.last all })) v mid rest) (sym (append_assoc ds.last.names (n ∷ []) ns)) x))
+  names_then before last [] mid x = subst (λ (ns : List (List ℕ)). Front (decls_from before (naming last ns)) v mid rest) (append-nil last.names) x
+  names_then before last (n ∷ ns) mid x =
+      next_round (say.at_mark 44) (λ ds _. port_turn ds) (λ ds. sequence (mark 41) (λ _. gives (ds.before ++ ds.last ∷ []))) _ (t.Punct 44) tt _ refl
+      (taken say.at_name _ _ (t.Name n) n refl (nothing _ (further_tokens (each Name ns) mid)))
+      (names_then before (naming last (last.names ++ n ∷ [])) ns mid
+      (subst (λ (all : List (List ℕ)). Front (decls_from before (naming last all)) v mid rest) (sym (append_assoc last.names (n ∷ []) ns)) x))
 
 -- a declaration of a header: it has a name
 abbrev header_tokens : PortDecl → List (List ℕ) → List VToken → List VToken
 header_tokens d ns ts = attributed_tokens (each form.attr_form d.attrs) (tokens (form.dir_form d.dir) (part_tokens (form.port_kind_part d.kind) (part_tokens (form.vector_parts d.signed d.range) (listed_tokens (each Name ns) ts))))
 
 -- further declarations
-decls_front : (ds : PortDecls) (others : List PortDecl) (ts : List VToken) → AllByRecursion IsPortDecl others
-    → Front (port_decls ds) (ds.before ++ ds.last ∷ others) (further_tokens (each form.port_form others) (t.Punct 41 ∷ ts)) ts
+decls_front : (before : List PortDecl) (last : PortDecl) (others : List PortDecl) (ts : List VToken) → AllByRecursion IsPortDecl others
+    → Front (decls_from before last) (before ++ last ∷ others) (further_tokens (each form.port_form others) (t.Punct 41 ∷ ts)) ts
 unfolding port_decls port_turn
-decls_front ds [] ts good =
-    last_round (say.at_mark 44) (λ ds _. port_turn ds) (λ ds. sequence (mark 41) (λ _. gives (ds.before ++ ds.last ∷ []))) ds (at_last {g = λ _. ds.before ++ ds.last ∷ []} (a_mark 41 ts refl))
-decls_front ds (d ∷ others) ts good = by_names d.names good.0.names (naming d d.names) (decls_front (record { before = ds.before ++ ds.last ∷ []; last = d }) others ts good.1)
+decls_front before last [] ts good =
+    last_round (say.at_mark 44) (λ ds _. port_turn ds) (λ ds. sequence (mark 41) (λ _. gives (ds.before ++ ds.last ∷ []))) _ (at_last {g = λ _. before ++ last ∷ []} (a_mark 41 ts refl))
+decls_front before last (d ∷ others) ts good = by_names d.names good.0.names (decls_front (before ++ last ∷ []) d others ts good.1)
   where
     behind : List VToken
     behind = further_tokens (each form.port_form others) (t.Punct 41 ∷ ts)
     whole : List PortDecl
-    whole = (ds.before ++ ds.last ∷ []) ++ d ∷ others
-    by_names : (ns : List (List ℕ)) → AreSome IsName ns → (e : PortDecl) → Front (port_decls (record { before = ds.before ++ ds.last ∷ []; last = naming d ns })) whole behind ts
-        → Front (port_decls ds) (ds.before ++ ds.last ∷ d ∷ others) (t.Punct 44 ∷ header_tokens d ns behind) ts
-    by_names [] some e x = absurd (omega (arith, some.some))
-    by_names (n ∷ ns) some e x =
-        as_value (append_assoc ds.before (ds.last ∷ []) (d ∷ others))
-        (next_round (say.at_mark 44) (λ ds _. port_turn ds) (λ ds. sequence (mark 41) (λ _. gives (ds.before ++ ds.last ∷ []))) ds (t.Punct 44) tt (with_decl ds (naming d (n ∷ []))) refl
-        (left say.at_name (λ n. gives (with_name ds n)) (sequence port_decl (λ d. gives (with_decl ds d))) (at_last {g = λ d. with_decl ds d} (decl_front d n (further_tokens (each Name ns) behind) good.0)))
-        (names_then (with_decl ds (naming d (n ∷ []))) ns behind x))
+    whole = (before ++ last ∷ []) ++ d ∷ others
+    by_names : (ns : List (List ℕ)) → AreSome IsName ns → Front (decls_from (before ++ last ∷ []) (naming d ns)) whole behind ts
+        → Front (decls_from before last) (before ++ last ∷ d ∷ others) (t.Punct 44 ∷ header_tokens d ns behind) ts
+    by_names [] some x = absurd (omega (arith, some.some))
+    by_names (n ∷ ns) some x =
+        as_value (append_assoc before (last ∷ []) (d ∷ others))
+        (next_round (say.at_mark 44) (λ ds _. port_turn ds) (λ ds. sequence (mark 41) (λ _. gives (ds.before ++ ds.last ∷ []))) _ (t.Punct 44) tt _ refl
+        (left say.at_name _ _ (at_last {g = with_decl (record { before = before; last = last })} (decl_front d n (further_tokens (each Name ns) behind) good.0)))
+        (names_then (before ++ last ∷ []) (naming d (n ∷ [])) ns behind x))
 
 -- the declarations of a header, on lines, have the tokens of a list
 decl_tokens : (ds : List PortDecl) (ts : List VToken) → line_tokens (form.decl_lines ds) ts ≡ listed_tokens (each form.port_form ds) ts
@@ -108,14 +105,14 @@ decl_tokens (d ∷ e ∷ ds) ts = ap (λ (z : List VToken). tokens (form.port_fo
 decl_header_front : (ds : List PortDecl) (ts : List VToken) → AreSome IsPortDecl ds → Front decl_header (headers.Decls ds) (listed_tokens (each form.port_form ds) (t.Punct 41 ∷ ts)) ts
 unfolding decl_header
 decl_header_front [] ts good = absurd (omega (arith, good.some))
-decl_header_front (d ∷ others) ts good = by_names d.names good.all.0.names (decls_front (record { before = []; last = d }) others ts good.all.1)
+decl_header_front (d ∷ others) ts good = by_names d.names good.all.0.names (decls_front [] d others ts good.all.1)
   where
     behind : List VToken
     behind = further_tokens (each form.port_form others) (t.Punct 41 ∷ ts)
-    by_names : (ns : List (List ℕ)) → AreSome IsName ns → Front (port_decls (record { before = []; last = naming d ns })) (d ∷ others) behind ts → Front decl_header (headers.Decls (d ∷ others)) (header_tokens d ns behind) ts
+    by_names : (ns : List (List ℕ)) → AreSome IsName ns → Front (decls_from [] (naming d ns)) (d ∷ others) behind ts → Front decl_header (headers.Decls (d ∷ others)) (header_tokens d ns behind) ts
     by_names [] some x = absurd (omega (arith, some.some))
     by_names (n ∷ ns) some x =
-        then (decl_front d n (further_tokens (each Name ns) behind) good.all.0) (at_last {g = λ ds. headers.Decls ds} (names_then (record { before = []; last = naming d (n ∷ []) }) ns behind x))
+        then (decl_front d n (further_tokens (each Name ns) behind) good.all.0) (at_last {g = λ ds. headers.Decls ds} (names_then [] (naming d (n ∷ [])) ns behind x))
 
 -- names in a header
 name_header_front : (ns : List (List ℕ)) (ts : List VToken) → AllByRecursion IsName ns → Front header (headers.Names ns) (t.Punct 40 ∷ listed_tokens (each Name ns) (t.Punct 41 ∷ ts)) ts
@@ -146,23 +143,24 @@ group_front p s ts good set =
     then (a_keyword (codes "parameter") (part_tokens (form.type_parts p.kind) (tokens (form.set_form s) ts)) refl) (then (param_type_front p.kind (tokens (form.set_form s) ts) good.kind)
     (at_last {g = λ s. setting p (s ∷ [])} (param_set_front s ts set)))
 
--- groups, of which the last has no attributes and these further parameters
-abbrev with_sets : ParamGroups → List ParamSet → ParamGroups
-with_sets gs ss = record { before = gs.before; last = record { attrs = gs.last.attrs; kind = gs.last.kind; sets = gs.last.sets ++ ss } }
+-- further groups behind some groups and a last one, which may have further parameters
+abbrev groups_from : List ParamDecl → ParamDecl → Vlog (List ParamDecl)
+groups_from before last = param_groups (record { before = before; last = last })
 
 module _ {v : List ParamDecl} {rest : List VToken} where
   -- further parameters of the last group, and what follows them
-  sets_then : (gs : ParamGroups) (ss : List ParamSet) (mid : List VToken) → AllByRecursion IsParamSet ss → Front (param_groups (with_sets gs ss)) v mid rest → Front (param_groups gs) v (further_tokens (each form.set_form ss) mid) rest
+  sets_then : (before : List ParamDecl) (p : ParamDecl) (done ss : List ParamSet) (mid : List VToken) → AllByRecursion IsParamSet ss → Front (groups_from before (setting p (done ++ ss))) v mid rest
+      → Front (groups_from before (setting p done)) v (further_tokens (each form.set_form ss) mid) rest
   unfolding param_groups param_turn more_set
-  sets_then gs [] mid good x = subst (λ (ss : List ParamSet). Front (param_groups (record { before = gs.before; last = record { attrs = gs.last.attrs; kind = gs.last.kind; sets = ss } })) v mid rest) (append-nil gs.last.sets) x
-  sets_then gs (s ∷ ss) mid good x =
+  sets_then before p done [] mid good x = subst (λ (ss : List ParamSet). Front (groups_from before (setting p ss)) v mid rest) (append-nil done) x
+  sets_then before p done (s ∷ ss) mid good x =
       let behind = further_tokens (each form.set_form ss) mid in
       let value = tokens (form.const_form s.value) behind in
-      next_round (say.at_mark 44) (λ gs _. param_turn gs) (λ gs. sequence (mark 41) (λ _. gives (gs.before ++ gs.last ∷ []))) gs (t.Punct 44) tt (with_set gs s) refl
-      (taken say.at_name (more_set gs) (sequence param_group (λ g. gives (with_group gs g))) (t.Name s.name) s.name refl
-      (then (a_mark 61 value refl) (at_last {g = λ v. with_set gs (record { name = s.name; value = v })} (const_front s.value behind good.0.value))))
-      (sets_then (with_set gs s) ss mid good.1
-      (subst (λ (all : List ParamSet). Front (param_groups (record { before = gs.before; last = record { attrs = gs.last.attrs; kind = gs.last.kind; sets = all } })) v mid rest) (sym (append_assoc gs.last.sets (s ∷ []) ss)) x))
+      next_round (say.at_mark 44) (λ gs _. param_turn gs) (λ gs. sequence (mark 41) (λ _. gives (gs.before ++ gs.last ∷ []))) _ (t.Punct 44) tt _ refl
+      (taken say.at_name _ _ (t.Name s.name) s.name refl
+      (then (a_mark 61 value refl) (at_last {g = λ v. with_set (record { before = before; last = setting p done }) (record { name = s.name; value = v })} (const_front s.value behind good.0.value))))
+      (sets_then before p (done ++ s ∷ []) ss mid good.1
+      (subst (λ (all : List ParamSet). Front (groups_from before (setting p all)) v mid rest) (sym (append_assoc done (s ∷ []) ss)) x))
 
 group_tokens : ParamDecl → List ParamSet → List VToken → List VToken
 group_tokens p ss ts = t.Keyword (codes "parameter") ∷ part_tokens (form.type_parts p.kind) (listed_tokens (each form.set_form ss) ts)
@@ -172,43 +170,41 @@ same_group : (p : ParamDecl) → IsParamGroup p → setting p p.sets ≡ p
 same_group p good = ap (λ (as_written : List Attr). record { attrs = as_written; kind = p.kind; sets = p.sets }) (sym good.plain)
 
 -- further groups
-groups_of_front : (gs : ParamGroups) (others : List ParamDecl) (ts : List VToken) → AllByRecursion IsParamGroup others
-    → Front (param_groups gs) (gs.before ++ gs.last ∷ others) (further_tokens (each form.group_form others) (t.Punct 41 ∷ ts)) ts
+groups_of_front : (before : List ParamDecl) (last : ParamDecl) (others : List ParamDecl) (ts : List VToken) → AllByRecursion IsParamGroup others
+    → Front (groups_from before last) (before ++ last ∷ others) (further_tokens (each form.group_form others) (t.Punct 41 ∷ ts)) ts
 unfolding param_groups param_turn group_tokens
-groups_of_front gs [] ts good =
-    last_round (say.at_mark 44) (λ gs _. param_turn gs) (λ gs. sequence (mark 41) (λ _. gives (gs.before ++ gs.last ∷ []))) gs (at_last {g = λ _. gs.before ++ gs.last ∷ []} (a_mark 41 ts refl))
-groups_of_front gs (p ∷ others) ts good =
+groups_of_front before last [] ts good =
+    last_round (say.at_mark 44) (λ gs _. param_turn gs) (λ gs. sequence (mark 41) (λ _. gives (gs.before ++ gs.last ∷ []))) _ (at_last {g = λ _. before ++ last ∷ []} (a_mark 41 ts refl))
+groups_of_front before last (p ∷ others) ts good =
     by_sets p.sets good.0.declaration.sets
-    (subst (λ (q : ParamDecl). Front (param_groups (record { before = gs.before ++ gs.last ∷ []; last = q })) whole behind ts) (sym (same_group p good.0)) (groups_of_front (record { before = gs.before ++ gs.last ∷ []; last = p }) others ts good.1))
+    (subst (λ (q : ParamDecl). Front (groups_from (before ++ last ∷ []) q) whole behind ts) (sym (same_group p good.0)) (groups_of_front (before ++ last ∷ []) p others ts good.1))
   where
     behind : List VToken
     behind = further_tokens (each form.group_form others) (t.Punct 41 ∷ ts)
     whole : List ParamDecl
-    whole = (gs.before ++ gs.last ∷ []) ++ p ∷ others
-    by_sets : (ss : List ParamSet) → AreSome IsParamSet ss → Front (param_groups (record { before = gs.before ++ gs.last ∷ []; last = setting p ss })) whole behind ts
-        → Front (param_groups gs) (gs.before ++ gs.last ∷ p ∷ others) (t.Punct 44 ∷ group_tokens p ss behind) ts
+    whole = (before ++ last ∷ []) ++ p ∷ others
+    by_sets : (ss : List ParamSet) → AreSome IsParamSet ss → Front (groups_from (before ++ last ∷ []) (setting p ss)) whole behind ts
+        → Front (groups_from before last) (before ++ last ∷ p ∷ others) (t.Punct 44 ∷ group_tokens p ss behind) ts
     by_sets [] some x = absurd (omega (arith, some.some))
     by_sets (s ∷ ss) some x =
-        as_value (append_assoc gs.before (gs.last ∷ []) (p ∷ others))
-        (next_round (say.at_mark 44) (λ gs _. param_turn gs) (λ gs. sequence (mark 41) (λ _. gives (gs.before ++ gs.last ∷ []))) gs (t.Punct 44) tt (with_group gs (setting p (s ∷ []))) refl
-        (left say.at_name (more_set gs) (sequence param_group (λ g. gives (with_group gs g))) (at_last {g = λ g. with_group gs g} (group_front p s (further_tokens (each form.set_form ss) behind) good.0.declaration some.all.0)))
-        (sets_then (with_group gs (setting p (s ∷ []))) ss behind some.all.1 x))
+        as_value (append_assoc before (last ∷ []) (p ∷ others))
+        (next_round (say.at_mark 44) (λ gs _. param_turn gs) (λ gs. sequence (mark 41) (λ _. gives (gs.before ++ gs.last ∷ []))) _ (t.Punct 44) tt _ refl
+        (left say.at_name _ _ (at_last {g = with_group (record { before = before; last = last })} (group_front p s (further_tokens (each form.set_form ss) behind) good.0.declaration some.all.0)))
+        (sets_then (before ++ last ∷ []) p (s ∷ []) ss behind some.all.1 x))
 
 params_front : (ps : List ParamDecl) (ts : List VToken) → AllByRecursion IsParamGroup ps → Front params ps (part_tokens (form.hashed (each form.group_form ps)) ts) ts
 unfolding params params_rest group_tokens
 params_front [] ts good = no_mark 35 params_rest (gives []) (nothing [] ts)
 params_front (p ∷ others) ts good =
-    by_sets p.sets good.0.declaration.sets
-    (subst (λ (q : ParamDecl). Front (param_groups (record { before = []; last = q })) (p ∷ others) behind ts) (sym (same_group p good.0)) (groups_of_front (record { before = []; last = p }) others ts good.1))
+    by_sets p.sets good.0.declaration.sets (subst (λ (q : ParamDecl). Front (groups_from [] q) (p ∷ others) behind ts) (sym (same_group p good.0)) (groups_of_front [] p others ts good.1))
   where
     behind : List VToken
     behind = further_tokens (each form.group_form others) (t.Punct 41 ∷ ts)
-    by_sets : (ss : List ParamSet) → AreSome IsParamSet ss → Front (param_groups (record { before = []; last = setting p ss })) (p ∷ others) behind ts
-        → Front params (p ∷ others) (t.Punct 35 ∷ t.Punct 40 ∷ group_tokens p ss behind) ts
+    by_sets : (ss : List ParamSet) → AreSome IsParamSet ss → Front (groups_from [] (setting p ss)) (p ∷ others) behind ts → Front params (p ∷ others) (t.Punct 35 ∷ t.Punct 40 ∷ group_tokens p ss behind) ts
     by_sets [] some x = absurd (omega (arith, some.some))
     by_sets (s ∷ ss) some x =
         after_mark 35 params_rest (gives []) refl (then (a_mark 40 (group_tokens p (s ∷ ss) behind) refl)
-        (then (group_front p s (further_tokens (each form.set_form ss) behind) good.0.declaration some.all.0) (sets_then (record { before = []; last = setting p (s ∷ []) }) ss behind some.all.1 x)))
+        (then (group_front p s (further_tokens (each form.set_form ss) behind) good.0.declaration some.all.0) (sets_then [] p (s ∷ []) ss behind some.all.1 x)))
 
 -- ---- items
 
@@ -314,61 +310,65 @@ module_front m ts good = then (a_keyword (codes "module") (rest_tokens m ts) ref
 
 -- ---- files
 
+-- further modules behind some modules, where names may stand without a declaration or not
+abbrev pieces_from : List Module → Bool → Vlog VlogFile
+pieces_from modules implicit = pieces (record { modules = modules; implicit = implicit })
+
 -- one more module
-module_turn : (s : SoFar) (m : Module) (ts rest : List VToken) (v : VlogFile) → IsModule m → s.implicit ≡ m.implicit → Front (pieces (with_module s m)) v ts rest
-    → Front (pieces s) v (line_tokens (form.module_lines m) ts) rest
+module_turn : (modules : List Module) (m : Module) (ts rest : List VToken) (v : VlogFile) → IsModule m → Front (pieces_from (modules ++ m ∷ []) m.implicit) v ts rest
+    → Front (pieces_from modules m.implicit) v (line_tokens (form.module_lines m) ts) rest
 unfolding pieces piece_rest
-module_turn s m ts rest v good same x =
-    subst (λ (z : List VToken). Front (pieces s) v (line_tokens (form.attribute_lines (each form.attr_form m.attrs)) z) rest) (sym (header_lines_tokens m m.header body)) (by_attrs m.attrs refl)
+module_turn modules m ts rest v good x =
+    subst (λ (z : List VToken). Front (pieces_from modules m.implicit) v (line_tokens (form.attribute_lines (each form.attr_form m.attrs)) z) rest) (sym (header_lines_tokens m m.header body)) (by_attrs m.attrs refl)
   where
     body : List VToken
     body = line_tokens (all form.item_lines m.items) (t.Keyword (codes "endmodule") ∷ ts)
-    by_attrs : (as_written : List Attr) → m.attrs ≡ as_written → Front (pieces s) v (line_tokens (form.attribute_lines (each form.attr_form as_written)) (t.Keyword (codes "module") ∷ rest_tokens m ts)) rest
+    by_attrs : (as_written : List Attr) → m.attrs ≡ as_written
+        → Front (pieces_from modules m.implicit) v (line_tokens (form.attribute_lines (each form.attr_form as_written)) (t.Keyword (codes "module") ∷ rest_tokens m ts)) rest
     by_attrs [] e =
-        next_round at_piece piece_rest (λ s. gives (record { modules = s.modules })) s (t.Keyword (codes "module")) at_module (with_module s m) refl
-        (at_last {g = λ m. with_module s m} (subst (λ (b : Bool). Front (module_rest b []) m (rest_tokens m ts) ts) (sym same) (subst (λ (z : List Attr). Front (module_rest m.implicit z) m (rest_tokens m ts) ts) e (rest_front m ts good)))) x
+        next_round at_piece piece_rest (λ s. gives (record { modules = s.modules })) _ (t.Keyword (codes "module")) at_module _ refl
+        (at_last {g = with_module (record { modules = modules; implicit = m.implicit })} (subst (λ (z : List Attr). Front (module_rest m.implicit z) m (rest_tokens m ts) ts) e (rest_front m ts good))) x
     by_attrs (a ∷ as_written) e =
         let attributes : AreAttrs (a ∷ as_written) = subst AreAttrs e good.attrs in
         let behind : Front (module_of m.implicit (a ∷ as_written)) m (t.Keyword (codes "module") ∷ rest_tokens m ts) ts =
         subst (λ (z : List Attr). Front (module_of m.implicit z) m (t.Keyword (codes "module") ∷ rest_tokens m ts) ts) e (module_front m ts good) in
-        next_round at_piece piece_rest (λ s. gives (record { modules = s.modules })) s t.AttrStart at_attributes (with_module s m) refl
-        (at_last {g = λ m. with_module s m} (then (groups_front a as_written (t.Keyword (codes "module") ∷ rest_tokens m ts) attributes)
-        (subst (λ (b : Bool). Front (module_of b (a ∷ as_written)) m (t.Keyword (codes "module") ∷ rest_tokens m ts) ts) (sym same) behind))) x
+        next_round at_piece piece_rest (λ s. gives (record { modules = s.modules })) _ t.AttrStart at_attributes _ refl
+        (at_last {g = with_module (record { modules = modules; implicit = m.implicit })} (then (groups_front a as_written (t.Keyword (codes "module") ∷ rest_tokens m ts) attributes) behind)) x
 
 -- the directive that changes whether names may stand without a declaration
-wire_turn : (s : SoFar) (ts rest : List VToken) (v : VlogFile) → Front (pieces (with_implicit s true)) v ts rest → Front (pieces s) v (line_tokens (form.nettype_line true) ts) rest
-unfolding pieces piece_rest directive net_type
-wire_turn s ts rest v x =
-    next_round at_piece piece_rest (λ s. gives (record { modules = s.modules })) s (t.Directive (codes "`default_nettype")) (at_word_of directives.Nettype) (with_implicit s true) refl
-    (at_last {g = λ implicit. with_implicit s implicit} (by_token net_type_of (t.Keyword (codes "wire")) true ts refl)) x
+wire_turn : (modules : List Module) (before : Bool) (ts rest : List VToken) (v : VlogFile) → Front (pieces_from modules true) v ts rest → Front (pieces_from modules before) v (line_tokens (form.nettype_line true) ts) rest
+unfolding pieces piece_rest directive
+wire_turn modules before ts rest v x =
+    next_round at_piece piece_rest (λ s. gives (record { modules = s.modules })) _ (t.Directive (codes "`default_nettype")) _ _ refl
+    (at_last {g = with_implicit (record { modules = modules; implicit = before })} (by_token net_type_of (t.Keyword (codes "wire")) true ts refl)) x
 
-none_turn : (s : SoFar) (ts rest : List VToken) (v : VlogFile) → Front (pieces (with_implicit s false)) v ts rest → Front (pieces s) v (line_tokens (form.nettype_line false) ts) rest
-unfolding pieces piece_rest directive net_type
-none_turn s ts rest v x =
-    next_round at_piece piece_rest (λ s. gives (record { modules = s.modules })) s (t.Directive (codes "`default_nettype")) (at_word_of directives.Nettype) (with_implicit s false) refl
-    (at_last {g = λ implicit. with_implicit s implicit} (by_token net_type_of (t.Name (codes "none")) false ts refl)) x
+none_turn : (modules : List Module) (before : Bool) (ts rest : List VToken) (v : VlogFile) → Front (pieces_from modules false) v ts rest → Front (pieces_from modules before) v (line_tokens (form.nettype_line false) ts) rest
+unfolding pieces piece_rest directive
+none_turn modules before ts rest v x =
+    next_round at_piece piece_rest (λ s. gives (record { modules = s.modules })) _ (t.Directive (codes "`default_nettype")) _ _ refl
+    (at_last {g = with_implicit (record { modules = modules; implicit = before })} (by_token net_type_of (t.Name (codes "none")) false ts refl)) x
 
 -- that directive, where it is needed
-nettype_turn : (before implicit : Bool) (modules : List Module) (ts rest : List VToken) (v : VlogFile) → Front (pieces (record { modules = modules; implicit = implicit })) v ts rest
-    → Front (pieces (record { modules = modules; implicit = before })) v (line_tokens (form.nettype_lines before implicit) ts) rest
+nettype_turn : (before implicit : Bool) (modules : List Module) (ts rest : List VToken) (v : VlogFile) → Front (pieces_from modules implicit) v ts rest
+    → Front (pieces_from modules before) v (line_tokens (form.nettype_lines before implicit) ts) rest
 nettype_turn true true modules ts rest v x = x
-nettype_turn true false modules ts rest v x = none_turn (record { modules = modules; implicit = true }) ts rest v x
-nettype_turn false true modules ts rest v x = wire_turn (record { modules = modules; implicit = false }) ts rest v x
+nettype_turn true false modules ts rest v x = none_turn modules true ts rest v x
+nettype_turn false true modules ts rest v x = wire_turn modules false ts rest v x
 nettype_turn false false modules ts rest v x = x
 
 abbrev file_of : List Module → VlogFile
 file_of ms = record { modules = ms }
 
 pieces_front : (so_far ms : List Module) (before : Bool) (ts : List VToken) → AllByRecursion IsModule ms
-    → Front (pieces (record { modules = so_far; implicit = before })) (file_of (so_far ++ ms)) (line_tokens (form.file_lines before ms) ts) ts
+    → Front (pieces_from so_far before) (file_of (so_far ++ ms)) (line_tokens (form.file_lines before ms) ts) ts
 unfolding pieces
 pieces_front so_far [] before ts good =
-    last_round at_piece piece_rest (λ s. gives (record { modules = s.modules })) (record { modules = so_far; implicit = before })
+    last_round at_piece piece_rest (λ s. gives (record { modules = s.modules })) _
     (as_value (ap file_of (sym (append-nil so_far))) (nothing (file_of so_far) ts))
 pieces_front so_far (m ∷ ms) before ts good =
     let others = line_tokens (form.file_lines m.implicit ms) ts in
     nettype_turn before m.implicit so_far (line_tokens (form.module_lines m) others) ts (file_of (so_far ++ m ∷ ms))
-    (module_turn (record { modules = so_far; implicit = m.implicit }) m others ts (file_of (so_far ++ m ∷ ms)) good.0 refl
+    (module_turn so_far m others ts (file_of (so_far ++ m ∷ ms)) good.0
     (as_value (ap file_of (append_assoc so_far (m ∷ []) ms))
     (pieces_front (so_far ++ m ∷ []) ms m.implicit ts good.1)))
 
