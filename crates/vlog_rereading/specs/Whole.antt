@@ -1,0 +1,11 @@
+-- What a text spells, whatever its length (IEEE 1364-2005, A.1.2).
+use Rattle.std.specs.Prelude.{ℕ, List}
+use Rattle.grammar.specs.Whole.{whole, IsText}
+use Rattle.vlog_tokens.specs.Language.{all_tokens}
+use Rattle.vlog_exprs.specs.Reasons.{trailing}
+use Rattle.vlog_values.specs.declared.module.VlogFile.{VlogFile}
+use Rattle.vlog_modules.specs.Grammar.{file}
+
+-- The bytes are a text of the file: all their tokens, up to the end of the bytes, spell it. No limit is set to the bytes.
+abbrev pub VlogSpells : List ℕ → VlogFile → Type 0
+VlogSpells bs v = IsText tt (whole trailing file) (all_tokens bs) v
