@@ -1,0 +1,9 @@
+pub mod Braces
+pub mod Clear
+pub mod Constants
+pub mod Ends
+pub mod Expressions
+pub mod Glances
+pub mod Live
+pub mod OneToken
+pub mod TokenKinds

@@ -1,0 +1,34 @@
+use Rattle.std.proofs.Common.{◌+◌, ◌*◌, [], ◌∷◌}
+use Rattle.readers.specs.Sources.{supply}
+use Rattle.readers.specs.Readers.{room}
+use Rattle.readers.proofs.Loops.{Goes}
+use Rattle.vlog_tokens.specs.Language.{vlog}
+use Rattle.vlog_exprs.specs.Grammar.{mark, commas, expr}
+use Rattle.vlog_exprs.proofs.expr.+expr.Given as goal
+
+abbrev pub decreases-read_inside : goal.decreases-read_inside
+decreases-read_inside g l = 7 * l.room
+
+abbrev pub decreases-read_rest : goal.decreases-read_rest
+decreases-read_rest g l = 7 * l.room + 1
+
+abbrev pub decreases-read_expr_in : goal.decreases-read_expr_in
+decreases-read_expr_in g l = 7 * l.room + 2
+
+abbrev pub decreases-read_list : goal.decreases-read_list
+decreases-read_list g l = 7 * l.room + 3
+
+abbrev pub decreases-read_replicated : goal.decreases-read_replicated
+decreases-read_replicated g l = 7 * l.room + 4
+
+abbrev pub decreases-read_counted : goal.decreases-read_counted
+decreases-read_counted g l = 7 * l.room + 5
+
+abbrev pub decreases-read_braced : goal.decreases-read_braced
+decreases-read_braced g l = 7 * l.room + 6
+
+abbrev pub invariant-read_list-loop-exprs : goal.invariant-read_list-loop-exprs
+invariant-read_list-loop-exprs g l = Goes vlog (commas (expr l.left l.room) (mark 125) (l.fn.first ∷ [])) (commas (expr l.left l.room) (mark 125) l.exprs) l.cursor l.fn.cursor (supply g.S.Source.left g.S.Source.faults l.source) (supply g.S.Source.left g.S.Source.faults l.fn.source)
+
+abbrev pub decreases-read_list-loop-exprs : goal.decreases-read_list-loop-exprs
+decreases-read_list-loop-exprs g l = room l.cursor

@@ -1,0 +1,70 @@
+-- What a call answers for what a token says.
+use Rattle.std.specs.Prelude.{◌≡◌, ℕ, Result, Ok, Err, IfOk, IfSome, Option, Some, None, is_some, Bool, true, false}
+use Rattle.nl_base.specs.declared.place.Place.{Place}
+use Rattle.nl_base.specs.declared.fault.Reason.{Reason}
+use Rattle.nl_base.specs.declared.fault.ReadError.{ReadError}
+use Rattle.nl_base.specs.declared.fault.ReadError.TheVariants as errors
+use Rattle.nl_base.specs.declared.memory.NoMemory.{NoMemory}
+use Rattle.grammar.specs.Part.{takes, refuses, leaves}
+use Rattle.grammar.specs.Part as part
+use Rattle.readers.specs.Sources.{Supply, IsNear}
+use Rattle.readers.specs.Readers.{Reader, Looks, spoilt}
+use Rattle.vlog_tokens.specs.Language.{vlog}
+use Rattle.vlog_exprs.specs.Language.{NoContext}
+use Rattle.vlog_tokens.specs.declared.token.VFound.{VFound}
+use Rattle.vlog_tokens.specs.declared.token.VToken.{VToken}
+use Rattle.vlog_exprs.specs.declared.glance.Glance.{Glance}
+use Rattle.vlog_exprs.specs.declared.glance.Glance.TheVariants.{Takes, Refuses, Leaves}
+
+-- the value, or the refusal of the token at its place, unless there was no memory for the reason's word
+abbrev pub answer : {V : Type 0} → Place → ℕ → Result (Result V Reason) NoMemory → Result V ReadError
+answer place stop (Ok (Ok v)) = Ok v
+answer place stop (Ok (Err reason)) = Err (errors.Text (record { place = place; stop = stop; reason = reason }))
+answer place stop (Err e) = Err errors.NoMemory
+
+-- a reader whose token is refused is spent
+abbrev pub left_after : {K X V : Type 0} → Result (Result V Reason) NoMemory → Reader K X → Reader K X
+left_after (Ok (Ok v)) c = c
+left_after (Ok (Err reason)) c = spoilt c
+left_after (Err e) c = spoilt c
+
+-- what a token is taken for, where the token is given back that is left
+abbrev pub kept : {C : Type 0} → VToken → part.Glance C Reason → Glance C
+kept t (takes c) = Takes c
+kept t (refuses reason) = Refuses reason
+kept t leaves = Leaves t
+
+-- what is answered where a token of this place and stop was looked at
+abbrev pub seen_answer : {C : Type 0} → Place → ℕ → Glance C → Result (Option C) ReadError
+seen_answer place stop (Takes c) = Ok (Some c)
+seen_answer place stop (Refuses reason) = Err (errors.Text (record { place = place; stop = stop; reason = reason }))
+seen_answer place stop (Leaves t) = Ok None
+
+-- what is left then, of a reader from which the token was taken out
+abbrev pub seen_left : {K C : Type 0} → Place → ℕ → Glance C → Reader K VFound → Reader K VFound
+seen_left place stop (Takes c) r = r
+seen_left place stop (Refuses reason) r = spoilt r
+seen_left place stop (Leaves t) r = record { window = r.window; ahead = Some (record { place = place; stop = stop; token = t }); context = r.context; spent = r.spent }
+
+-- whether there is a next token
+abbrev pub is_there : {X : Type 0} → Result (Option X) ReadError → Result Bool ReadError
+is_there (Ok x) = Ok (is_some x)
+is_there (Err e) = Err e
+
+-- a reader that has looked at the next token, once that is taken out
+abbrev pub without : {K X : Type 0} → Result (Option X) ReadError → Reader K X → Reader K X
+without (Ok x) r = record { window = r.window; ahead = None; context = r.context; spent = r.spent }
+without (Err e) r = r
+
+-- The next token is looked at, and is taken out where there is one: `seen` is the reader between.
+pub record LooksOut (result : Result (Option VFound) ReadError) (old new : Reader NoContext VFound) (i j : Supply) : Type 0 where
+  pub seen : Reader NoContext VFound
+  pub looks : Looks vlog (is_there result) old seen i j
+  pub found : IfOk result (λ x. x ≡ seen.ahead)
+  pub near : IfOk result (λ x. IfSome x (λ x. IsNear new.window x.stop))
+  pub left : new ≡ without result seen
+
+-- whether a token was taken that says no more than that it stands
+abbrev pub stands : Bool → Option (Unit {0})
+stands true = Some tt
+stands false = None

@@ -1,0 +1,5 @@
+pub mod Calls
+pub mod Expressions
+pub mod Grammar
+pub mod Language
+pub mod Reasons

@@ -1,0 +1,111 @@
+// Attributes.
+ghost use Rattle.std.specs.Prelude.{◌≡◌, IsFalse};
+ghost use Rattle.readers.specs.Sources.{supply};
+ghost use Rattle.readers.specs.Readers.{same, Reads, ReadsMaybe, TakesNext};
+ghost use Rattle.vlog_tokens.specs.Language.{vlog};
+ghost use Rattle.vlog_exprs.specs.Calls.{stands};
+ghost use Rattle.vlog_exprs.specs.Grammar.{group_end, attr_value, attr, group, attrs};
+ghost use Rattle.vlog_exprs.specs.Reasons as say;
+
+use crate::constant::read_const;
+use crate::cursor::VCursor;
+use crate::reasons::{at_group, group_end_of};
+use nl_base::{Int, ReadError, Seq};
+use nl_io::Source;
+use std::alloc::Global;
+use vlog_tokens::VFound;
+use vlog_values::{Attr, Const};
+
+/// Takes `(*`, where it is next, and answers whether it was.
+fn takes_group<S: Source>(
+    alloc: Global,
+    cursor: &mut VCursor,
+    source: &mut S,
+) -> Result<bool, ReadError>
+    ensures { TakesNext vlog stands (λ _ x. say.at_group x.token) result cursor.old cursor.new (supply S.left S.faults source.old) (supply S.left S.faults source.new) }
+{
+    let next = cursor.next_out(alloc, source)?;
+    let Some(VFound { place, stop, token }) = next else {
+        return Ok(false);
+    };
+    let taken = cursor.settled(place, stop, at_group(token))?;
+    Ok(taken.is_some())
+}
+
+/// Takes `*)`.
+fn take_group_end<S: Source>(
+    alloc: Global,
+    cursor: &mut VCursor,
+    source: &mut S,
+) -> Result<(), ReadError>
+    ensures { Reads vlog same group_end result cursor.old cursor.new (supply S.left S.faults source.old) (supply S.left S.faults source.new) }
+{
+    let VFound { place, stop, token } = cursor.take(alloc, source)?;
+    let said = group_end_of(alloc, token);
+    cursor.judged(place, stop, said)
+}
+
+/// Reads the value of an attribute, which is 1 where none stands.
+#[tactic(auto, using(readers::proofs::Choices::choices), unfolding(crate::specs::Grammar::attr_value, crate::specs::Grammar::after))]
+fn read_attr_value<S: Source>(
+    alloc: Global,
+    cursor: &mut VCursor,
+    source: &mut S,
+) -> Result<Const, ReadError>
+    ensures { ReadsMaybe vlog same attr_value result cursor.old cursor.new (supply S.left S.faults source.old) (supply S.left S.faults source.new) }
+{
+    if cursor.takes(alloc, b'=', source)? {
+        let value = read_const(alloc, cursor, source)?;
+        return Ok(value);
+    }
+    Ok(Const::Number(Int::signed(false, 1)))
+}
+
+#[tactic(auto, using(readers::proofs::Reading::sequences), unfolding(crate::specs::Grammar::attr))]
+fn read_attr<S: Source>(
+    alloc: Global,
+    cursor: &mut VCursor,
+    source: &mut S,
+) -> Result<Attr, ReadError>
+    ensures { Reads vlog same attr result cursor.old cursor.new (supply S.left S.faults source.old) (supply S.left S.faults source.new) }
+{
+    let name = cursor.name(alloc, source)?;
+    let value = read_attr_value(alloc, cursor, source)?;
+    Ok(Attr { name, value })
+}
+
+/// Reads on behind `(*`, and adds the attributes to others.
+#[tactic(auto, using(readers::proofs::Choices::loops), unfolding(crate::specs::Grammar::group, crate::specs::Grammar::commas))]
+fn read_group<S: Source>(
+    alloc: Global,
+    cursor: &mut VCursor,
+    mut attrs: Seq<Attr>,
+    source: &mut S,
+) -> Result<Seq<Attr>, ReadError>
+    ensures { Reads vlog same (group attrs) result cursor.old cursor.new (supply S.left S.faults source.old) (supply S.left S.faults source.new) }
+{
+    let attr = read_attr(alloc, cursor, source)?;
+    cursor.add(&mut attrs, attr)?;
+    while cursor.takes(alloc, b',', source)? {
+        let attr = read_attr(alloc, cursor, source)?;
+        cursor.add(&mut attrs, attr)?;
+    }
+    take_group_end(alloc, cursor, source)?;
+    Ok(attrs)
+}
+
+/// Reads attributes, of all groups one after another.
+#[tactic(auto, using(readers::proofs::Choices::loops), unfolding(crate::specs::Grammar::groups))]
+pub fn read_attrs<S: Source>(
+    alloc: Global,
+    cursor: &mut VCursor,
+    source: &mut S,
+) -> Result<Seq<Attr>, ReadError>
+    ensures { ReadsMaybe vlog same attrs result cursor.old cursor.new (supply S.left S.faults source.old) (supply S.left S.faults source.new) }
+{
+    let mut attrs = Seq::empty(alloc);
+    while takes_group(alloc, cursor, source)? {
+        attrs = read_group(alloc, cursor, attrs, source)?;
+    }
+    Ok(attrs)
+}

@@ -1,0 +1,113 @@
+// Constants.
+ghost use Rattle.std.specs.Prelude.{◌≡◌, IsFalse};
+ghost use Rattle.readers.specs.Sources.{supply};
+ghost use Rattle.readers.specs.Readers.{same, Reads, ReadsMaybe, TakesNext};
+ghost use Rattle.vlog_tokens.specs.Language.{vlog};
+ghost use Rattle.vlog_exprs.specs.Grammar.{digits, sized_const, const_start, signed, const_rest, constant};
+ghost use Rattle.vlog_exprs.specs.Reasons as say;
+
+use crate::cursor::VCursor;
+use crate::reasons::{at_digits, const_start, signed_of};
+use crate::start::ConstStart;
+use nl_base::{Int, ReadError};
+use nl_io::Source;
+use std::alloc::Global;
+use vlog_tokens::VFound;
+use vlog_values::{Const, Literal};
+
+/// Takes the digits behind a number, where they are next. The number is then a size.
+pub(crate) fn takes_digits<S: Source>(
+    alloc: Global,
+    cursor: &mut VCursor,
+    number: Int,
+    source: &mut S,
+) -> Result<Option<Literal>, ReadError>
+    ensures { TakesNext vlog same (λ _ x. say.at_digits number x.token) result cursor.old cursor.new (supply S.left S.faults source.old) (supply S.left S.faults source.new) }
+{
+    let next = cursor.next_out(alloc, source)?;
+    let Some(VFound { place, stop, token }) = next else {
+        return Ok(None);
+    };
+    cursor.settled(place, stop, at_digits(number, token))
+}
+
+/// Takes the first token of a constant.
+fn take_const_start<S: Source>(
+    alloc: Global,
+    cursor: &mut VCursor,
+    source: &mut S,
+) -> Result<ConstStart, ReadError>
+    ensures { Reads vlog same const_start result cursor.old cursor.new (supply S.left S.faults source.old) (supply S.left S.faults source.new) }
+{
+    let VFound { place, stop, token } = cursor.take(alloc, source)?;
+    let said = const_start(alloc, token);
+    cursor.judged(place, stop, said)
+}
+
+/// Takes the number or the real behind a sign.
+fn take_signed<S: Source>(
+    alloc: Global,
+    cursor: &mut VCursor,
+    negative: bool,
+    source: &mut S,
+) -> Result<Const, ReadError>
+    ensures { Reads vlog same (signed negative) result cursor.old cursor.new (supply S.left S.faults source.old) (supply S.left S.faults source.new) }
+{
+    let VFound { place, stop, token } = cursor.take(alloc, source)?;
+    let said = signed_of(alloc, negative, token);
+    cursor.judged(place, stop, said)
+}
+
+/// Reads on behind a number.
+#[tactic(auto, using(readers::proofs::Choices::choices), unfolding(crate::specs::Grammar::sized_const, crate::specs::Grammar::digits))]
+fn read_sized_const<S: Source>(
+    alloc: Global,
+    cursor: &mut VCursor,
+    number: Int,
+    source: &mut S,
+) -> Result<Const, ReadError>
+    ensures { ReadsMaybe vlog same (sized_const number) result cursor.old cursor.new (supply S.left S.faults source.old) (supply S.left S.faults source.new) }
+{
+    match takes_digits(alloc, cursor, number, source)? {
+        Some(literal) => Ok(Const::Lit(literal)),
+        None => Ok(Const::Number(number)),
+    }
+}
+
+/// Reads on behind the first token of a constant.
+#[tactic(auto, using(readers::proofs::Reading::sequences), unfolding(crate::specs::Grammar::const_rest))]
+fn read_const_rest<S: Source>(
+    alloc: Global,
+    cursor: &mut VCursor,
+    start: ConstStart,
+    source: &mut S,
+) -> Result<Const, ReadError>
+    requires { IsFalse cursor.old.spent }
+    ensures { ReadsMaybe vlog same (const_rest start) result cursor.old cursor.new (supply S.left S.faults source.old) (supply S.left S.faults source.new) }
+{
+    match start {
+        ConstStart::Whole(constant) => Ok(constant),
+        ConstStart::Sign(negative) => {
+            let constant = take_signed(alloc, cursor, negative, source)?;
+            Ok(constant)
+        }
+        ConstStart::Number(number) => {
+            let constant = read_sized_const(alloc, cursor, number, source)?;
+            Ok(constant)
+        }
+    }
+}
+
+/// Reads a constant.
+#[tactic(auto, using(readers::proofs::Reading::sequences), unfolding(crate::specs::Grammar::constant))]
+pub fn read_const<S: Source>(
+    alloc: Global,
+    cursor: &mut VCursor,
+    source: &mut S,
+) -> Result<Const, ReadError>
+    ensures { Reads vlog same constant result cursor.old cursor.new (supply S.left S.faults source.old) (supply S.left S.faults source.new) }
+{
+    let start = take_const_start(alloc, cursor, source)?;
+    let constant = read_const_rest(alloc, cursor, start, source)?;
+    Ok(constant)
+}

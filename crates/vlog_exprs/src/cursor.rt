@@ -1,0 +1,222 @@
+ghost use Rattle.std.specs.Prelude.{◌≡◌, None, IfOk, IfSome, IsSome, IsNone, IsTrue, IsFalse, option_map};
+ghost use Rattle.grammar.specs.Whole.{proper};
+ghost use Rattle.readers.specs.Parts.{any};
+ghost use Rattle.readers.specs.Sources.{supply, IsNear};
+ghost use Rattle.readers.specs.Readers.{same, fault_at, spoilt, Reads, Looks, Ends, Adds};
+ghost use Rattle.vlog_tokens.specs.Language.{vlog};
+ghost use Rattle.vlog_exprs.specs.Calls.{answer, left_after, seen_answer, seen_left, LooksOut};
+ghost use Rattle.vlog_exprs.specs.Reasons.{trailing};
+
+use crate::glance::Glance;
+use crate::reasons::refused;
+use nl_base::{NoMemory, Place, ReadError, Reason, Seq, TextFault};
+use nl_io::Source;
+use std::alloc::Global;
+use std::marker::Model;
+use vlog_tokens::{VFound, VTokens};
+
+/// Reads the parts of a text, one after another, with one token of look-ahead.
+///
+/// Contracts see it as a reader of parts. After an error of any kind it is spent for good.
+#[derive(Drop)]
+pub struct VCursor {
+    tokens: VTokens,
+    ahead: Option<VFound>,
+    spent: bool,
+}
+
+impl Model for VCursor {
+    ghost use Rattle.std.specs.Prelude.{◌≡◌, None, IsTrue, IfSome};
+    ghost use Rattle.vlog_tokens.specs.declared.token.VFound.{VFound};
+    ghost use Rattle.readers.specs.Sources.{IsNear};
+    ghost use Rattle.readers.specs.Readers.{Reader};
+    ghost use Rattle.vlog_exprs.specs.Language.{NoContext};
+
+    ghost Value = { Reader NoContext VFound };
+
+    ghost view = { λ c. record { window = c.tokens.window; ahead = c.ahead; context = tt; spent = c.spent } };
+
+    ghost invariant = { λ c. (IsTrue c.tokens.spent → IsTrue c.spent) × (IsTrue c.spent → c.ahead ≡ None) × IfSome c.ahead (λ x. IsNear c.tokens.window x.stop) };
+}
+
+impl VCursor {
+    /// A cursor at the next token of a reader of tokens, spent exactly where that is. It takes no memory.
+    pub fn new(alloc: Global, tokens: VTokens) -> VCursor
+        ensures { result ≡ record { window = tokens.window; ahead = None; context = tt; spent = tokens.spent } }
+    {
+        let spent = tokens.is_spent();
+        VCursor {
+            tokens,
+            ahead: None,
+            spent,
+        }
+    }
+
+    /// Takes the next token. At the end of the input a token is missing.
+    pub fn take<S: Source>(&mut self, alloc: Global, source: &mut S) -> Result<VFound, ReadError>
+        ensures reads { Reads vlog same any result self.old self.new (supply S.left S.faults source.old) (supply S.left S.faults source.new) }
+        ensures near { IfOk result (λ x. IsNear self.new.window x.stop) }
+    {
+        if self.spent {
+            return Err(ReadError::Spent);
+        }
+        if let Some(found) = self.ahead.take() {
+            return Ok(found);
+        }
+        self.spent = true;
+        let next = self.tokens.next(alloc, source)?;
+        let Some(found) = next else {
+            let end = self.tokens.here();
+            return Err(ReadError::Text(TextFault {
+                place: end,
+                stop: end.offset,
+                reason: Reason::EndOfInput,
+            }));
+        };
+        self.spent = false;
+        Ok(found)
+    }
+
+    /// Makes the next token the one ahead, and answers whether there is one. It takes nothing.
+    pub fn look<S: Source>(&mut self, alloc: Global, source: &mut S) -> Result<bool, ReadError>
+        ensures { Looks vlog result self.old self.new (supply S.left S.faults source.old) (supply S.left S.faults source.new) }
+    {
+        if self.spent {
+            return Err(ReadError::Spent);
+        }
+        if let Some(_) = self.ahead {
+            return Ok(true);
+        }
+        self.spent = true;
+        let next = self.tokens.next(alloc, source)?;
+        self.spent = false;
+        let Some(found) = next else {
+            return Ok(false);
+        };
+        self.ahead = Some(found);
+        Ok(true)
+    }
+
+    /// The token that the last look made ahead, where no call has taken it since. After an error none is ahead.
+    pub fn ahead(&self) -> Option<&VFound>
+        ensures token { option_map (λ x. x.now) result ≡ self.now.ahead }
+        ensures none { IsTrue self.now.spent → IsNone result }
+    {
+        self.ahead.as_ref()
+    }
+
+    /// Refuses the token ahead. The cursor is spent from then on.
+    pub fn refuse(&mut self, reason: Reason) -> ReadError
+        requires { IsSome self.old.ahead }
+        ensures error { IfSome self.old.ahead (λ x. (result ≡ ReadError.Text (fault_at vlog (proper x) reason)) × IsNear self.old.window x.stop) }
+        ensures spoilt { self.new ≡ spoilt self.old }
+    {
+        match self.ahead.take() {
+            Some(found) => self.refuse_at(found.place, found.stop, reason),
+            None => unreachable!(),
+        }
+    }
+
+    /// Refuses a token of this place and stop that was just taken. The cursor is spent from then on.
+    pub fn refuse_at(&mut self, place: Place, stop: u64, reason: Reason) -> ReadError
+        ensures error { result ≡ ReadError.Text (record { place = place; stop = stop; reason = reason }) }
+        ensures spoilt { self.new ≡ spoilt self.old }
+    {
+        self.spent = true;
+        self.ahead = None;
+        ReadError::Text(TextFault {
+            place,
+            stop,
+            reason,
+        })
+    }
+
+    /// Answers what a token of this place and stop says that was just taken, or refuses it.
+    pub fn judged<T: Drop>(
+        &mut self,
+        place: Place,
+        stop: u64,
+        said: Result<Result<T, Reason>, NoMemory>,
+    ) -> Result<T, ReadError>
+        ensures answer { result ≡ answer place stop said }
+        ensures left { self.new ≡ left_after said self.old }
+    {
+        match said {
+            Ok(Ok(value)) => Ok(value),
+            Ok(Err(reason)) => Err(self.refuse_at(place, stop, reason)),
+            Err(_) => Err(self.no_memory()),
+        }
+    }
+
+    /// Takes a token of this place and stop that was looked at, refuses it, or leaves it ahead.
+    pub fn settled<T: Drop>(
+        &mut self,
+        place: Place,
+        stop: u64,
+        glance: Glance<T>,
+    ) -> Result<Option<T>, ReadError>
+        requires unspent { IsFalse self.old.spent }
+        requires near { IsNear self.old.window stop }
+        ensures answer { result ≡ seen_answer place stop glance }
+        ensures left { self.new ≡ seen_left place stop glance self.old }
+    {
+        match glance {
+            Glance::Takes(value) => Ok(Some(value)),
+            Glance::Refuses(reason) => Err(self.refuse_at(place, stop, reason)),
+            Glance::Leaves(token) => {
+                self.ahead = Some(VFound { place, stop, token });
+                Ok(None)
+            }
+        }
+    }
+
+    /// Makes the next token the one ahead and takes it out, where there is one.
+    pub fn next_out<S: Source>(
+        &mut self,
+        alloc: Global,
+        source: &mut S,
+    ) -> Result<Option<VFound>, ReadError>
+        ensures { LooksOut result self.old self.new (supply S.left S.faults source.old) (supply S.left S.faults source.new) }
+    {
+        self.look(alloc, source)?;
+        let found = self.ahead.take();
+        Ok(found)
+    }
+
+    /// Takes the end of the input. A token there is refused.
+    pub fn end_of_input<S: Source>(
+        &mut self,
+        alloc: Global,
+        source: &mut S,
+    ) -> Result<(), ReadError>
+        ensures { Ends vlog trailing result self.old self.new (supply S.left S.faults source.old) (supply S.left S.faults source.new) }
+    {
+        let next = self.next_out(alloc, source)?;
+        let Some(VFound { place, stop, token }) = next else {
+            return Ok(());
+        };
+        let said = refused(alloc, token);
+        self.judged(place, stop, said)
+    }
+
+    /// Adds an item to a list. Where memory runs out the cursor is spent from then on, and the list is as before.
+    pub fn add<T: Drop>(&mut self, list: &mut Seq<T>, item: T) -> Result<(), ReadError>
+        requires { IsFalse self.old.spent }
+        ensures { Adds item result self.old self.new list.old list.new }
+    {
+        match list.push(item) {
+            Ok(()) => Ok(()),
+            Err(_) => Err(self.no_memory()),
+        }
+    }
+
+    /// Spends the cursor where memory has run out.
+    pub fn no_memory(&mut self) -> ReadError
+        ensures error { result ≡ ReadError.NoMemory }
+        ensures spoilt { self.new ≡ spoilt self.old }
+    {
+        self.spent = true;
+        self.ahead = None;
+        ReadError::NoMemory
+    }
+}

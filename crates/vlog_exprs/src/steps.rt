@@ -1,0 +1,127 @@
+// The calls that take one token which is due, or which need not stand.
+ghost use Rattle.std.specs.Prelude.{◌≡◌};
+ghost use Rattle.readers.specs.Sources.{supply};
+ghost use Rattle.readers.specs.Readers.{same, Reads, TakesNext};
+ghost use Rattle.vlog_tokens.specs.Language.{vlog};
+ghost use Rattle.vlog_exprs.specs.Calls.{stands};
+ghost use Rattle.vlog_exprs.specs.Grammar.{name, number, mark, keyword, choice};
+ghost use Rattle.vlog_exprs.specs.Reasons as say;
+
+use crate::cursor::VCursor;
+use crate::reasons::{
+    at_choice, at_mark, at_name, choice_of, keyword_of, mark_of, name_of, number_of,
+};
+use nl_base::{Int, ReadError, Text};
+use nl_io::Source;
+use std::alloc::Global;
+use vlog_tokens::VFound;
+
+impl VCursor {
+    /// Takes a token: a name.
+    pub fn name<S: Source>(&mut self, alloc: Global, source: &mut S) -> Result<Text, ReadError>
+        ensures { Reads vlog same name result self.old self.new (supply S.left S.faults source.old) (supply S.left S.faults source.new) }
+    {
+        let VFound { place, stop, token } = self.take(alloc, source)?;
+        let said = name_of(alloc, token);
+        self.judged(place, stop, said)
+    }
+
+    /// Takes a token: a number.
+    pub fn number<S: Source>(&mut self, alloc: Global, source: &mut S) -> Result<Int, ReadError>
+        ensures { Reads vlog same number result self.old self.new (supply S.left S.faults source.old) (supply S.left S.faults source.new) }
+    {
+        let VFound { place, stop, token } = self.take(alloc, source)?;
+        let said = number_of(alloc, token);
+        self.judged(place, stop, said)
+    }
+
+    /// Takes a token: this punctuation mark.
+    pub fn mark<S: Source>(
+        &mut self,
+        alloc: Global,
+        due: u8,
+        source: &mut S,
+    ) -> Result<(), ReadError>
+        ensures { Reads vlog same (mark due) result self.old self.new (supply S.left S.faults source.old) (supply S.left S.faults source.new) }
+    {
+        let VFound { place, stop, token } = self.take(alloc, source)?;
+        let said = mark_of(alloc, due, token);
+        self.judged(place, stop, said)
+    }
+
+    /// Takes a token: this keyword.
+    pub fn keyword<S: Source>(
+        &mut self,
+        alloc: Global,
+        due: &[u8],
+        source: &mut S,
+    ) -> Result<(), ReadError>
+        ensures { Reads vlog same (keyword due.now) result self.old self.new (supply S.left S.faults source.old) (supply S.left S.faults source.new) }
+    {
+        let VFound { place, stop, token } = self.take(alloc, source)?;
+        let said = keyword_of(alloc, due, token);
+        self.judged(place, stop, said)
+    }
+
+    /// Takes one of some keywords, and answers its value.
+    pub fn choose<T: Copy, S: Source>(
+        &mut self,
+        alloc: Global,
+        words: &[(&[u8], T)],
+        source: &mut S,
+    ) -> Result<T, ReadError>
+        ensures { Reads vlog same (choice (say.rows words.now)) result self.old self.new (supply S.left S.faults source.old) (supply S.left S.faults source.new) }
+    {
+        let VFound { place, stop, token } = self.take(alloc, source)?;
+        let said = choice_of(alloc, words, token);
+        self.judged(place, stop, said)
+    }
+
+    /// Takes this punctuation mark, where it is next, and answers whether it was.
+    pub fn takes<S: Source>(
+        &mut self,
+        alloc: Global,
+        mark: u8,
+        source: &mut S,
+    ) -> Result<bool, ReadError>
+        ensures { TakesNext vlog stands (λ _ x. say.at_mark mark x.token) result self.old self.new (supply S.left S.faults source.old) (supply S.left S.faults source.new) }
+    {
+        let next = self.next_out(alloc, source)?;
+        let Some(VFound { place, stop, token }) = next else {
+            return Ok(false);
+        };
+        let taken = self.settled(place, stop, at_mark(mark, token))?;
+        Ok(taken.is_some())
+    }
+
+    /// Takes a name, where one is next.
+    pub fn takes_name<S: Source>(
+        &mut self,
+        alloc: Global,
+        source: &mut S,
+    ) -> Result<Option<Text>, ReadError>
+        ensures { TakesNext vlog same (λ _ x. say.at_name x.token) result self.old self.new (supply S.left S.faults source.old) (supply S.left S.faults source.new) }
+    {
+        let next = self.next_out(alloc, source)?;
+        let Some(VFound { place, stop, token }) = next else {
+            return Ok(None);
+        };
+        self.settled(place, stop, at_name(token))
+    }
+
+    /// Takes one of some keywords, where one is next, and answers its value.
+    pub fn takes_choice<T: Copy, S: Source>(
+        &mut self,
+        alloc: Global,
+        words: &[(&[u8], T)],
+        source: &mut S,
+    ) -> Result<Option<T>, ReadError>
+        ensures { TakesNext vlog same (λ _ x. say.at_choice (say.rows words.now) x.token) result self.old self.new (supply S.left S.faults source.old) (supply S.left S.faults source.new) }
+    {
+        let next = self.next_out(alloc, source)?;
+        let Some(VFound { place, stop, token }) = next else {
+            return Ok(None);
+        };
+        self.settled(place, stop, at_choice(words, token))
+    }
+}
