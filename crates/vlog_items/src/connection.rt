@@ -1,0 +1,137 @@
+// The connections of an instance.
+ghost use Rattle.std.specs.Prelude.{◌≡◌, ◌∷◌, []};
+ghost use Rattle.readers.specs.Sources.{supply};
+ghost use Rattle.readers.specs.Readers.{same, Reads};
+ghost use Rattle.vlog_tokens.specs.Language.{vlog};
+ghost use Rattle.vlog_exprs.specs.Grammar.{mark, commas, list, maybe_expr};
+ghost use Rattle.vlog_items.specs.Grammar.{named_rest, named, order_of, named_conns, ordered_conns, conns};
+
+use nl_base::{ReadError, Seq};
+use nl_io::Source;
+use std::alloc::Global;
+use vlog_exprs::{VCursor, read_expr_if_any};
+use vlog_values::{Conns, Expr, NamedConn};
+
+/// Reads on behind the point of a connection by name.
+#[tactic(auto, using(readers::proofs::Reading::sequences), unfolding(crate::specs::Grammar::named_rest))]
+fn read_named_rest<S: Source>(
+    alloc: Global,
+    cursor: &mut VCursor,
+    source: &mut S,
+) -> Result<NamedConn, ReadError>
+    ensures { Reads vlog same named_rest result cursor.old cursor.new (supply S.left S.faults source.old) (supply S.left S.faults source.new) }
+{
+    let port = cursor.name(alloc, source)?;
+    cursor.mark(alloc, b'(', source)?;
+    let value = read_expr_if_any(alloc, cursor, source)?;
+    cursor.mark(alloc, b')', source)?;
+    Ok(NamedConn { port, value })
+}
+
+/// Reads a connection by name.
+#[tactic(auto, using(readers::proofs::Reading::sequences), unfolding(crate::specs::Grammar::named))]
+fn read_named<S: Source>(
+    alloc: Global,
+    cursor: &mut VCursor,
+    source: &mut S,
+) -> Result<NamedConn, ReadError>
+    ensures { Reads vlog same named result cursor.old cursor.new (supply S.left S.faults source.old) (supply S.left S.faults source.new) }
+{
+    cursor.mark(alloc, b'.', source)?;
+    let conn = read_named_rest(alloc, cursor, source)?;
+    Ok(conn)
+}
+
+/// Reads further connections by name, each behind a comma, up to the `)`, and adds them to others.
+#[tactic(auto, using(readers::proofs::Choices::loops), unfolding(vlog_exprs::specs::Grammar::commas))]
+fn read_more_named<S: Source>(
+    alloc: Global,
+    cursor: &mut VCursor,
+    mut conns: Seq<NamedConn>,
+    source: &mut S,
+) -> Result<Seq<NamedConn>, ReadError>
+    ensures { Reads vlog same (commas named (mark 41) conns) result cursor.old cursor.new (supply S.left S.faults source.old) (supply S.left S.faults source.new) }
+{
+    while cursor.takes(alloc, b',', source)? {
+        let conn = read_named(alloc, cursor, source)?;
+        cursor.add(&mut conns, conn)?;
+    }
+    cursor.mark(alloc, b')', source)?;
+    Ok(conns)
+}
+
+/// Reads connections by name up to the `)`, behind the point of the first.
+#[tactic(auto, using(readers::proofs::Reading::sequences), unfolding(crate::specs::Grammar::named_conns))]
+fn read_named_conns<S: Source>(
+    alloc: Global,
+    cursor: &mut VCursor,
+    source: &mut S,
+) -> Result<Conns, ReadError>
+    ensures { Reads vlog same named_conns result cursor.old cursor.new (supply S.left S.faults source.old) (supply S.left S.faults source.new) }
+{
+    let first = read_named_rest(alloc, cursor, source)?;
+    let mut conns = Seq::empty(alloc);
+    cursor.add(&mut conns, first)?;
+    let conns = read_more_named(alloc, cursor, conns, source)?;
+    Ok(Conns::Named(conns))
+}
+
+/// Reads expressions that may be left out, up to the `)`.
+#[tactic(auto, using(readers::proofs::Choices::loops), unfolding(vlog_exprs::specs::Grammar::list, vlog_exprs::specs::Grammar::commas))]
+fn read_exprs<S: Source>(
+    alloc: Global,
+    cursor: &mut VCursor,
+    source: &mut S,
+) -> Result<Seq<Option<Expr>>, ReadError>
+    ensures { Reads vlog same (list maybe_expr (mark 41)) result cursor.old cursor.new (supply S.left S.faults source.old) (supply S.left S.faults source.new) }
+{
+    let mut exprs = Seq::empty(alloc);
+    let expr = read_expr_if_any(alloc, cursor, source)?;
+    cursor.add(&mut exprs, expr)?;
+    while cursor.takes(alloc, b',', source)? {
+        let expr = read_expr_if_any(alloc, cursor, source)?;
+        cursor.add(&mut exprs, expr)?;
+    }
+    cursor.mark(alloc, b')', source)?;
+    Ok(exprs)
+}
+
+/// The connections in order that these expressions are: one open connection alone is none at all.
+fn order_of(alloc: Global, exprs: Seq<Option<Expr>>) -> Seq<Option<Expr>>
+    ensures { result ≡ order_of exprs }
+{
+    if let [None] = exprs.items() {
+        return Seq::empty(alloc);
+    }
+    exprs
+}
+
+/// Reads connections in order up to the `)`.
+#[tactic(auto, using(readers::proofs::Reading::sequences), unfolding(crate::specs::Grammar::ordered_conns))]
+fn read_ordered_conns<S: Source>(
+    alloc: Global,
+    cursor: &mut VCursor,
+    source: &mut S,
+) -> Result<Conns, ReadError>
+    ensures { Reads vlog same ordered_conns result cursor.old cursor.new (supply S.left S.faults source.old) (supply S.left S.faults source.new) }
+{
+    let exprs = read_exprs(alloc, cursor, source)?;
+    Ok(Conns::Order(order_of(alloc, exprs)))
+}
+
+/// Reads the connections of an instance up to the `)`.
+#[tactic(auto, using(readers::proofs::Choices::choices), unfolding(crate::specs::Grammar::conns, vlog_exprs::specs::Grammar::after))]
+pub(crate) fn read_conns<S: Source>(
+    alloc: Global,
+    cursor: &mut VCursor,
+    source: &mut S,
+) -> Result<Conns, ReadError>
+    ensures { Reads vlog same conns result cursor.old cursor.new (supply S.left S.faults source.old) (supply S.left S.faults source.new) }
+{
+    if cursor.takes(alloc, b'.', source)? {
+        let conns = read_named_conns(alloc, cursor, source)?;
+        return Ok(conns);
+    }
+    let conns = read_ordered_conns(alloc, cursor, source)?;
+    Ok(conns)
+}

@@ -1,0 +1,12 @@
+use Rattle.readers.specs.Sources.{supply}
+use Rattle.readers.specs.Readers.{room}
+use Rattle.readers.proofs.Loops.{Goes}
+use Rattle.vlog_tokens.specs.Language.{vlog}
+use Rattle.vlog_modules.specs.Grammar.{param_groups}
+use Rattle.vlog_modules.proofs.parameter.read_param_groups.Given as goal
+
+abbrev pub invariant-loop-groups : goal.invariant-loop-groups
+invariant-loop-groups g l = Goes vlog (param_groups l.fn.first) (param_groups l.groups) l.cursor l.fn.cursor (supply g.S.Source.left g.S.Source.faults l.source) (supply g.S.Source.left g.S.Source.faults l.fn.source)
+
+abbrev pub decreases-loop-groups : goal.decreases-loop-groups
+decreases-loop-groups g l = room l.cursor

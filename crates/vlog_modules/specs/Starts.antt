@@ -1,0 +1,32 @@
+-- What a reader sees of the next token before it reads an item or a module, and those parts from their first tokens on.
+use Rattle.std.specs.Prelude.{Bool, true, false, List}
+use Rattle.grammar.specs.Part.{Glance, takes, refuses, leaves, gives, sequence}
+use Rattle.readers.specs.Parts.{if_next}
+use Rattle.vlog_tokens.specs.declared.token.VFound.{VFound}
+use Rattle.vlog_values.specs.declared.module.Module.{Module}
+use Rattle.vlog_exprs.specs.Language.{Vlog}
+use Rattle.vlog_exprs.specs.Grammar.{attrs}
+use Rattle.vlog_modules.specs.Grammar.{at_item, at_piece, at_directive, directive, module_of, with_module}
+use Rattle.vlog_modules.specs.declared.file.SoFar.{SoFar}
+
+-- whether a token is taken
+abbrev pub is_taken : {C R : Type 0} → Glance C R → Bool
+is_taken (takes c) = true
+is_taken (refuses r) = true
+is_taken leaves = false
+
+-- whether attributes or an item begin with a token
+unfoldable pub begins_item : VFound → Bool
+begins_item x = is_taken (at_item x.token)
+
+-- whether a directive, attributes or a module begin with a token
+unfoldable pub begins_piece : VFound → Bool
+begins_piece x = is_taken (at_piece x.token)
+
+-- a module from its attributes on, behind others
+unfoldable pub one_module : SoFar → Vlog SoFar
+one_module s = sequence (sequence attrs (module_of s.implicit)) (λ m. gives (with_module s m))
+
+-- a directive or a module
+unfoldable pub piece : SoFar → Vlog SoFar
+piece s = if_next (λ _ x. at_directive x.token) (directive s) (one_module s)

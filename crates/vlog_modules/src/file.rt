@@ -1,0 +1,246 @@
+// Files.
+ghost use Rattle.std.specs.Prelude.{◌≡◌, IfOk, IsFalse};
+ghost use Rattle.readers.specs.Sources.{supply};
+ghost use Rattle.readers.specs.Readers.{same, Reads, ReadsMaybe, ReadsWhole, LooksFor, TakesNext};
+ghost use Rattle.readers.specs.Texts.{ReadsText};
+ghost use Rattle.vlog_tokens.specs.Language.{vlog};
+ghost use Rattle.vlog_exprs.specs.Calls.{kept};
+ghost use Rattle.vlog_exprs.specs.Reasons.{trailing};
+ghost use Rattle.vlog_modules.specs.Starts.{begins_piece, one_module, piece};
+ghost use Rattle.vlog_modules.specs.Grammar.{net_type, net_type_of, directive_of, at_directive, directive, file};
+
+use crate::module::read_module;
+use nl_base::{NoMemory, ReadError, Reason, Seq, Text};
+use nl_io::Source;
+use std::alloc::Global;
+use vlog_exprs::{Glance, VCursor, read_attrs};
+use vlog_tokens::{VFound, VToken, VTokens};
+use vlog_values::{Module, VlogFile};
+
+/// A directive that stands between modules.
+#[derive(Clone, Copy)]
+pub(crate) enum Directive {
+    Nettype,
+    Reset,
+}
+
+/// The modules so far, and whether names are nets without a declaration from here on.
+#[derive(Drop)]
+pub(crate) struct SoFar {
+    pub(crate) modules: Seq<Module>,
+    pub(crate) implicit: bool,
+}
+
+/// Reads a text to its end as a Verilog file. The text has at most 268,435,456 bytes.
+///
+/// # Errors
+/// `Text`: the first fault, with its place, where its stop lies within so many bytes. `TooLong`: the text is longer, and it has no such
+/// fault. `ReadFault`: the source failed. `NoMemory`: memory ran out. It never answers `Spent`.
+pub fn read_vlog<S: Source>(alloc: Global, source: &mut S) -> Result<VlogFile, ReadError>
+    ensures { ReadsText vlog trailing tt same file result (supply S.left S.faults source.old) (supply S.left S.faults source.new) }
+{
+    let Ok(tokens) = VTokens::new(alloc) else {
+        return Err(ReadError::NoMemory);
+    };
+    let mut cursor = VCursor::new(alloc, tokens);
+    let file = read_file(alloc, &mut cursor, source)?;
+    cursor.end_of_input(alloc, source)?;
+    Ok(file)
+}
+
+/// Reads directives and modules, as long as one is next.
+#[tactic(auto, using(crate::proofs::Pieces::piece_loops), unfolding(crate::specs::Grammar::file))]
+fn read_file<S: Source>(
+    alloc: Global,
+    cursor: &mut VCursor,
+    source: &mut S,
+) -> Result<VlogFile, ReadError>
+    ensures { ReadsWhole vlog same file result cursor.old cursor.new (supply S.left S.faults source.old) (supply S.left S.faults source.new) }
+{
+    let mut so_far = SoFar {
+        modules: Seq::empty(alloc),
+        implicit: true,
+    };
+    while at_piece(alloc, cursor, source)? {
+        so_far = read_piece(alloc, cursor, so_far, source)?;
+    }
+    Ok(VlogFile {
+        modules: so_far.modules,
+    })
+}
+
+/// Looks whether a directive or a module is next. It takes nothing.
+#[tactic(auto, using(readers::proofs::Looking::looks_for))]
+fn at_piece<S: Source>(
+    alloc: Global,
+    cursor: &mut VCursor,
+    source: &mut S,
+) -> Result<bool, ReadError>
+    ensures { LooksFor vlog begins_piece result cursor.old cursor.new (supply S.left S.faults source.old) (supply S.left S.faults source.new) }
+{
+    cursor.look(alloc, source)?;
+    if let Some(found) = cursor.ahead() {
+        return Ok(begins_piece(found));
+    }
+    Ok(false)
+}
+
+/// Whether a directive or a module begins with a token.
+#[tactic(auto, unfolding(crate::specs::Starts::begins_piece))]
+fn begins_piece(found: &VFound) -> bool
+    ensures { result ≡ begins_piece found.now }
+{
+    match &found.token {
+        VToken::AttrStart => true,
+        VToken::Keyword(word) => word.bytes() == b"module",
+        VToken::Directive(word) => directive_of(word.bytes()).is_some(),
+        _ => false,
+    }
+}
+
+/// The directive of this word, where it may stand between modules.
+fn directive_of(word: &[u8]) -> Option<Directive>
+    ensures { result ≡ directive_of word.now }
+{
+    if word == b"`default_nettype" {
+        return Some(Directive::Nettype);
+    }
+    if word == b"`resetall" {
+        return Some(Directive::Reset);
+    }
+    None
+}
+
+/// Reads a directive or a module.
+#[tactic(auto, using(readers::proofs::Choices::choices), unfolding(crate::specs::Starts::piece))]
+fn read_piece<S: Source>(
+    alloc: Global,
+    cursor: &mut VCursor,
+    so_far: SoFar,
+    source: &mut S,
+) -> Result<SoFar, ReadError>
+    ensures { Reads vlog same (piece so_far) result cursor.old cursor.new (supply S.left S.faults source.old) (supply S.left S.faults source.new) }
+{
+    match takes_directive(alloc, cursor, source)? {
+        Some(word) => {
+            let so_far = read_directive(alloc, cursor, so_far, word, source)?;
+            Ok(so_far)
+        }
+        None => {
+            let so_far = read_one_module(alloc, cursor, so_far, source)?;
+            Ok(so_far)
+        }
+    }
+}
+
+/// Takes a directive, where one is next that may stand between modules.
+fn takes_directive<S: Source>(
+    alloc: Global,
+    cursor: &mut VCursor,
+    source: &mut S,
+) -> Result<Option<Directive>, ReadError>
+    ensures { TakesNext vlog same (λ _ x. at_directive x.token) result cursor.old cursor.new (supply S.left S.faults source.old) (supply S.left S.faults source.new) }
+{
+    let next = cursor.next_out(alloc, source)?;
+    let Some(VFound { place, stop, token }) = next else {
+        return Ok(None);
+    };
+    cursor.settled(place, stop, at_directive(token))
+}
+
+/// A directive that may stand between modules, which need not stand.
+fn at_directive(token: VToken) -> Glance<Directive>
+    ensures { result ≡ kept token (at_directive token) }
+{
+    match token {
+        VToken::Directive(word) => match directive_of(word.bytes()) {
+            Some(directive) => Glance::Takes(directive),
+            None => Glance::Leaves(VToken::Directive(word)),
+        },
+        other => Glance::Leaves(other),
+    }
+}
+
+/// Reads on behind a directive.
+#[tactic(auto, using(readers::proofs::Reading::sequences), unfolding(crate::specs::Grammar::directive))]
+fn read_directive<S: Source>(
+    alloc: Global,
+    cursor: &mut VCursor,
+    so_far: SoFar,
+    word: Directive,
+    source: &mut S,
+) -> Result<SoFar, ReadError>
+    requires { IsFalse cursor.old.spent }
+    ensures { ReadsMaybe vlog same (directive so_far word) result cursor.old cursor.new (supply S.left S.faults source.old) (supply S.left S.faults source.new) }
+{
+    let SoFar { modules, .. } = so_far;
+    match word {
+        Directive::Nettype => {
+            let implicit = read_net_type(alloc, cursor, source)?;
+            Ok(SoFar { modules, implicit })
+        }
+        Directive::Reset => Ok(SoFar {
+            modules,
+            implicit: true,
+        }),
+    }
+}
+
+/// Reads the net kind of names that are used without a declaration, and answers whether there is one.
+fn read_net_type<S: Source>(
+    alloc: Global,
+    cursor: &mut VCursor,
+    source: &mut S,
+) -> Result<bool, ReadError>
+    ensures { Reads vlog same net_type result cursor.old cursor.new (supply S.left S.faults source.old) (supply S.left S.faults source.new) }
+{
+    let VFound { place, stop, token } = cursor.take(alloc, source)?;
+    let said = net_type_of(alloc, token);
+    cursor.judged(place, stop, said)
+}
+
+/// What a token says of the net kind of names that are used without a declaration.
+fn net_type_of(alloc: Global, token: VToken) -> Result<Result<bool, Reason>, NoMemory>
+    ensures { IfOk result (λ said. said ≡ net_type_of token) }
+{
+    match token {
+        VToken::Keyword(word) => {
+            if word.bytes() == b"wire" {
+                return Ok(Ok(true));
+            }
+            Ok(Err(Reason::NotInProfile(word)))
+        }
+        VToken::Name(name) => {
+            if name.bytes() == b"none" {
+                return Ok(Ok(false));
+            }
+            Ok(Err(Reason::Unexpected))
+        }
+        VToken::Symbol(byte) => {
+            let word = Text::copy(alloc, &[byte])?;
+            Ok(Err(Reason::NotInProfile(word)))
+        }
+        VToken::Directive(word) => Ok(Err(Reason::NotInProfile(word))),
+        _ => Ok(Err(Reason::Unexpected)),
+    }
+}
+
+/// Reads a module, from its attributes on.
+#[tactic(auto, using(readers::proofs::Reading::sequences), unfolding(crate::specs::Starts::one_module))]
+fn read_one_module<S: Source>(
+    alloc: Global,
+    cursor: &mut VCursor,
+    so_far: SoFar,
+    source: &mut S,
+) -> Result<SoFar, ReadError>
+    ensures { Reads vlog same (one_module so_far) result cursor.old cursor.new (supply S.left S.faults source.old) (supply S.left S.faults source.new) }
+{
+    let attrs = read_attrs(alloc, cursor, source)?;
+    let SoFar {
+        mut modules,
+        implicit,
+    } = so_far;
+    let module = read_module(alloc, cursor, implicit, attrs, source)?;
+    cursor.add(&mut modules, module)?;
+    Ok(SoFar { modules, implicit })
+}

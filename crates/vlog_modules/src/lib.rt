@@ -1,0 +1,19 @@
+// Headers, modules and files of structural Verilog (IEEE 1364-2005, A.1.2, A.1.3 and 19).
+//
+// The public contract in plain words: `read_vlog` answers a file only where all the bytes of the source, up to its end, read as that file
+// by the grammar in `specs/Grammar.antt`; a text fault only where the bytes have that first fault, with its place and its reason; and
+// `TooLong` only where more bytes are given than are looked at and no first fault lies within those. A source that fails and want of
+// memory aside, it answers nothing else, and at a fault at most 4,096 bytes past its stop were taken. `laws` has it that these are three
+// cases: a text reads as at most one file, has at most one first fault, and never both.
+#![tactic(auto)]
+
+mod file;
+mod header;
+pub mod laws;
+mod module;
+mod parameter;
+
+pub use file::read_vlog;
+
+#[cfg(test)]
+mod tests;

@@ -1,0 +1,143 @@
+// Modules.
+ghost use Rattle.std.specs.Prelude.{◌≡◌, [], is_some};
+ghost use Rattle.std.specs.List.{list_any};
+ghost use Rattle.grammar.specs.Part.{sequence};
+ghost use Rattle.nl_base.specs.Case.{same_bytes};
+ghost use Rattle.readers.specs.Sources.{supply};
+ghost use Rattle.readers.specs.Readers.{same, Reads, LooksFor};
+ghost use Rattle.vlog_tokens.specs.Language.{vlog};
+ghost use Rattle.vlog_exprs.specs.Reasons.{meant_by};
+ghost use Rattle.vlog_items.specs.Grammar.{item_words};
+ghost use Rattle.vlog_modules.specs.Starts.{begins_item};
+ghost use Rattle.vlog_modules.specs.Grammar.{items, module_rest, module_of};
+
+use crate::header::read_header;
+use crate::parameter::read_params;
+use nl_base::{ReadError, Seq};
+use nl_io::Source;
+use std::alloc::Global;
+use vlog_exprs::VCursor;
+use vlog_items::read_item;
+use vlog_tokens::{VFound, VToken};
+use vlog_values::{Attr, ItemV, Module};
+
+/// Whether a word is one of some.
+fn is_one_of(word: &[u8], words: &[&[u8]]) -> bool
+    ensures { result ≡ list_any (λ q. same_bytes word.now q.now) words.now }
+{
+    for spelling in words {
+        if word == *spelling {
+            return true;
+        }
+    }
+    false
+}
+
+/// Whether a keyword begins an item.
+fn is_item_word(word: &[u8]) -> bool
+    ensures { result ≡ is_some (meant_by item_words word.now) }
+{
+    is_one_of(
+        word,
+        &[
+            b"input",
+            b"output",
+            b"inout",
+            b"wire",
+            b"tri",
+            b"supply0",
+            b"supply1",
+            b"parameter",
+            b"assign",
+            b"defparam",
+        ],
+    )
+}
+
+/// Whether attributes or an item begin with a token.
+#[tactic(auto, unfolding(crate::specs::Starts::begins_item))]
+fn begins_item(found: &VFound) -> bool
+    ensures { result ≡ begins_item found.now }
+{
+    match &found.token {
+        VToken::AttrStart | VToken::Name(_) => true,
+        VToken::Keyword(word) => is_item_word(word.bytes()),
+        _ => false,
+    }
+}
+
+/// Looks whether attributes or an item are next. It takes nothing.
+#[tactic(auto, using(readers::proofs::Looking::looks_for))]
+fn at_item<S: Source>(
+    alloc: Global,
+    cursor: &mut VCursor,
+    source: &mut S,
+) -> Result<bool, ReadError>
+    ensures { LooksFor vlog begins_item result cursor.old cursor.new (supply S.left S.faults source.old) (supply S.left S.faults source.new) }
+{
+    cursor.look(alloc, source)?;
+    if let Some(found) = cursor.ahead() {
+        return Ok(begins_item(found));
+    }
+    Ok(false)
+}
+
+/// Reads the items of a module up to `endmodule`.
+#[tactic(auto, using(crate::proofs::Items::item_loops))]
+fn read_items<S: Source>(
+    alloc: Global,
+    cursor: &mut VCursor,
+    source: &mut S,
+) -> Result<Seq<ItemV>, ReadError>
+    ensures { Reads vlog same (items []) result cursor.old cursor.new (supply S.left S.faults source.old) (supply S.left S.faults source.new) }
+{
+    let mut items = Seq::empty(alloc);
+    while at_item(alloc, cursor, source)? {
+        let item = read_item(alloc, cursor, source)?;
+        cursor.add(&mut items, item)?;
+    }
+    cursor.keyword(alloc, b"endmodule", source)?;
+    Ok(items)
+}
+
+/// Reads a module, behind `module`.
+#[tactic(auto, using(readers::proofs::Reading::sequences), unfolding(crate::specs::Grammar::module_rest))]
+fn read_module_rest<S: Source>(
+    alloc: Global,
+    cursor: &mut VCursor,
+    implicit: bool,
+    attrs: Seq<Attr>,
+    source: &mut S,
+) -> Result<Module, ReadError>
+    ensures { Reads vlog same (module_rest implicit attrs) result cursor.old cursor.new (supply S.left S.faults source.old) (supply S.left S.faults source.new) }
+{
+    let name = cursor.name(alloc, source)?;
+    let params = read_params(alloc, cursor, source)?;
+    let header = read_header(alloc, cursor, source)?;
+    cursor.mark(alloc, b';', source)?;
+    let items = read_items(alloc, cursor, source)?;
+    Ok(Module {
+        attrs,
+        name,
+        implicit,
+        params,
+        header,
+        items,
+    })
+}
+
+/// Reads a module, behind its attributes.
+#[tactic(auto, using(readers::proofs::Reading::sequences), unfolding(crate::specs::Grammar::module_of))]
+pub(crate) fn read_module<S: Source>(
+    alloc: Global,
+    cursor: &mut VCursor,
+    implicit: bool,
+    attrs: Seq<Attr>,
+    source: &mut S,
+) -> Result<Module, ReadError>
+    ensures { Reads vlog same (module_of implicit attrs) result cursor.old cursor.new (supply S.left S.faults source.old) (supply S.left S.faults source.new) }
+{
+    cursor.keyword(alloc, b"module", source)?;
+    let parts = read_module_rest(alloc, cursor, implicit, attrs, source)?;
+    Ok(parts)
+}

@@ -1,0 +1,138 @@
+// The parameters of a module's header.
+ghost use Rattle.std.specs.Prelude.{◌≡◌, ◌∷◌, []};
+ghost use Rattle.readers.specs.Sources.{supply};
+ghost use Rattle.readers.specs.Readers.{same, Reads, ReadsMaybe};
+ghost use Rattle.vlog_tokens.specs.Language.{vlog};
+ghost use Rattle.vlog_modules.specs.Grammar.{param_group, more_set, param_turn, param_groups, params_rest, params};
+
+use nl_base::{ReadError, Seq, Text};
+use nl_io::Source;
+use std::alloc::Global;
+use vlog_exprs::{VCursor, read_const};
+use vlog_items::{read_param_set, read_param_type};
+use vlog_values::{ParamDecl, ParamSet};
+
+/// Groups of parameters, of which the last may get further parameters.
+#[derive(Drop)]
+pub(crate) struct ParamGroups {
+    pub(crate) before: Seq<ParamDecl>,
+    pub(crate) last: ParamDecl,
+}
+
+/// Reads a group with its first parameter.
+#[tactic(auto, using(readers::proofs::Reading::sequences), unfolding(crate::specs::Grammar::param_group))]
+fn read_param_group<S: Source>(
+    alloc: Global,
+    cursor: &mut VCursor,
+    source: &mut S,
+) -> Result<ParamDecl, ReadError>
+    ensures { Reads vlog same param_group result cursor.old cursor.new (supply S.left S.faults source.old) (supply S.left S.faults source.new) }
+{
+    cursor.keyword(alloc, b"parameter", source)?;
+    let kind = read_param_type(alloc, cursor, source)?;
+    let set = read_param_set(alloc, cursor, source)?;
+    let mut sets = Seq::empty(alloc);
+    cursor.add(&mut sets, set)?;
+    Ok(ParamDecl {
+        attrs: Seq::empty(alloc),
+        kind,
+        sets,
+    })
+}
+
+/// Reads the value of one more parameter of the last group.
+#[tactic(auto, using(readers::proofs::Reading::sequences), unfolding(crate::specs::Grammar::more_set))]
+fn read_more_set<S: Source>(
+    alloc: Global,
+    cursor: &mut VCursor,
+    groups: ParamGroups,
+    name: Text,
+    source: &mut S,
+) -> Result<ParamGroups, ReadError>
+    ensures { Reads vlog same (more_set groups name) result cursor.old cursor.new (supply S.left S.faults source.old) (supply S.left S.faults source.new) }
+{
+    cursor.mark(alloc, b'=', source)?;
+    let value = read_const(alloc, cursor, source)?;
+    let ParamGroups { before, mut last } = groups;
+    cursor.add(&mut last.sets, ParamSet { name, value })?;
+    Ok(ParamGroups { before, last })
+}
+
+/// Reads on behind a comma: a parameter of the last group, or a new group.
+#[tactic(auto, using(readers::proofs::Choices::choices), unfolding(crate::specs::Grammar::param_turn))]
+fn read_param_turn<S: Source>(
+    alloc: Global,
+    cursor: &mut VCursor,
+    groups: ParamGroups,
+    source: &mut S,
+) -> Result<ParamGroups, ReadError>
+    ensures { Reads vlog same (param_turn groups) result cursor.old cursor.new (supply S.left S.faults source.old) (supply S.left S.faults source.new) }
+{
+    match cursor.takes_name(alloc, source)? {
+        Some(name) => {
+            let groups = read_more_set(alloc, cursor, groups, name, source)?;
+            Ok(groups)
+        }
+        None => {
+            let next = read_param_group(alloc, cursor, source)?;
+            let ParamGroups { mut before, last } = groups;
+            cursor.add(&mut before, last)?;
+            Ok(ParamGroups { before, last: next })
+        }
+    }
+}
+
+/// Reads further parameters and groups up to the `)`.
+#[tactic(auto, using(readers::proofs::Choices::loops), unfolding(crate::specs::Grammar::param_groups))]
+fn read_param_groups<S: Source>(
+    alloc: Global,
+    cursor: &mut VCursor,
+    first: ParamGroups,
+    source: &mut S,
+) -> Result<Seq<ParamDecl>, ReadError>
+    ensures { Reads vlog same (param_groups first) result cursor.old cursor.new (supply S.left S.faults source.old) (supply S.left S.faults source.new) }
+{
+    let mut groups = first;
+    while cursor.takes(alloc, b',', source)? {
+        groups = read_param_turn(alloc, cursor, groups, source)?;
+    }
+    cursor.mark(alloc, b')', source)?;
+    let ParamGroups { mut before, last } = groups;
+    cursor.add(&mut before, last)?;
+    Ok(before)
+}
+
+/// Reads the parameters of a header, behind the `#`.
+#[tactic(auto, using(readers::proofs::Reading::sequences), unfolding(crate::specs::Grammar::params_rest))]
+fn read_params_rest<S: Source>(
+    alloc: Global,
+    cursor: &mut VCursor,
+    source: &mut S,
+) -> Result<Seq<ParamDecl>, ReadError>
+    ensures { Reads vlog same params_rest result cursor.old cursor.new (supply S.left S.faults source.old) (supply S.left S.faults source.new) }
+{
+    cursor.mark(alloc, b'(', source)?;
+    let last = read_param_group(alloc, cursor, source)?;
+    let first = ParamGroups {
+        before: Seq::empty(alloc),
+        last,
+    };
+    let groups = read_param_groups(alloc, cursor, first, source)?;
+    Ok(groups)
+}
+
+/// Reads the parameters of a module's header, which may be left out.
+#[tactic(auto, using(readers::proofs::Choices::choices), unfolding(crate::specs::Grammar::params, vlog_exprs::specs::Grammar::after))]
+pub(crate) fn read_params<S: Source>(
+    alloc: Global,
+    cursor: &mut VCursor,
+    source: &mut S,
+) -> Result<Seq<ParamDecl>, ReadError>
+    ensures { ReadsMaybe vlog same params result cursor.old cursor.new (supply S.left S.faults source.old) (supply S.left S.faults source.new) }
+{
+    if cursor.takes(alloc, b'#', source)? {
+        let groups = read_params_rest(alloc, cursor, source)?;
+        return Ok(groups);
+    }
+    Ok(Seq::empty(alloc))
+}
