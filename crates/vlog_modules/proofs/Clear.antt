@@ -1,24 +1,23 @@
 -- In each part of a file a token that can be taken where it stands belongs there. The end of the input goes on with no file.
-use Rattle.std.proofs.Common.{◌≡◌, ◌∙◌, sym, ap, refl, ℕ, Bool, true, false, List, [], ◌∷◌, ◌++◌, Option, Some, None, ◌⊎◌, inl, inr, codes}
+use Rattle.std.proofs.Common.{◌≡◌, ◌∙◌, sym, ap, refl, ℕ, Bool, true, false, List, [], ◌∷◌, ◌++◌, Option, Ok, Err, ◌⊎◌, inl, inr, codes}
 use Rattle.std.proofs.lemmas.Slice.Eq.{bytes_eq-Decides}
 use Rattle.grammar.specs.Part.{Glance, gives, sequence, takes, leaves}
-use Rattle.grammar.specs.Clear.{Empty, First, IsClear}
+use Rattle.grammar.specs.Clear.{First, IsClear}
 use Rattle.grammar.specs.Whole.{end}
-use Rattle.grammar.proofs.Follow.{clear_fewer, next_given, next_then, next_ahead, next_loop}
+use Rattle.grammar.proofs.Follow.{next_given, next_then, next_ahead, next_loop}
 use Rattle.nl_base.specs.declared.fault.Reason.{Reason}
+use Rattle.nl_base.specs.declared.fault.Reason.TheVariants as reasons
 use Rattle.nl_base.specs.Case.{same_bytes}
 use Rattle.nl_base.specs.declared.place.Place.{Place}
 use Rattle.nl_base.specs.declared.value.Dir.{Dir}
 use Rattle.nl_base.specs.Ranges.{Bounds}
-use Rattle.readers.specs.Parts.{of_token, at_token, one, if_next, while_next}
+use Rattle.readers.specs.Parts.{at_token, one, if_next, while_next}
 use Rattle.vlog_tokens.specs.declared.token.VToken.{VToken}
 use Rattle.vlog_tokens.specs.declared.token.VToken.TheVariants as token
 use Rattle.vlog_values.specs.declared.expression.Attr.{Attr}
-use Rattle.vlog_values.specs.declared.expression.Const.{Const}
 use Rattle.vlog_values.specs.declared.declaration.PortKind.{PortKind}
 use Rattle.vlog_values.specs.declared.declaration.PortDecl.{PortDecl}
 use Rattle.vlog_values.specs.declared.declaration.ParamDecl.{ParamDecl}
-use Rattle.vlog_values.specs.declared.declaration.ParamSet.{ParamSet}
 use Rattle.vlog_values.specs.declared.declaration.ParamType.{ParamType}
 use Rattle.vlog_values.specs.declared.module.Header.{Header}
 use Rattle.vlog_values.specs.declared.module.Header.TheVariants as headers
@@ -28,17 +27,17 @@ use Rattle.vlog_values.specs.declared.module.VlogFile.{VlogFile}
 use Rattle.vlog_exprs.specs.Language.{NoContext, Vlog}
 use Rattle.vlog_exprs.specs.Reasons as say
 use Rattle.vlog_exprs.specs.Reasons.{meant_by}
-use Rattle.vlog_exprs.specs.Grammar.{name, mark, keyword, choice, after, commas, maybe_range, constant, attrs, group, groups}
-use Rattle.vlog_exprs.proofs.TokenKinds.{Next, TokenIs, due_is, taken_is, is_left, due_left, taken_left, at_mark_is, group_is}
+use Rattle.vlog_exprs.specs.Grammar.{name, mark, keyword, choice, after, attrs, group, groups}
+use Rattle.vlog_exprs.proofs.TokenKinds.{Next, TokenIs, due_is, taken_is, is_left, taken_left, at_mark_is, group_is}
 use Rattle.vlog_exprs.proofs.Clear.{Follows, first_due, clear_after, InList, Ends, clear_commas, ends_mark, NoDigits, clear_constant, clear_groups}
-use Rattle.vlog_items.specs.Grammar.{signed, port_kind, param_type, param_set, item_words, item}
-use Rattle.vlog_items.proofs.Clear.{NextOf, NameNext, name_left, ChoiceNext, choice_is, choice_left, WordNext, next_mark, mark_no_digits, list_no_digits, BeginsWith, begins_next, begins_then, begins_either, begins_name, Bracket, NoKind, no_kind, clear_port_kind, behind_sign, begins_sign, clear_sign, clear_param_type, begins_param_set, clear_param_set, clear_word_item, clear_instances_item, ItemNext, begins_item, clear_item}
+use Rattle.vlog_items.specs.Grammar.{port_kind, param_type, param_set, item_words, item}
+use Rattle.vlog_items.proofs.Clear.{NextOf, NameNext, ChoiceNext, choice_left, next_mark, list_no_digits, BeginsWith, begins_next, begins_then, begins_either, begins_name, no_kind, clear_port_kind, behind_sign, begins_sign, clear_sign, clear_param_type, begins_param_set, clear_param_set, clear_word_item, clear_instances_item, ItemNext, begins_item, clear_item}
 use Rattle.vlog_modules.specs.declared.header.PortDecls.{PortDecls}
 use Rattle.vlog_modules.specs.declared.parameter.ParamGroups.{ParamGroups}
 use Rattle.vlog_modules.specs.declared.file.Directive.{Directive}
 use Rattle.vlog_modules.specs.declared.file.Directive.TheVariants as directives
 use Rattle.vlog_modules.specs.declared.file.SoFar.{SoFar}
-use Rattle.vlog_modules.specs.Grammar.{dir_words, port_decl, with_name, with_decl, port_turn, port_decls, name_header, decl_header, some_header, header, param_group, with_set, more_set, with_group, param_turn, param_groups, params_rest, params, ItemStart, at_group, at_module_name, at_word, at_item, item_rest, items, module_rest, module_of, net_type, with_implicit, with_module, directive, PieceStart, at_word_of, at_attributes, at_module, at_piece, piece_rest, pieces, file}
+use Rattle.vlog_modules.specs.Grammar.{dir_words, port_rest, port_decl, with_decl, port_turn, port_decls, name_header, decl_header, some_header, header, param_group, with_set, more_set, with_group, param_turn, param_groups, params_rest, params, ItemStart, at_group, at_module_name, at_word, at_item, item_rest, items, module_rest, module_of, directive, PieceStart, at_word_of, at_attributes, at_module, at_piece, piece_rest, pieces, file}
 
 -- ---- what comes next
 
@@ -55,12 +54,12 @@ first_groups x (inr n) = absurd n
 abbrev DeclNext : Next → Type 0
 DeclNext x = GroupNext x ⊎ ChoiceNext dir_words x
 
+due_choice : {A : Type 0} (words : List (List ℕ × A)) → BeginsWith (ChoiceNext words) (choice words)
+unfolding one
+due_choice words = record { first = λ x n. n; full = λ v n. n }
+
 begins_choice : {A B : Type 0} (words : List (List ℕ × A)) (q : A → Vlog B) → BeginsWith (ChoiceNext words) (sequence (choice words) q)
-begins_choice words q = begins_then (ChoiceNext words) (choice words) q by
-  where
-    by : BeginsWith (ChoiceNext words) (choice words)
-    unfolding one
-    by = record { first = λ x n. n; full = λ v n. n }
+begins_choice words q = begins_then (ChoiceNext words) (choice words) q (due_choice words)
 
 -- a keyword is next
 keyword_is : (due : List ℕ) (t : VToken) (u : Unit {0}) → say.keyword_of due t ≡ Ok u → t ≡ token.Keyword due
@@ -68,7 +67,7 @@ keyword_is due (token.Keyword w) u h = by w (same_bytes w due) refl h
   where
     by : (w : List ℕ) (b : Bool) → same_bytes w due ≡ b → say.keyword_of due (token.Keyword w) ≡ Ok u → token.Keyword w ≡ token.Keyword due
     by w true e h = ap token.Keyword ((bytes_eq-Decides w due).0 e)
-    by w false e h = let k : say.keyword_of due (token.Keyword w) ≡ Err _ = rw e refl in let m = sym k ∙ h in absurd cc
+    by w false e h = let k : say.keyword_of due (token.Keyword w) ≡ Err (reasons.NotInProfile w) = rw e refl in let m = sym k ∙ h in absurd cc
 keyword_is due (token.Name n) u h = absurd cc
 keyword_is due (token.Punct b) u h = absurd cc
 keyword_is due (token.Number n) u h = absurd cc
@@ -125,14 +124,14 @@ abbrev dir_to : List Attr → Vlog PortDecl
 dir_to as_written = sequence (choice dir_words) (λ dir. sequence port_kind (λ k. behind_sign (tail_of as_written dir k) (begins_tail as_written dir k)))
 
 begins_decl : BeginsWith DeclNext port_decl
-unfolding port_decl
+unfolding port_decl port_rest
 begins_decl = begins_either GroupNext (ChoiceNext dir_words) attrs dir_to first_groups (λ a. begins_choice dir_words (λ dir. sequence port_kind (λ k. behind_sign (tail_of a dir k) (begins_tail a dir k))))
 
 no_group : {A : Type 0} (words : List (List ℕ × A)) (x : Next) → ChoiceNext words x → at_token (λ y. say.at_group y.token) x ≡ leaves
 no_group words x n = choice_left words say.at_group x (λ w a h. refl) n
 
 clear_port_decl : (F : Follows PortDecl) → IsClear tt port_decl F
-unfolding port_decl one
+unfolding port_decl port_rest one
 clear_port_decl F = (
   clear_groups [] (λ a. NextOf (dir_to a) F) (λ a x n. no_group dir_words x (begins_next (ChoiceNext dir_words) (dir_to a) F (begins_choice dir_words (λ dir. sequence port_kind (λ k. behind_sign (tail_of a dir k) (begins_tail a dir k)))) x n)),
   λ a. (
@@ -162,13 +161,16 @@ clear_port_turn ds F = (λ n. tt, (clear_port_decl _, λ d. tt), λ x n. decl_no
 closed_no_comma : {A B : Type 0} (v : A → List B) (s : A) (F : Follows (List B)) (x : Next) → NextOf (sequence (mark 41) (λ _. gives (v s))) F x → at_token (λ y. say.at_mark 44 y.token) x ≡ leaves
 closed_no_comma v s F x n = is_left (say.at_mark 44) (token.Punct 41) x refl (next_mark 41 (λ _. gives (v s)) F x n)
 
+clear_closed : {A B : Type 0} (v : A → List B) (s : A) (F : Follows (List B)) → IsClear tt (sequence (mark 41) (λ _. gives (v s))) F
+unfolding one
+clear_closed v s F = (tt, λ _. tt)
+
+abbrev all_decls : PortDecls → List PortDecl
+all_decls ds = ds.before ++ ds.last ∷ []
+
 clear_port_decls : (ds : PortDecls) (F : Follows (List PortDecl)) → IsClear tt (port_decls ds) F
 unfolding port_decls while_next
-clear_port_decls ds F = (λ ds _. clear_port_turn ds _, λ ds. closed ds, λ ds x n. closed_no_comma (λ (ds : PortDecls). ds.before ++ ds.last ∷ []) ds F x n)
-  where
-    closed : (ds : PortDecls) → IsClear tt (sequence (mark 41) (λ _. gives (ds.before ++ ds.last ∷ []))) F
-    unfolding one
-    closed ds = (tt, λ _. tt)
+clear_port_decls ds F = (λ ds _. clear_port_turn ds _, λ ds. clear_closed all_decls ds F, λ ds x n. closed_no_comma all_decls ds F x n)
 
 clear_name_header : (n : List ℕ) (F : Follows Header) → IsClear tt (name_header n) F
 unfolding name_header one
@@ -249,17 +251,16 @@ next_groups gs F x n = elim (next_loop tt (λ _ _ t. at_token (λ y. say.at_mark
   | inr m ↦ inr (next_mark 41 (λ _. gives (gs.before ++ gs.last ∷ [])) F x m)
 ]
 
+abbrev all_groups : ParamGroups → List ParamDecl
+all_groups gs = gs.before ++ gs.last ∷ []
+
 clear_param_groups : (gs : ParamGroups) (F : Follows (List ParamDecl)) → IsClear tt (param_groups gs) F
 unfolding param_groups while_next
 clear_param_groups gs F = (
   λ gs _. clear_param_turn gs (λ t. NextOf (param_groups t) F) (λ t x n. list_no_digits 41 x (next_groups t F x n)),
-  λ gs. closed gs,
-  λ gs x n. closed_no_comma (λ (gs : ParamGroups). gs.before ++ gs.last ∷ []) gs F x n,
+  λ gs. clear_closed all_groups gs F,
+  λ gs x n. closed_no_comma all_groups gs F x n,
 )
-  where
-    closed : (gs : ParamGroups) → IsClear tt (sequence (mark 41) (λ _. gives (gs.before ++ gs.last ∷ []))) F
-    unfolding one
-    closed gs = (tt, λ _. tt)
 
 clear_params_rest : (F : Follows (List ParamDecl)) → IsClear tt params_rest F
 unfolding params_rest one
@@ -300,17 +301,17 @@ end_no_item : (x : Next) → TokenIs (token.Keyword (codes "endmodule")) x → a
 unfolding meant_by
 end_no_item x t = is_left at_item (token.Keyword (codes "endmodule")) x refl t
 
+clear_ended : (s : List ItemV) (F : Follows (List ItemV)) → IsClear tt (sequence (keyword (codes "endmodule")) (λ _. gives s)) F
+unfolding one
+clear_ended s F = (tt, λ _. tt)
+
 clear_items : (so_far : List ItemV) (F : Follows (List ItemV)) → IsClear tt (items so_far) F
 unfolding items while_next
 clear_items so_far F = (
   λ s start. (clear_item_rest start _, λ i. tt),
-  λ s. ended s,
+  λ s. clear_ended s F,
   λ s x n. end_no_item x (next_keyword (codes "endmodule") (λ _. gives s) F x n),
 )
-  where
-    ended : (s : List ItemV) → IsClear tt (sequence (keyword (codes "endmodule")) (λ _. gives s)) F
-    unfolding one
-    ended s = (tt, λ _. tt)
 
 -- a module behind its header, and with it
 abbrev body_to : (List ItemV → Module) → Vlog Module
@@ -362,7 +363,7 @@ module_no_group x t = is_left say.at_group (token.Keyword (codes "module")) x re
 -- ---- the file
 
 clear_directive : (s : SoFar) (d : Directive) (F : Follows SoFar) → IsClear tt (directive s d) F
-unfolding directive net_type one
+unfolding directive one
 clear_directive s directives.Nettype F = (tt, λ _. tt)
 clear_directive s directives.Reset F = tt
 

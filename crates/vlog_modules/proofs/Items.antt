@@ -2,7 +2,7 @@
 use Rattle.std.proofs.Common.{◌≡◌, ◌∙◌, sym, ap, refl, ℕ, Bool, true, false, cond, ◌||◌, List, [], ◌∷◌, ◌++◌, Option, Some, None, is_some, Ok, Err, option_map, codes}
 use Rattle.std.specs.List.{find, list_any}
 use Rattle.std.proofs.lemmas.List.{map_push}
-use Rattle.grammar.specs.Part.{Glance, gives, sequence, takes, refuses, leaves}
+use Rattle.grammar.specs.Part.{gives, sequence, takes, leaves}
 use Rattle.grammar.specs.Reading.{read, and_then, Found as Answer}
 use Rattle.grammar.specs.Whole.{Terminal, proper, end}
 use Rattle.grammar.proofs.Loops.{read_loop}
@@ -24,9 +24,9 @@ use Rattle.vlog_values.specs.declared.module.ItemV.{ItemV}
 use Rattle.vlog_exprs.specs.Language.{NoContext, Vlog}
 use Rattle.vlog_exprs.specs.Reasons as say
 use Rattle.vlog_exprs.specs.Reasons.{meant_by}
-use Rattle.vlog_exprs.specs.Grammar.{attrs, group, groups, choice, keyword}
+use Rattle.vlog_exprs.specs.Grammar.{attrs, group, groups, keyword}
 use Rattle.vlog_items.specs.declared.item.ItemWord.{ItemWord}
-use Rattle.vlog_items.specs.Grammar.{item_words, word_item, instances_item, item}
+use Rattle.vlog_items.specs.Grammar.{item_words, instances_item, item}
 use Rattle.vlog_modules.specs.Grammar.{ItemStart, at_group, at_module_name, at_word, word_start, at_item, item_rest, items}
 use Rattle.vlog_modules.specs.Starts.{is_taken, begins_item}
 
@@ -71,15 +71,15 @@ unfolding item item_rest if_next one
 first_word w ts k c x is None m h = absurd cc
 first_word w ts k c x is (Some word) m h = let e : at_word word ≡ c = cc in rw (← e, is, m) refl
 
+named_first : (x : VFound) (n : List ℕ) (ts : Tokens) (k : NoContext) → x.token ≡ token.Name n → read k (item []) (proper x ∷ ts) ≡ read k (instances_item [] n) ts
+unfolding item if_next
+named_first x n ts k is = rw is refl
+
 -- an item is read from its attributes on as behind its first token
 pub first_item : (x : VFound) (t : VToken) (ts : Tokens) (k : NoContext) (c : ItemStart) → x.token ≡ t → at_item t ≡ takes c → read k (sequence attrs item) (proper x ∷ ts) ≡ read k (item_rest c) ts
 unfolding item_rest
 first_item x token.AttrStart ts k c is h = let e : at_group ≡ c = cc in behind_some item x ts k (ap say.at_group is) ∙ rw (← e) refl
 first_item x (token.Name n) ts k c is h = let e : at_module_name n ≡ c = cc in behind_none item x ts k (ap say.at_group is) ∙ named_first x n ts k is ∙ rw (← e) refl
-  where
-    named_first : (x : VFound) (n : List ℕ) (ts : Tokens) (k : NoContext) → x.token ≡ token.Name n → read k (item []) (proper x ∷ ts) ≡ read k (instances_item [] n) ts
-    unfolding item if_next
-    named_first x n ts k is = rw is refl
 first_item x (token.Keyword w) ts k c is h = behind_none item x ts k (ap say.at_group is) ∙ first_word w ts k c x is (meant_by item_words w) refl h
 first_item x (token.Number n) ts k c is h = absurd cc
 first_item x (token.Real r) ts k c is h = absurd cc
@@ -144,20 +144,18 @@ one_round so_far x ts k b = let c = taken x.token b in
     by (Ok z) = refl
     by (Err e) = refl
 
+first_round : (so_far : List ItemV) (k : NoContext) (ts : Tokens) → FirstFits begins_item true ts → read k (items so_far) ts ≡ read k (sequence (sequence attrs item) (λ i. items (so_far ++ i ∷ []))) ts
+first_round so_far k [] is = absurd is
+first_round so_far k (end p ∷ ts) is = absurd cc
+first_round so_far k (proper x ∷ ts) is = one_round so_far x ts k (sym is)
+
+module _ (so_far : List ItemV) (k : NoContext) where
+  pub items_more : (s : Option (Ahead VFound)) → IsNext begins_item true s → reading vlog (items so_far) k s ≡ reading vlog (sequence (sequence attrs item) (λ i. items (so_far ++ i ∷ []))) k s
+  unfolding reading IsNext
+  items_more None is = refl
+  items_more (Some s) is = ap (λ r. Some (result_of vlog s.finish r)) (first_round so_far k s.tokens is)
+
 module _ (so_far : List ItemV) (k : NoContext) (s : Option (Ahead VFound)) where
-  pub items_more : IsNext begins_item true s → reading vlog (items so_far) k s ≡ reading vlog (sequence (sequence attrs item) (λ i. items (so_far ++ i ∷ []))) k s
-  items_more is = more s is
-    where
-      by : (ts : Tokens) → FirstFits begins_item true ts → read k (items so_far) ts ≡ read k (sequence (sequence attrs item) (λ i. items (so_far ++ i ∷ []))) ts
-      by [] is = absurd is
-      by (end p ∷ ts) is = absurd cc
-      by (proper x ∷ ts) is = one_round so_far x ts k (sym is)
-
-      more : (s : Option (Ahead VFound)) → IsNext begins_item true s → reading vlog (items so_far) k s ≡ reading vlog (sequence (sequence attrs item) (λ i. items (so_far ++ i ∷ []))) k s
-      unfolding reading IsNext
-      more None is = refl
-      more (Some s) is = ap (λ r. Some (result_of vlog s.finish r)) (by s.tokens is)
-
   pub items_end : IsNext begins_item false s → reading vlog (items so_far) k s ≡ reading vlog (sequence (keyword (codes "endmodule")) (λ _. gives so_far)) k s
   unfolding items
   items_end is = while_next_is_no vlog begins_item (λ _ _ x. at_item x.token) (λ so_far start. sequence (item_rest start) (λ i. gives (so_far ++ i ∷ []))) (λ so_far. sequence (keyword (codes "endmodule")) (λ _. gives so_far)) so_far k s misses is

@@ -1,28 +1,23 @@
 -- From each place in a file some tokens lead to its end.
-use Rattle.std.proofs.Common.{◌≡◌, refl, ℕ, Bool, true, List, [], ◌∷◌, ◌++◌, codes}
+use Rattle.std.proofs.Common.{refl, ℕ, Bool, true, List, [], ◌∷◌, ◌++◌, codes}
 use Rattle.grammar.specs.Part.{gives, sequence}
-use Rattle.grammar.specs.Clear.{IsLive}
 use Rattle.readers.specs.Parts.{while_next}
 use Rattle.readers.proofs.Shapes.{live_one, live_if, live_while}
-use Rattle.nl_base.specs.declared.value.Dir.{Dir}
 use Rattle.nl_base.specs.declared.value.Dir.TheVariants as dirs
 use Rattle.vlog_tokens.specs.declared.token.VToken.TheVariants as token
 use Rattle.vlog_values.specs.declared.expression.Attr.{Attr}
-use Rattle.vlog_values.specs.declared.module.Header.{Header}
-use Rattle.vlog_values.specs.declared.module.Header.TheVariants as headers
 use Rattle.vlog_values.specs.declared.module.ItemV.{ItemV}
 use Rattle.vlog_exprs.specs.Reasons as say
 use Rattle.vlog_exprs.specs.Reasons.{meant_by}
-use Rattle.vlog_exprs.specs.Grammar.{name, mark, keyword, choice, commas, group, groups}
+use Rattle.vlog_exprs.specs.Grammar.{name, mark, keyword, choice, group, groups}
 use Rattle.vlog_exprs.proofs.Live.{Lives, found, live_name, live_mark, live_after, live_commas, live_maybe_range, live_constant, live_groups}
-use Rattle.vlog_items.specs.Grammar.{item}
 use Rattle.vlog_items.proofs.Live.{live_signed, live_port_kind, live_param_type, live_param_set, live_word_item, live_instances_item, live_item}
 use Rattle.vlog_modules.specs.declared.header.PortDecls.{PortDecls}
 use Rattle.vlog_modules.specs.declared.parameter.ParamGroups.{ParamGroups}
 use Rattle.vlog_modules.specs.declared.file.Directive.{Directive}
 use Rattle.vlog_modules.specs.declared.file.Directive.TheVariants as directives
 use Rattle.vlog_modules.specs.declared.file.SoFar.{SoFar}
-use Rattle.vlog_modules.specs.Grammar.{dir_words, port_decl, with_name, with_decl, port_turn, port_decls, name_header, decl_header, some_header, header, param_group, more_set, with_group, param_turn, param_groups, params_rest, params, ItemStart, at_group, at_module_name, at_word, at_item, item_rest, items, module_rest, module_of, net_type_of, net_type, with_module, directive, PieceStart, at_word_of, at_attributes, at_module, at_piece, piece_rest, pieces, file}
+use Rattle.vlog_modules.specs.Grammar.{dir_words, port_rest, port_decl, with_name, with_decl, port_turn, port_decls, name_header, decl_header, some_header, header, param_group, more_set, with_group, param_turn, param_groups, params_rest, params, ItemStart, at_group, at_module_name, at_word, at_item, item_rest, items, module_rest, module_of, net_type_of, net_type, directive, PieceStart, at_word_of, at_attributes, at_module, at_piece, piece_rest, pieces, file}
 
 -- ---- headers
 
@@ -31,7 +26,7 @@ unfolding meant_by
 live_dir = live_one (λ _ x. say.choice_of dir_words x.token) tt (found (token.Keyword (codes "input"))) dirs.Input refl
 
 live_port_decl : Lives port_decl
-unfolding port_decl
+unfolding port_decl port_rest
 live_port_decl = (live_groups [], λ a. (live_dir, λ d. (live_port_kind, λ k. (live_signed, λ s. (live_maybe_range, λ r. (live_name, λ n. tt))))))
 
 live_port_turn : (ds : PortDecls) → Lives (port_turn ds)
@@ -124,7 +119,6 @@ live_module implicit attrs = (live_module_word, λ _. live_module_rest implicit 
 -- ---- the file
 
 live_net_type : Lives net_type
-unfolding net_type
 live_net_type = live_one (λ _ x. net_type_of x.token) tt (found (token.Keyword (codes "wire"))) true refl
 
 live_directive : (s : SoFar) (d : Directive) → Lives (directive s d)

@@ -1,9 +1,9 @@
 -- Directives and modules are read one by one, each from its first token on.
-use Rattle.std.proofs.Common.{◌≡◌, ◌∙◌, sym, ap, refl, ℕ, Bool, true, false, cond, List, [], ◌∷◌, ◌++◌, Option, Some, None, Ok, Err, codes}
+use Rattle.std.proofs.Common.{◌≡◌, ◌∙◌, sym, ap, refl, ℕ, Bool, true, false, List, [], ◌∷◌, Option, Some, None, Ok, codes}
 use Rattle.std.proofs.lemmas.List.{map_push}
-use Rattle.grammar.specs.Part.{Glance, gives, sequence, takes, refuses, leaves}
-use Rattle.grammar.specs.Reading.{read, and_then, Found as Answer}
-use Rattle.grammar.specs.Whole.{Terminal, proper, end}
+use Rattle.grammar.specs.Part.{gives, sequence, takes, leaves}
+use Rattle.grammar.specs.Reading.{read, and_then}
+use Rattle.grammar.specs.Whole.{proper, end}
 use Rattle.grammar.proofs.Loops.{read_loop}
 use Rattle.nl_base.specs.Case.{same_bytes}
 use Rattle.nl_base.specs.declared.fault.ReadError.{ReadError}
@@ -16,13 +16,11 @@ use Rattle.vlog_tokens.specs.Language.{vlog}
 use Rattle.vlog_tokens.specs.declared.token.VFound.{VFound}
 use Rattle.vlog_tokens.specs.declared.token.VToken.{VToken}
 use Rattle.vlog_tokens.specs.declared.token.VToken.TheVariants as token
-use Rattle.vlog_values.specs.declared.module.VlogFile.{VlogFile}
-use Rattle.vlog_exprs.specs.Language.{NoContext, Vlog}
+use Rattle.vlog_exprs.specs.Language.{NoContext}
 use Rattle.vlog_exprs.specs.Reasons as say
-use Rattle.vlog_exprs.specs.Grammar.{attrs, group, groups, keyword}
 use Rattle.vlog_modules.specs.declared.file.Directive.{Directive}
 use Rattle.vlog_modules.specs.declared.file.SoFar.{SoFar}
-use Rattle.vlog_modules.specs.Grammar.{module_rest, module_of, with_module, directive_of, at_directive, directive, PieceStart, at_word_of, at_attributes, at_module, directive_start, at_piece, piece_rest, pieces}
+use Rattle.vlog_modules.specs.Grammar.{module_rest, module_of, with_module, directive_of, at_directive, directive, PieceStart, at_word_of, at_attributes, at_module, module_start, directive_start, at_piece, piece_rest, pieces}
 use Rattle.vlog_modules.specs.Starts.{is_taken, begins_piece, one_module, piece}
 use Rattle.vlog_modules.proofs.Items.{Tokens, behind_none, behind_some}
 
@@ -40,15 +38,15 @@ group_first : (s : SoFar) (x : VFound) (ts : Tokens) (k : NoContext) → x.token
 unfolding one_module piece_rest
 group_first s x ts k is = ap (λ r. and_then r (λ m. Ok (with_module s m.0, m.1))) (behind_some (module_of s.implicit) x ts k (ap say.at_group is))
 
+module_word : (implicit : Bool) (x : VFound) (w : List ℕ) (ts : Tokens) (k : NoContext) → x.token ≡ token.Keyword w → same_bytes w (codes "module") ≡ true → read k (module_of implicit []) (proper x ∷ ts) ≡ read k (module_rest implicit []) ts
+unfolding module_of one
+module_word implicit x w ts k is same = rw (is, same) refl
+
 module_first : (s : SoFar) (x : VFound) (w : List ℕ) (ts : Tokens) (k : NoContext) → x.token ≡ token.Keyword w → same_bytes w (codes "module") ≡ true → read k (one_module s) (proper x ∷ ts) ≡ read k (piece_rest s at_module) ts
 unfolding one_module piece_rest
-module_first s x w ts k is same = ap (λ r. and_then r (λ m. Ok (with_module s m.0, m.1))) (behind_none (module_of s.implicit) x ts k (ap say.at_group is) ∙ by)
-  where
-    by : read k (module_of s.implicit []) (proper x ∷ ts) ≡ read k (module_rest s.implicit []) ts
-    unfolding module_of one
-    by = rw (is, same) refl
+module_first s x w ts k is same = ap (λ r. and_then r (λ m. Ok (with_module s m.0, m.1))) (behind_none (module_of s.implicit) x ts k (ap say.at_group is) ∙ module_word s.implicit x w ts k is same)
 
-word_first : (s : SoFar) (x : VFound) (w : List ℕ) (ts : Tokens) (k : NoContext) (c : PieceStart) (b : Bool) → x.token ≡ token.Keyword w → same_bytes w (codes "module") ≡ b → cond b (takes at_module) leaves ≡ takes c → read k (piece s) (proper x ∷ ts) ≡ read k (piece_rest s c) ts
+word_first : (s : SoFar) (x : VFound) (w : List ℕ) (ts : Tokens) (k : NoContext) (c : PieceStart) (b : Bool) → x.token ≡ token.Keyword w → same_bytes w (codes "module") ≡ b → module_start b ≡ takes c → read k (piece s) (proper x ∷ ts) ≡ read k (piece_rest s c) ts
 word_first s x w ts k c true is same h = let e : at_module ≡ c = cc in other_first s x ts k (ap at_directive is) ∙ module_first s x w ts k is same ∙ rw (← e) refl
 word_first s x w ts k c false is same h = absurd cc
 
@@ -73,7 +71,7 @@ first_piece s x (token.Symbol b) ts k c is h = absurd cc
 
 -- ---- the loop
 
-word_taken : (b : Bool) → is_taken {R = _} (cond b (takes at_module) leaves) ≡ true → (c : PieceStart) × (cond b (takes at_module) leaves ≡ takes c)
+word_taken : (b : Bool) → is_taken (module_start b) ≡ true → (c : PieceStart) × (module_start b ≡ takes c)
 word_taken true h = (at_module, refl)
 word_taken false h = absurd cc
 
@@ -94,7 +92,7 @@ taken (token.Punct b) h = absurd cc
 taken token.AttrStop h = absurd cc
 taken (token.Symbol b) h = absurd cc
 
-word_left : (b : Bool) → is_taken {R = _} (cond b (takes at_module) leaves) ≡ false → cond b (takes at_module) leaves ≡ leaves
+word_left : (b : Bool) → is_taken (module_start b) ≡ false → module_start b ≡ leaves
 word_left true h = absurd cc
 word_left false h = refl
 
@@ -126,20 +124,18 @@ one_round s x ts k b = let c = taken x.token b in
     ∙ rw c.1 refl
     ∙ sym (ap (λ r. and_then r (λ y. read k (pieces y.0) y.1)) (first_piece s x x.token ts k c.0 refl c.1))
 
+first_round : (s : SoFar) (k : NoContext) (ts : Tokens) → FirstFits begins_piece true ts → read k (pieces s) ts ≡ read k (sequence (piece s) pieces) ts
+first_round s k [] is = absurd is
+first_round s k (end p ∷ ts) is = absurd cc
+first_round s k (proper x ∷ ts) is = one_round s x ts k (sym is)
+
+module _ (so_far : SoFar) (k : NoContext) where
+  pub pieces_more : (s : Option (Ahead VFound)) → IsNext begins_piece true s → reading vlog (pieces so_far) k s ≡ reading vlog (sequence (piece so_far) pieces) k s
+  unfolding reading IsNext
+  pieces_more None is = refl
+  pieces_more (Some s) is = ap (λ r. Some (result_of vlog s.finish r)) (first_round so_far k s.tokens is)
+
 module _ (so_far : SoFar) (k : NoContext) (s : Option (Ahead VFound)) where
-  pub pieces_more : IsNext begins_piece true s → reading vlog (pieces so_far) k s ≡ reading vlog (sequence (piece so_far) pieces) k s
-  pieces_more is = more s is
-    where
-      by : (ts : Tokens) → FirstFits begins_piece true ts → read k (pieces so_far) ts ≡ read k (sequence (piece so_far) pieces) ts
-      by [] is = absurd is
-      by (end p ∷ ts) is = absurd cc
-      by (proper x ∷ ts) is = one_round so_far x ts k (sym is)
-
-      more : (s : Option (Ahead VFound)) → IsNext begins_piece true s → reading vlog (pieces so_far) k s ≡ reading vlog (sequence (piece so_far) pieces) k s
-      unfolding reading IsNext
-      more None is = refl
-      more (Some s) is = ap (λ r. Some (result_of vlog s.finish r)) (by s.tokens is)
-
   pub pieces_end : IsNext begins_piece false s → reading vlog (pieces so_far) k s ≡ reading vlog (gives (record { modules = so_far.modules })) k s
   unfolding pieces
   pieces_end is = while_next_is_no vlog begins_piece (λ _ _ x. at_piece x.token) piece_rest (λ s. gives (record { modules = s.modules })) so_far k s misses is

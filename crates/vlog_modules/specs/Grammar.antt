@@ -9,7 +9,6 @@ use Rattle.nl_base.specs.declared.fault.Reason.TheVariants as reasons
 use Rattle.nl_base.specs.declared.value.Dir.{Dir}
 use Rattle.nl_base.specs.declared.value.Dir.TheVariants as dirs
 use Rattle.vlog_values.specs.declared.expression.Attr.{Attr}
-use Rattle.vlog_values.specs.declared.expression.Const.{Const}
 use Rattle.vlog_values.specs.declared.declaration.PortDecl.{PortDecl}
 use Rattle.vlog_values.specs.declared.declaration.ParamDecl.{ParamDecl}
 use Rattle.vlog_values.specs.declared.declaration.ParamSet.{ParamSet}
@@ -37,16 +36,21 @@ use Rattle.vlog_modules.specs.declared.file.SoFar.{SoFar}
 abbrev pub dir_words : List (List ℕ × Dir)
 dir_words = (codes "input", dirs.Input) ∷ (codes "output", dirs.Output) ∷ (codes "inout", dirs.Inout) ∷ []
 
--- attrs ("input"|"output"|"inout") ["wire"|"tri"] ["signed"] [range] NAME
-unfoldable pub port_decl : Vlog PortDecl
-port_decl = do
-  as_written ← attrs
-  dir ← choice dir_words
+-- ["wire"|"tri"] ["signed"] [range] NAME
+unfoldable pub port_rest : List Attr → Dir → Vlog PortDecl
+port_rest as_written dir = do
   k ← port_kind
   s ← signed
   r ← maybe_range
   n ← name
   gives (record { attrs = as_written; dir = dir; kind = k; signed = s; range = r; names = n ∷ [] })
+
+-- attrs ("input"|"output"|"inout") ["wire"|"tri"] ["signed"] [range] NAME
+unfoldable pub port_decl : Vlog PortDecl
+port_decl = do
+  as_written ← attrs
+  dir ← choice dir_words
+  port_rest as_written dir
 
 -- one more name of the last declaration
 abbrev pub with_name : PortDecls → List ℕ → PortDecls
@@ -183,7 +187,7 @@ net_type_of (token.Name n) = if same_bytes n (codes "none") then Ok false else E
 net_type_of t = Err (say.misplaced t)
 
 -- "wire" | "none"
-unfoldable pub net_type : Vlog Bool
+abbrev pub net_type : Vlog Bool
 net_type = one (λ _ x. net_type_of x.token)
 
 -- the directives that stand between modules
@@ -214,6 +218,11 @@ pub data PieceStart : Type 0 where
   at_attributes : PieceStart
   at_module : PieceStart
 
+-- what a keyword begins, where it is "module"
+abbrev pub module_start : Bool → Glance PieceStart Reason
+module_start true = takes at_module
+module_start false = leaves
+
 -- what a directive begins
 abbrev pub directive_start : Option Directive → Glance PieceStart Reason
 directive_start (Some d) = takes (at_word_of d)
@@ -222,7 +231,7 @@ directive_start None = leaves
 -- a token with which a directive or a module begins
 abbrev pub at_piece : VToken → Glance PieceStart Reason
 at_piece token.AttrStart = takes at_attributes
-at_piece (token.Keyword w) = if same_bytes w (codes "module") then takes at_module else leaves
+at_piece (token.Keyword w) = module_start (same_bytes w (codes "module"))
 at_piece (token.Directive w) = directive_start (directive_of w)
 at_piece t = leaves
 

@@ -1,9 +1,8 @@
 -- What a reader sees of the next token before it reads an item or a module, and those parts from their first tokens on.
-use Rattle.std.specs.Prelude.{Bool, true, false, List}
+use Rattle.std.specs.Prelude.{Bool, true, false}
 use Rattle.grammar.specs.Part.{Glance, takes, refuses, leaves, gives, sequence}
 use Rattle.readers.specs.Parts.{if_next}
 use Rattle.vlog_tokens.specs.declared.token.VFound.{VFound}
-use Rattle.vlog_values.specs.declared.module.Module.{Module}
 use Rattle.vlog_exprs.specs.Language.{Vlog}
 use Rattle.vlog_exprs.specs.Grammar.{attrs}
 use Rattle.vlog_modules.specs.Grammar.{at_item, at_piece, at_directive, directive, module_of, with_module}

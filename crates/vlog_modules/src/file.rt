@@ -10,9 +10,10 @@ ghost use Rattle.vlog_modules.specs.Starts.{begins_piece, one_module, piece};
 ghost use Rattle.vlog_modules.specs.Grammar.{net_type, net_type_of, directive_of, at_directive, directive, file};
 
 use crate::module::read_module;
-use nl_base::{NoMemory, ReadError, Reason, Seq, Text};
+use nl_base::{ReadError, Reason, Seq};
 use nl_io::Source;
 use std::alloc::Global;
+use vlog_exprs::reasons::{Said, misplaced};
 use vlog_exprs::{Glance, VCursor, read_attrs};
 use vlog_tokens::{VFound, VToken, VTokens};
 use vlog_values::{Module, VlogFile};
@@ -57,9 +58,10 @@ fn read_file<S: Source>(
 ) -> Result<VlogFile, ReadError>
     ensures { ReadsWhole vlog same file result cursor.old cursor.new (supply S.left S.faults source.old) (supply S.left S.faults source.new) }
 {
+    let implicit = true;
     let mut so_far = SoFar {
         modules: Seq::empty(alloc),
-        implicit: true,
+        implicit,
     };
     while at_piece(alloc, cursor, source)? {
         so_far = read_piece(alloc, cursor, so_far, source)?;
@@ -92,7 +94,7 @@ fn begins_piece(found: &VFound) -> bool
 {
     match &found.token {
         VToken::AttrStart => true,
-        VToken::Keyword(word) => word.bytes() == b"module",
+        VToken::Keyword(word) => word.bytes() == b"module".as_slice(),
         VToken::Directive(word) => directive_of(word.bytes()).is_some(),
         _ => false,
     }
@@ -102,10 +104,10 @@ fn begins_piece(found: &VFound) -> bool
 fn directive_of(word: &[u8]) -> Option<Directive>
     ensures { result ≡ directive_of word.now }
 {
-    if word == b"`default_nettype" {
+    if word == b"`default_nettype".as_slice() {
         return Some(Directive::Nettype);
     }
-    if word == b"`resetall" {
+    if word == b"`resetall".as_slice() {
         return Some(Directive::Reset);
     }
     None
@@ -200,28 +202,26 @@ fn read_net_type<S: Source>(
 }
 
 /// What a token says of the net kind of names that are used without a declaration.
-fn net_type_of(alloc: Global, token: VToken) -> Result<Result<bool, Reason>, NoMemory>
+fn net_type_of(alloc: Global, token: VToken) -> Said<bool>
     ensures { IfOk result (λ said. said ≡ net_type_of token) }
 {
     match token {
         VToken::Keyword(word) => {
-            if word.bytes() == b"wire" {
+            if word.bytes() == b"wire".as_slice() {
                 return Ok(Ok(true));
             }
             Ok(Err(Reason::NotInProfile(word)))
         }
         VToken::Name(name) => {
-            if name.bytes() == b"none" {
+            if name.bytes() == b"none".as_slice() {
                 return Ok(Ok(false));
             }
             Ok(Err(Reason::Unexpected))
         }
-        VToken::Symbol(byte) => {
-            let word = Text::copy(alloc, &[byte])?;
-            Ok(Err(Reason::NotInProfile(word)))
+        other => {
+            let reason = misplaced(alloc, other)?;
+            Ok(Err(reason))
         }
-        VToken::Directive(word) => Ok(Err(Reason::NotInProfile(word))),
-        _ => Ok(Err(Reason::Unexpected)),
     }
 }
 

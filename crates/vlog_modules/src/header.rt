@@ -1,17 +1,17 @@
 // The ports of a module's header.
-ghost use Rattle.std.specs.Prelude.{◌≡◌, ◌∷◌, []};
+ghost use Rattle.std.specs.Prelude.{◌≡◌, ◌∷◌, [], IsFalse};
 ghost use Rattle.readers.specs.Sources.{supply};
 ghost use Rattle.readers.specs.Readers.{same, Reads, ReadsMaybe};
 ghost use Rattle.vlog_tokens.specs.Language.{vlog};
 ghost use Rattle.vlog_exprs.specs.Grammar.{choice};
-ghost use Rattle.vlog_modules.specs.Grammar.{dir_words, port_decl, port_turn, port_decls, name_header, decl_header, some_header, header};
+ghost use Rattle.vlog_modules.specs.Grammar.{dir_words, port_rest, port_decl, port_turn, port_decls, name_header, decl_header, some_header, header};
 
 use nl_base::{Dir, ReadError, Seq, Text};
 use nl_io::Source;
 use std::alloc::Global;
 use vlog_exprs::{VCursor, read_attrs, read_range_if_any};
 use vlog_items::{read_more_names, read_port_kind, read_signed};
-use vlog_values::{Header, PortDecl};
+use vlog_values::{Attr, Header, PortDecl};
 
 /// Declarations, of which the last may get further names.
 #[derive(Drop)]
@@ -40,17 +40,17 @@ fn read_dir<S: Source>(
     Ok(dir)
 }
 
-/// Reads a declaration with its first name.
-#[tactic(auto, using(readers::proofs::Reading::sequences), unfolding(crate::specs::Grammar::port_decl))]
-fn read_port_decl<S: Source>(
+/// Reads a declaration up to its first name, behind its direction.
+#[tactic(auto, using(readers::proofs::Reading::sequences), unfolding(crate::specs::Grammar::port_rest))]
+fn read_port_rest<S: Source>(
     alloc: Global,
     cursor: &mut VCursor,
+    attrs: Seq<Attr>,
+    dir: Dir,
     source: &mut S,
 ) -> Result<PortDecl, ReadError>
-    ensures { Reads vlog same port_decl result cursor.old cursor.new (supply S.left S.faults source.old) (supply S.left S.faults source.new) }
+    ensures { Reads vlog same (port_rest attrs dir) result cursor.old cursor.new (supply S.left S.faults source.old) (supply S.left S.faults source.new) }
 {
-    let attrs = read_attrs(alloc, cursor, source)?;
-    let dir = read_dir(alloc, cursor, source)?;
     let kind = read_port_kind(alloc, cursor, source)?;
     let signed = read_signed(alloc, cursor, source)?;
     let range = read_range_if_any(alloc, cursor, source)?;
@@ -67,6 +67,21 @@ fn read_port_decl<S: Source>(
     })
 }
 
+/// Reads a declaration up to its first name.
+#[tactic(auto, using(readers::proofs::Reading::sequences), unfolding(crate::specs::Grammar::port_decl))]
+fn read_port_decl<S: Source>(
+    alloc: Global,
+    cursor: &mut VCursor,
+    source: &mut S,
+) -> Result<PortDecl, ReadError>
+    ensures { Reads vlog same port_decl result cursor.old cursor.new (supply S.left S.faults source.old) (supply S.left S.faults source.new) }
+{
+    let attrs = read_attrs(alloc, cursor, source)?;
+    let dir = read_dir(alloc, cursor, source)?;
+    let decl = read_port_rest(alloc, cursor, attrs, dir, source)?;
+    Ok(decl)
+}
+
 /// Reads on behind a comma: a name of the last declaration, or a new declaration.
 #[tactic(auto, using(readers::proofs::Choices::choices), unfolding(crate::specs::Grammar::port_turn))]
 fn read_port_turn<S: Source>(
@@ -77,7 +92,10 @@ fn read_port_turn<S: Source>(
 ) -> Result<PortDecls, ReadError>
     ensures { Reads vlog same (port_turn decls) result cursor.old cursor.new (supply S.left S.faults source.old) (supply S.left S.faults source.new) }
 {
-    let PortDecls { mut before, mut last } = decls;
+    let PortDecls {
+        mut before,
+        mut last,
+    } = decls;
     match cursor.takes_name(alloc, source)? {
         Some(name) => {
             cursor.add(&mut last.names, name)?;
@@ -119,6 +137,7 @@ fn read_name_header<S: Source>(
     first: Text,
     source: &mut S,
 ) -> Result<Header, ReadError>
+    requires { IsFalse cursor.old.spent }
     ensures { Reads vlog same (name_header first) result cursor.old cursor.new (supply S.left S.faults source.old) (supply S.left S.faults source.new) }
 {
     let mut names = Seq::empty(alloc);
