@@ -1,3 +1,4 @@
 pub mod Digits
 pub mod Lexemes
 pub mod Tokens
+pub mod Kept
