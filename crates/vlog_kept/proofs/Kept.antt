@@ -182,14 +182,15 @@ pub kept_mark : {A : Type 0} {Good : A → Type 0} {p q : Vlog A} (due : ℕ) �
 unfolding after
 kept_mark due one_way other = kept_if _ _ _ (λ x c is h. one_way) other
 
-module _ {A : Type 0} {Good : A → Type 0} {p : Vlog A} (item : Kept p Good) (close : Vlog (Unit {0})) where
-  pub some_push : (so_far : List A) (a : A) → AllByRecursion Good so_far → Good a → AreSome Good (so_far ++ a ∷ [])
-  some_push so_far a all good = record { some = omega (arith, length-append so_far (a ∷ [])); all = AllByRecursion-push Good so_far a all good }
+-- one more item
+pub some_push : {A : Type 0} (Good : A → Type 0) (so_far : List A) (a : A) → AllByRecursion Good so_far → Good a → AreSome Good (so_far ++ a ∷ [])
+some_push Good so_far a all good = record { some = omega (arith, length-append so_far (a ∷ [])); all = AllByRecursion-push Good so_far a all good }
 
+module _ {A : Type 0} {Good : A → Type 0} {p : Vlog A} (item : Kept p Good) (close : Vlog (Unit {0})) where
   pub kept_commas : (so_far : List A) → AreSome Good so_far → Kept (commas p close so_far) (AreSome Good)
   unfolding commas
   kept_commas so_far some =
-      kept_while (AreSome Good) _ _ _ (λ s are x c is h. kept_then item (λ a good. kept_gives (s ++ a ∷ []) (some_push s a are.all good))) (λ s are. kept_after close (λ _. kept_gives s are)) so_far some
+      kept_while (AreSome Good) _ _ _ (λ s are x c is h. kept_then item (λ a good. kept_gives (s ++ a ∷ []) (some_push Good s a are.all good))) (λ s are. kept_after close (λ _. kept_gives s are)) so_far some
 
   pub kept_list : Kept (list p close) (AreSome Good)
   unfolding list
