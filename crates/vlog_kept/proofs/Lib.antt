@@ -4,4 +4,8 @@ pub mod Tokens
 pub mod Kept
 pub mod Expressions
 pub mod Items
+pub mod Starts
 pub mod Modules
+pub mod Bounds
+pub mod ItemSizes
+pub mod FileSizes

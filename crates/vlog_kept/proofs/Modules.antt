@@ -26,32 +26,17 @@ use Rattle.vlog_exprs.specs.Grammar.{mark, keyword, choice, group, groups}
 use Rattle.vlog_items.specs.declared.item.ItemWord.{ItemWord}
 use Rattle.vlog_items.specs.Grammar.{signed, port_kind, item_words}
 use Rattle.vlog_modules.specs.Text.{VlogReads}
-use Rattle.vlog_modules.specs.Grammar.{dir_words, port_rest, port_decl, with_name, with_decl, port_turn, port_decls, name_header, decl_header, some_header, header, param_group, with_set, with_group, more_set, param_turn, param_groups, params_rest, params, ItemStart, at_group, at_module_name, at_word, word_start, at_item, item_rest, items, module_rest, module_of, net_type, directive_of, directive, with_module, with_implicit, PieceStart, at_word_of, at_attributes, at_module, directive_start, module_start, at_piece, piece_rest, pieces, file}
+use Rattle.vlog_modules.specs.Grammar.{dir_words, port_rest, port_decl, with_name, with_decl, port_turn, port_decls, name_header, decl_header, some_header, header, param_group, with_set, with_group, more_set, param_turn, param_groups, params_rest, params, ItemStart, at_group, at_module_name, at_word, word_start, at_item, item_rest, items, module_rest, module_of, net_type, directive_of, directive, with_module, with_implicit, PieceStart, at_piece, piece_rest, pieces, file}
 use Rattle.vlog_kept.specs.Proper.{AreBytes, IsProper}
 use Rattle.vlog_kept.proofs.Tokens.{tokens_sound}
 use Rattle.vlog_kept.proofs.Kept.{Kept, kept_gives, kept_then, kept_after, kept_weaker, kept_if, kept_while, kept_name, taken_name_is, kept_mark, some_push, kept_commas}
+use Rattle.vlog_kept.proofs.Starts.{PortDecls, ParamGroups, SoFar, choose, piece_cases}
 use Rattle.vlog_kept.proofs.Expressions.{kept_maybe_range, kept_constant, kept_group, kept_groups, kept_attrs}
 use Rattle.vlog_kept.proofs.Items.{kept_param_type, kept_param_set, kept_word_item, kept_instances_item, kept_item_of}
 
 -- one item
 one : {A : Type 0} {Good : A → Type 0} {a : A} → Good a → AreSome Good (a ∷ [])
 one is = record { some = omega arith; all = (is, tt) }
-
--- what a part goes on from
-abbrev StateOf : {S A : Type 0} → (S → Vlog A) → Type 0
-StateOf {S = S} part = S
-
--- declarations of ports, of which the last may get further names
-abbrev PortDecls : Type 0
-PortDecls = StateOf port_decls
-
--- groups of parameters, of which the last may get further parameters
-abbrev ParamGroups : Type 0
-ParamGroups = StateOf param_groups
-
--- the modules so far
-abbrev SoFar : Type 0
-SoFar = StateOf pieces
 
 -- ---- the ports of a header
 
@@ -200,46 +185,18 @@ AreModules s = AllByRecursion IsModule s.modules
 module_added : (s : SoFar) (m : Module) → AreModules s → IsModule m → AreModules (with_module s m)
 module_added s m are is = AllByRecursion-push IsModule s.modules m are is
 
-choose : {D : Type 0} (P : Option D → Type 0) (t : Bool) (x y : Option D) → P x → P y → P (cond t x y)
-choose P true x y p q = p
-choose P false x y p q = q
-
 kept_directive : (s : SoFar) → AreModules s → (w : List ℕ) → IfSome (directive_of w) (λ d. Kept (directive s d) AreModules)
 unfolding directive
 kept_directive s are w =
     choose (λ o. IfSome o (λ d. Kept (directive s d) AreModules)) (same_bytes w (codes "`default_nettype")) _ _ (kept_after net_type (λ implicit. kept_gives (with_implicit s implicit) are))
     (choose (λ o. IfSome o (λ d. Kept (directive s d) AreModules)) (same_bytes w (codes "`resetall")) _ _ (kept_gives (with_implicit s true) are) tt)
 
-kept_at_attributes : (s : SoFar) → AreModules s → Kept (piece_rest s at_attributes) AreModules
+kept_piece_rest : (s : SoFar) → AreModules s → (t : VToken) (start : PieceStart) → at_piece t ≡ takes start → Kept (piece_rest s start) AreModules
 unfolding piece_rest
-kept_at_attributes s are =
-    kept_then (kept_then (kept_then (kept_group [] tt) (λ so_far all. kept_groups so_far all)) (λ attrs all. kept_module_of s.implicit attrs all)) (λ m is. kept_gives (with_module s m) (module_added s m are is))
-
-kept_at_module : (s : SoFar) → AreModules s → Kept (piece_rest s at_module) AreModules
-unfolding piece_rest
-kept_at_module s are = kept_then (kept_module_rest s.implicit [] tt) (λ m is. kept_gives (with_module s m) (module_added s m are is))
-
-kept_piece_rest : (s : SoFar) → AreModules s → (w : VToken) (start : PieceStart) → at_piece w ≡ takes start → Kept (piece_rest s start) AreModules
-unfolding piece_rest
-kept_piece_rest s are (token.Directive w) start h = by (directive_of w) start (kept_directive s are w) h
-  where
-    by : (o : Option _) (start : PieceStart) → IfSome o (λ d. Kept (directive s d) AreModules) → directive_start o ≡ takes start → Kept (piece_rest s start) AreModules
-    by (Some d) start is h = let same : at_word_of d ≡ start = cc in subst (λ u. Kept (piece_rest s u) AreModules) same is
-    by None start is h = absurd cc
-kept_piece_rest s are (token.Keyword w) start h = by (same_bytes w (codes "module")) h
-  where
-    by : (t : Bool) → module_start t ≡ takes start → Kept (piece_rest s start) AreModules
-    by true h = let same : at_module ≡ start = cc in subst (λ u. Kept (piece_rest s u) AreModules) same (kept_at_module s are)
-    by false h = absurd cc
-kept_piece_rest s are token.AttrStart start h = let same : at_attributes ≡ start = cc in subst (λ u. Kept (piece_rest s u) AreModules) same (kept_at_attributes s are)
-kept_piece_rest s are (token.Name n) start h = absurd cc
-kept_piece_rest s are (token.Number n) start h = absurd cc
-kept_piece_rest s are (token.Real r) start h = absurd cc
-kept_piece_rest s are (token.Based b) start h = absurd cc
-kept_piece_rest s are (token.Str t) start h = absurd cc
-kept_piece_rest s are (token.Punct b) start h = absurd cc
-kept_piece_rest s are token.AttrStop start h = absurd cc
-kept_piece_rest s are (token.Symbol b) start h = absurd cc
+kept_piece_rest s are =
+    piece_cases (λ start. Kept (piece_rest s start) AreModules) (kept_directive s are)
+    (kept_then (kept_then (kept_then (kept_group [] tt) (λ so_far all. kept_groups so_far all)) (λ attrs all. kept_module_of s.implicit attrs all)) (λ m is. kept_gives (with_module s m) (module_added s m are is)))
+    (kept_then (kept_module_rest s.implicit [] tt) (λ m is. kept_gives (with_module s m) (module_added s m are is)))
 
 kept_file : Kept file IsVlogValue
 unfolding file pieces
