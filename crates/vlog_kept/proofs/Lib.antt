@@ -9,3 +9,5 @@ pub mod Modules
 pub mod Bounds
 pub mod ItemSizes
 pub mod FileSizes
+pub mod TokenCount
+pub mod SizeLaw
