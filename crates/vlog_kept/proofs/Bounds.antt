@@ -1,5 +1,5 @@
 -- What a part spells has no more items than tokens: one fact for each way in which a part is made.
-use Rattle.std.proofs.Common.{◌≡◌, ◌∙◌, refl, ap, ℕ, zero, suc, ◌+◌, ◌≤◌, List, [], ◌∷◌, ◌++◌, length, length-append, Result, inl, inr, arith}
+use Rattle.std.proofs.Common.{◌≡◌, ◌∙◌, refl, ap, ℕ, suc, ◌+◌, ◌≤◌, List, [], ◌∷◌, ◌++◌, length, length-append, Result, inl, inr, arith}
 use Rattle.std.proofs.lemmas.List.Sums.{sum_by_push}
 use Rattle.grammar.specs.Part.{Glance, gives, sequence, takes}
 use Rattle.grammar.specs.Texts.{Spells, Rounds, ends, goes, TakenText}

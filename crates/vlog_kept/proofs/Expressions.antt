@@ -1,11 +1,9 @@
 -- What expressions, constants and attributes spell from the tokens of a text are such as can be written.
-use Rattle.std.proofs.Common.{◌≡◌, ◌∙◌, sym, ap, refl, subst, ℕ, zero, suc, ◌<◌, ◌≤◌, ◌^◌, Bool, true, false, cond, ltb, eqb, ◌&&◌, List, [], ◌∷◌, ◌++◌, map, length, Option, Some, None, Result, Ok, Err, ℤ, pos, negsuc, neg_ℤ, nat_abs, arith}
-use Rattle.std.specs.Prelude.{⊤, IfSome, ◌≤ℤ◌, int_lt, if◌then◌else◌}
+use Rattle.std.proofs.Common.{◌≡◌, ◌∙◌, refl, subst, ℕ, zero, suc, ◌≤◌, Bool, true, false, cond, ltb, eqb, List, [], ◌∷◌, ◌++◌, map, Option, Some, None, Ok, Err, ℤ, pos, negsuc, neg_ℤ, nat_abs, arith}
+use Rattle.std.specs.Prelude.{⊤, IfSome, int_lt}
 use Rattle.std.specs.List.{AllByRecursion, list_all}
 use Rattle.std.proofs.lemmas.Bool.{ltb-true}
-use Rattle.grammar.specs.Part.{Glance, gives, takes, refuses, leaves}
-use Rattle.nl_base.specs.Ranges.{Bounds}
-use Rattle.nl_base.specs.declared.number.Scaled.{Scaled}
+use Rattle.grammar.specs.Part.{Glance, takes, refuses, leaves}
 use Rattle.nl_base.specs.declared.fault.Reason.{Reason}
 use Rattle.nl_base.specs.declared.fault.Reason.TheVariants as reasons
 use Rattle.vlog_values.specs.declared.literal.Based.{Based}
@@ -19,9 +17,8 @@ use Rattle.vlog_values.specs.declared.expression.Expr.{Expr}
 use Rattle.vlog_values.specs.declared.expression.Expr.TheVariants as exprs
 use Rattle.vlog_values.specs.declared.expression.Expr.TheOpen.{Expr-F}
 use Rattle.vlog_values.specs.Bits.{IsBased}
-use Rattle.vlog_values.specs.Values.{AreSome, IsName, IsString, IsNumber, IsCount, IsReal, IsBound, IsRange, IsLiteral, IsConst, IsAttr, AreAttrs, IsSelect, IsExprWithin, IsExpr, is_left}
+use Rattle.vlog_values.specs.Values.{AreSome, IsName, IsNumber, IsCount, IsBound, IsRange, IsLiteral, IsConst, IsAttr, AreAttrs, IsSelect, IsExprWithin, IsExpr, is_left}
 use Rattle.vlog_values.proofs.Values.{is_expr, out-Ref, out-Lit, out-LooseNumber, out-Loose, out-Cat, out-Rep, left-Ref, left-Cat}
-use Rattle.vlog_tokens.specs.declared.token.VFound.{VFound}
 use Rattle.vlog_tokens.specs.declared.token.VToken.{VToken}
 use Rattle.vlog_tokens.specs.declared.token.VToken.TheVariants as token
 use Rattle.vlog_exprs.specs.declared.start.ExprStart.{ExprStart}
@@ -30,26 +27,19 @@ use Rattle.vlog_exprs.specs.declared.start.ConstStart.{ConstStart}
 use Rattle.vlog_exprs.specs.declared.start.ConstStart.TheVariants as const_starts
 use Rattle.vlog_exprs.specs.Language.{Vlog}
 use Rattle.vlog_exprs.specs.Reasons as say
-use Rattle.vlog_exprs.specs.Grammar.{mark, group_end, after, commas, list, bound_number, bound, range_rest, range, maybe_range, select_rest, select, digits, expr_of_number, sized, const_of_number, sized_const, expr_start, expr_rest, expr_by, cat_rest, rep_rest, braced, inside, expr, maybe_expr, const_start, signed, const_rest, constant, attr_value, attr, group, groups, attrs}
-use Rattle.vlog_kept.specs.Proper.{IsProper, IsPlainReal}
+use Rattle.vlog_exprs.specs.Grammar.{mark, group_end, bound_number, bound, range_rest, maybe_range, select_rest, select, digits, expr_of_number, sized, const_of_number, sized_const, expr_start, expr_rest, expr_by, cat_rest, rep_rest, braced, inside, expr, maybe_expr, const_start, signed, const_rest, constant, attr_value, attr, group, groups, attrs}
+use Rattle.vlog_kept.specs.Proper.{IsProper}
+use Rattle.vlog_kept.proofs.Digits.{both}
+use Rattle.vlog_kept.proofs.Tokens.{neg_abs}
 use Rattle.vlog_kept.proofs.Kept.{Kept, kept_gives, kept_then, kept_after, kept_weaker, kept_one, kept_if, kept_while, kept_name, kept_mark, some_push, kept_commas, kept_list}
 
 -- ---- numbers
-
-neg_abs : (n : ℤ) → nat_abs (neg_ℤ n) ≡ nat_abs n
-neg_abs (pos zero) = refl
-neg_abs (pos (suc m)) = refl
-neg_abs (negsuc m) = refl
 
 neg_number : (n : ℤ) → IsNumber n → IsNumber (neg_ℤ n)
 neg_number n h = rw (neg_abs n) h
 
 neg_bound : (n : ℤ) → IsBound n → IsBound (neg_ℤ n)
 neg_bound n h = rw (neg_abs n) h
-
-both : (x y : Bool) → (x && y) ≡ true → (x ≡ true) × (y ≡ true)
-both true y e = (refl, e)
-both false y e = absurd cc
 
 bound_small : (n : ℤ) → say.is_bound n ≡ true → IsBound n
 bound_small (pos m) e = let parts = both (int_lt (negsuc 0) (pos m)) (ltb m 2147483648) e in let lt = ltb-true m 2147483648 parts.1 in omega (arith, lt)

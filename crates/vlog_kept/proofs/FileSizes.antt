@@ -1,22 +1,20 @@
 -- Headers, modules and files have no more items than tokens.
-use Rattle.std.proofs.Common.{◌≡◌, ℕ, suc, ◌+◌, ◌≤◌, Bool, true, false, cond, List, [], ◌∷◌, ◌++◌, length, length-append, Option, Some, None, codes, arith}
+use Rattle.std.proofs.Common.{◌≡◌, ℕ, suc, ◌+◌, ◌≤◌, Bool, true, List, [], ◌∷◌, ◌++◌, length, length-append, codes, arith}
 use Rattle.std.specs.Prelude.{IfSome}
-use Rattle.grammar.specs.Part.{gives, takes}
+use Rattle.grammar.specs.Part.{takes}
 use Rattle.nl_base.specs.Case.{same_bytes}
 use Rattle.nl_base.specs.declared.value.Dir.{Dir}
 use Rattle.vlog_values.specs.declared.expression.Attr.{Attr}
-use Rattle.vlog_values.specs.declared.declaration.PortDecl.{PortDecl}
-use Rattle.vlog_values.specs.declared.declaration.ParamDecl.{ParamDecl}
 use Rattle.vlog_values.specs.declared.module.Header.TheVariants as headers
 use Rattle.vlog_values.specs.declared.module.ItemV.{ItemV}
 use Rattle.vlog_values.specs.declared.module.Module.{Module}
 use Rattle.vlog_values.specs.Sizes.{list_size, port_size, param_size, item_size, header_size, module_size, vlog_size}
 use Rattle.vlog_tokens.specs.declared.token.VToken.{VToken}
-use Rattle.vlog_exprs.specs.Grammar.{name, mark, keyword, choice, maybe_range, constant, group, groups}
+use Rattle.vlog_exprs.specs.Grammar.{name, mark, keyword, choice, maybe_range, constant}
 use Rattle.vlog_items.specs.Grammar.{signed, port_kind, param_type, param_set}
 use Rattle.vlog_modules.specs.Grammar.{dir_words, port_rest, port_decl, with_name, with_decl, port_turn, port_decls, name_header, decl_header, some_header, header, param_group, with_group, more_set, param_turn, param_groups, params_rest, params, ItemStart, at_group, at_module_name, at_word, item_rest, items, module_rest, module_of, net_type, directive_of, directive, with_module, with_implicit, PieceStart, at_piece, piece_rest, pieces, file}
 use Rattle.vlog_kept.proofs.Starts.{PortDecls, ParamGroups, SoFar, choose, piece_cases}
-use Rattle.vlog_kept.proofs.Bounds.{Bounded, bounded_gives, bounded_then, bounded_after, bounded_behind, bounded_more, bounded_less, bounded_pred, bounded_suc, bounded_one, bounded_if, bounded_while, bounded_mark, one_item, bounded_commas, held_none, bounded_free, length_within}
+use Rattle.vlog_kept.proofs.Bounds.{Bounded, bounded_gives, bounded_then, bounded_after, bounded_behind, bounded_more, bounded_pred, bounded_suc, bounded_one, bounded_if, bounded_while, bounded_mark, one_item, bounded_commas, held_none, bounded_free, length_within}
 use Rattle.vlog_kept.proofs.ItemSizes.{bounded_name, bounded_due, bounded_group, bounded_groups, bounded_attrs, bounded_word_item, bounded_instances_item, bounded_item}
 
 -- ---- the ports of a header

@@ -1,6 +1,5 @@
 -- Expressions, attributes and the items of a module have no more items than tokens.
 use Rattle.std.proofs.Common.{ℕ, zero, suc, ◌+◌, ◌≤◌, Bool, true, false, List, [], ◌∷◌, ◌++◌, length, length-append, Option, Some, None, ℤ, pos, arith}
-use Rattle.grammar.specs.Part.{gives}
 use Rattle.nl_base.specs.declared.value.Dir.{Dir}
 use Rattle.vlog_values.specs.declared.literal.Literal.{Literal}
 use Rattle.vlog_values.specs.declared.expression.Attr.{Attr}
@@ -14,7 +13,7 @@ use Rattle.vlog_values.proofs.Sizes.{size-Ref, size-Lit, size-LooseNumber, size-
 use Rattle.vlog_exprs.specs.declared.start.ExprStart.{ExprStart}
 use Rattle.vlog_exprs.specs.declared.start.ExprStart.TheVariants as starts
 use Rattle.vlog_exprs.specs.Language.{Vlog}
-use Rattle.vlog_exprs.specs.Grammar.{name, mark, choice, group_end, list, maybe_range, select, digits, expr_of_number, sized, expr_start, expr_rest, expr_by, cat_rest, rep_rest, braced, inside, expr, maybe_expr, constant, attr, group, groups, attrs}
+use Rattle.vlog_exprs.specs.Grammar.{name, mark, choice, group_end, list, maybe_range, select, digits, expr_of_number, sized, expr_start, expr_rest, expr_by, cat_rest, rep_rest, braced, inside, expr, maybe_expr, attr, group, groups, attrs}
 use Rattle.vlog_items.specs.declared.item.ItemWord.{ItemWord}
 use Rattle.vlog_items.specs.declared.item.ItemWord.TheVariants as words
 use Rattle.vlog_items.specs.Grammar.{signed, port_kind, param_type, param_set, port_item, net_item, param_item, assignment, assigns, named_rest, named, order_of, named_conns, ordered_conns, conns, instance, override_set, overrides, instances, def_set, defparams, item_words, word_item, instances_item, item}

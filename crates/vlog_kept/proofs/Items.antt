@@ -1,6 +1,6 @@
 -- What the items of a module spell from the tokens of a text are such as can be written.
-use Rattle.std.proofs.Common.{◌≡◌, ℕ, Bool, true, false, List, [], ◌∷◌, ◌++◌, length, Option, Some, None, arith}
-use Rattle.std.specs.Prelude.{⊤, IfSome}
+use Rattle.std.proofs.Common.{ℕ, true, false, List, [], ◌∷◌, Option, Some, None, arith}
+use Rattle.std.specs.Prelude.{IfSome}
 use Rattle.std.specs.List.{AllByRecursion}
 use Rattle.nl_base.specs.declared.value.Dir.{Dir}
 use Rattle.vlog_values.specs.declared.expression.Attr.{Attr}
@@ -8,8 +8,7 @@ use Rattle.vlog_values.specs.declared.expression.Expr.{Expr}
 use Rattle.vlog_values.specs.declared.declaration.NetKind.{NetKind}
 use Rattle.vlog_values.specs.declared.statement.Conns.TheVariants as conns_of
 use Rattle.vlog_values.specs.declared.module.ItemV.TheVariants as items
-use Rattle.vlog_values.specs.Values.{AreSome, IsName, IsConst, AreAttrs, IsExpr, IsRange, IsPortDecl, IsNetDecl, IsParamType, IsParamSet, IsParamDecl, IsNamedConn, IsLoneOpen, IsConns, IsInstance, AreInstances, IsAssignment, AreAssigns, IsDefSet, AreDefparams, IsItem}
-use Rattle.vlog_exprs.specs.Reasons as say
+use Rattle.vlog_values.specs.Values.{IsName, AreAttrs, IsExpr, IsPortDecl, IsNetDecl, IsParamType, IsParamSet, IsParamDecl, IsNamedConn, IsConns, IsInstance, AreInstances, IsAssignment, AreAssigns, IsDefSet, AreDefparams, IsItem}
 use Rattle.vlog_exprs.specs.Grammar.{mark, choice}
 use Rattle.vlog_items.specs.declared.item.ItemWord.{ItemWord}
 use Rattle.vlog_items.specs.declared.item.ItemWord.TheVariants as words

@@ -1,8 +1,8 @@
 -- What the values keep that a part spells from the tokens of a text: one fact for each way in which a part is made.
-use Rattle.std.proofs.Common.{◌≡◌, sym, refl, subst, ℕ, suc, ◌≤◌, Bool, true, false, cond, List, [], ◌∷◌, ◌++◌, length, length-append, Option, Some, None, Result, Ok, Err, ℤ, inl, inr, arith, nat_eq}
-use Rattle.std.specs.Prelude.{IfSome, if◌then◌else◌, option_map}
+use Rattle.std.proofs.Common.{◌≡◌, sym, subst, ℕ, Bool, true, false, cond, List, [], ◌∷◌, ◌++◌, length-append, Option, Some, None, Result, Ok, ℤ, inl, inr, arith}
+use Rattle.std.specs.Prelude.{IfSome, option_map}
 use Rattle.std.specs.List.{AllByRecursion, find}
-use Rattle.grammar.specs.Part.{Glance, gives, sequence, takes, leaves}
+use Rattle.grammar.specs.Part.{Glance, gives, sequence, takes}
 use Rattle.grammar.specs.Texts.{Spells, Rounds, ends, goes, TakenText}
 use Rattle.grammar.specs.Whole.{Terminal, proper, end}
 use Rattle.nl_base.specs.Case.{same_bytes}
@@ -17,7 +17,7 @@ use Rattle.vlog_tokens.specs.declared.token.VToken.TheVariants as token
 use Rattle.vlog_exprs.specs.Language.{NoContext, Vlog}
 use Rattle.vlog_exprs.specs.Reasons as say
 use Rattle.vlog_exprs.specs.Grammar.{name, number, after, commas, list}
-use Rattle.vlog_kept.specs.Proper.{IsProper, IsSound, AreSound}
+use Rattle.vlog_kept.specs.Proper.{IsProper, AreSound}
 
 -- What the part spells from tokens of a text is good.
 pub record Kept {A : Type 0} (part : Vlog A) (Good : A → Type 0) : Type 0 where

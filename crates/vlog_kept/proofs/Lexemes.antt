@@ -1,17 +1,16 @@
 -- What names, numbers, reals, based literals and directives keep of the bytes that they are scanned from.
-use Rattle.std.proofs.Common.{◌≡◌, ◌∙◌, sym, ap, subst, refl, ℕ, zero, suc, ◌+◌, ◌-◌, ◌<◌, ◌≤◌, ◌^◌, Bool, true, false, cond, ltb, leb, eqb, ◌||◌, ◌&&◌, List, [], ◌∷◌, ◌++◌, length, drop, Option, Some, None, Result, Ok, Err, IsTrue, arith, length-append, append_assoc, append-nil, ℤ, pos, neg_ℤ, nat_abs, if◌then◌else◌}
-use Rattle.std.specs.Prelude.{⊤, IfOk, IfSome, ◌≤ℤ◌}
+use Rattle.std.proofs.Common.{◌≡◌, ◌∙◌, sym, ap, subst, refl, ℕ, ◌+◌, ◌<◌, ◌≤◌, Bool, true, false, cond, leb, eqb, ◌||◌, List, [], ◌∷◌, ◌++◌, length, Option, Some, None, Result, arith, length-append, append_assoc, append-nil}
+use Rattle.std.specs.Prelude.{⊤, IfOk}
 use Rattle.std.specs.Char.{is_ascii_digit, is_ascii_alphabetic}
-use Rattle.std.specs.List.{AllByRecursion, list_all, filter}
-use Rattle.std.proofs.lemmas.Bool.{ltb-true, leb-false}
+use Rattle.std.specs.List.{list_all, filter}
+use Rattle.std.proofs.lemmas.Bool.{leb-false}
 use Rattle.std.proofs.lemmas.Bool.Decides.{nat_tests}
-use Rattle.nl_base.specs.declared.number.Scaled.{Scaled}
-use Rattle.nl_base.specs.declared.fault.Reason.TheVariants.{EndOfInput, BadByte, TokenTooLong}
+use Rattle.nl_base.specs.declared.fault.Reason.TheVariants.{EndOfInput, TokenTooLong}
 use Rattle.nl_bytes.specs.Classes.{is_verilog_space, is_name_byte, is_graphic, is_number_byte, is_based_byte, is_word_byte}
 use Rattle.nl_bytes.proofs.Uses.{AllByRecursion-push}
 use Rattle.vlog_values.specs.declared.literal.Base.{Base}
 use Rattle.vlog_values.specs.declared.literal.Base.TheVariants.{Binary, Octal, Decimal, Hex}
-use Rattle.vlog_values.specs.Bits.{AreDigits, IsBased, based_length}
+use Rattle.vlog_values.specs.Bits.{AreDigits, IsBased}
 use Rattle.vlog_values.specs.Values.{IsName}
 use Rattle.vlog_tokens.specs.declared.phase.Phase.{Phase}
 use Rattle.vlog_tokens.specs.declared.phase.Phase.TheVariants as phases
@@ -19,7 +18,7 @@ use Rattle.vlog_tokens.specs.declared.phase.Step.{Step}
 use Rattle.vlog_tokens.specs.declared.phase.Step.TheVariants.{Keep, Pass, Ends, Bad}
 use Rattle.vlog_tokens.specs.Flaws.{Piece, Flaw, flaw}
 use Rattle.vlog_tokens.specs.Phases.{next_step, based_step, letter_step, first_digit, base_of, is_digit, is_open, is_mark, is_sign, is_complete, most_of}
-use Rattle.vlog_tokens.specs.Scanning.{Lexeme, scan_at, stepped, ended, kept}
+use Rattle.vlog_tokens.specs.Scanning.{Lexeme, scan_at, stepped, ended}
 use Rattle.vlog_tokens.specs.Items.{is_signed, is_kept, digits_of, has_value}
 use Rattle.vlog_kept.proofs.Digits.{may_stand, begins_kept, first_kept, begins_push, all_push, is_left_out, few_kept, digits_kept, open_digits}
 

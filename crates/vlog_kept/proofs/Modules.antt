@@ -1,8 +1,8 @@
 -- What headers, modules and files spell from the tokens of a text are such as can be written.
-use Rattle.std.proofs.Common.{◌≡◌, refl, subst, ℕ, Bool, true, false, cond, List, [], ◌∷◌, ◌++◌, length, length-append, Option, Some, None, codes, arith}
+use Rattle.std.proofs.Common.{◌≡◌, refl, subst, ℕ, Bool, true, List, [], ◌∷◌, ◌++◌, Option, Some, None, codes, arith}
 use Rattle.std.specs.Prelude.{⊤, IfSome}
 use Rattle.std.specs.List.{AllByRecursion}
-use Rattle.grammar.specs.Part.{takes, gives}
+use Rattle.grammar.specs.Part.{takes}
 use Rattle.grammar.specs.Whole.{whole, the_end}
 use Rattle.nl_base.specs.Case.{same_bytes}
 use Rattle.nl_base.specs.Place.{place_at_start}
@@ -16,20 +16,19 @@ use Rattle.vlog_values.specs.declared.module.Header.TheVariants as headers
 use Rattle.vlog_values.specs.declared.module.ItemV.{ItemV}
 use Rattle.vlog_values.specs.declared.module.Module.{Module}
 use Rattle.vlog_values.specs.declared.module.VlogFile.{VlogFile}
-use Rattle.vlog_values.specs.Values.{AreSome, IsName, AreAttrs, IsPortDecl, IsParamSet, IsParamDecl, IsParamGroup, IsItem, IsHeader, IsModule, IsVlogValue}
+use Rattle.vlog_values.specs.Values.{AreSome, IsName, AreAttrs, IsPortDecl, IsParamSet, IsParamGroup, IsItem, IsHeader, IsModule, IsVlogValue}
 use Rattle.vlog_tokens.specs.declared.token.VToken.{VToken}
 use Rattle.vlog_tokens.specs.declared.token.VToken.TheVariants as token
 use Rattle.vlog_tokens.specs.Language.{stream_from}
-use Rattle.vlog_exprs.specs.Language.{Vlog}
 use Rattle.vlog_exprs.specs.Reasons as say
-use Rattle.vlog_exprs.specs.Grammar.{mark, keyword, choice, group, groups}
+use Rattle.vlog_exprs.specs.Grammar.{mark, keyword, choice}
 use Rattle.vlog_items.specs.declared.item.ItemWord.{ItemWord}
 use Rattle.vlog_items.specs.Grammar.{signed, port_kind, item_words}
 use Rattle.vlog_modules.specs.Text.{VlogReads}
 use Rattle.vlog_modules.specs.Grammar.{dir_words, port_rest, port_decl, with_name, with_decl, port_turn, port_decls, name_header, decl_header, some_header, header, param_group, with_set, with_group, more_set, param_turn, param_groups, params_rest, params, ItemStart, at_group, at_module_name, at_word, word_start, at_item, item_rest, items, module_rest, module_of, net_type, directive_of, directive, with_module, with_implicit, PieceStart, at_piece, piece_rest, pieces, file}
 use Rattle.vlog_kept.specs.Proper.{AreBytes, IsProper}
 use Rattle.vlog_kept.proofs.Tokens.{tokens_sound}
-use Rattle.vlog_kept.proofs.Kept.{Kept, kept_gives, kept_then, kept_after, kept_weaker, kept_if, kept_while, kept_name, taken_name_is, kept_mark, some_push, kept_commas}
+use Rattle.vlog_kept.proofs.Kept.{Kept, kept_gives, kept_then, kept_after, kept_if, kept_while, kept_name, taken_name_is, kept_mark, some_push, kept_commas}
 use Rattle.vlog_kept.proofs.Starts.{PortDecls, ParamGroups, SoFar, choose, piece_cases}
 use Rattle.vlog_kept.proofs.Expressions.{kept_maybe_range, kept_constant, kept_group, kept_groups, kept_attrs}
 use Rattle.vlog_kept.proofs.Items.{kept_param_type, kept_param_set, kept_word_item, kept_instances_item, kept_item_of}

@@ -1,5 +1,5 @@
 -- The size of a file that was read.
-use Rattle.std.proofs.Common.{◌∙◌, ap, ℕ, suc, ◌+◌, ◌<◌, ◌≤◌, List, length, length-append, arith}
+use Rattle.std.proofs.Common.{◌∙◌, ap, ℕ, ◌+◌, ◌<◌, ◌≤◌, List, length, length-append, arith}
 use Rattle.grammar.specs.Texts.{Spells}
 use Rattle.grammar.specs.Whole.{Terminal, whole, the_end}
 use Rattle.nl_base.specs.declared.place.Place.{Place}

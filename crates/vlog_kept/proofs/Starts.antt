@@ -1,5 +1,5 @@
 -- What the parts of a file go on from, and with what a directive or a module begins.
-use Rattle.std.proofs.Common.{◌≡◌, subst, ℕ, Bool, true, false, cond, List, [], ◌∷◌, Option, Some, None, codes}
+use Rattle.std.proofs.Common.{◌≡◌, subst, ℕ, Bool, true, false, cond, List, Option, Some, None, codes}
 use Rattle.std.specs.Prelude.{IfSome}
 use Rattle.grammar.specs.Part.{takes}
 use Rattle.nl_base.specs.Case.{same_bytes}

@@ -1,13 +1,11 @@
 -- Each token of a text of bytes is one that a text can have.
-use Rattle.std.proofs.Common.{◌≡◌, ◌∙◌, sym, ap, subst, refl, ℕ, zero, suc, ◌+◌, ◌-◌, ◌*◌, ◌<◌, ◌≤◌, ◌^◌, Bool, true, false, cond, ltb, leb, eqb, ◌||◌, ◌&&◌, List, [], ◌∷◌, ◌++◌, length, drop, Option, Some, None, Result, Ok, Err, arith, length-append, ℤ, pos, neg_ℤ, nat_abs}
+use Rattle.std.proofs.Common.{◌≡◌, refl, ℕ, zero, suc, ◌+◌, ◌-◌, ◌*◌, ◌<◌, ◌≤◌, ◌^◌, Bool, true, false, cond, ltb, leb, eqb, ◌||◌, ◌&&◌, List, [], ◌∷◌, ◌++◌, length, drop, Option, Some, None, Result, Ok, Err, arith, length-append, ℤ, pos, negsuc, neg_ℤ, nat_abs}
 use Rattle.std.specs.Prelude.{⊤, IfOk, IfSome, ◌≤ℤ◌, codes}
 use Rattle.std.specs.Char.{is_ascii_digit, is_ascii_alphabetic}
-use Rattle.std.specs.List.{AllByRecursion}
 use Rattle.std.proofs.lemmas.Bool.{ltb-true, ltb-false, leb-false}
-use Rattle.std.proofs.lemmas.Bool.Decides.{nat_tests}
 use Rattle.grammar.specs.Whole.{Terminal, proper, end, Finish, Done, Bad, Over}
 use Rattle.nl_base.specs.Case.{same_bytes}
-use Rattle.nl_base.specs.Place.{place_after, place_at_start}
+use Rattle.nl_base.specs.Place.{place_after}
 use Rattle.nl_base.specs.declared.place.Place.{Place}
 use Rattle.nl_base.specs.declared.number.Scaled.{Scaled}
 use Rattle.nl_base.specs.declared.fault.TextFault.{TextFault}
@@ -20,9 +18,8 @@ use Rattle.readers.specs.Sources.{Ahead, follow, only_end, no_token}
 use Rattle.vlog_values.specs.declared.literal.Base.{Base}
 use Rattle.vlog_values.specs.declared.literal.Base.TheVariants.{Decimal}
 use Rattle.vlog_values.specs.Bits.{IsBased}
-use Rattle.vlog_values.specs.Values.{IsName, IsString, IsNumber, IsCount, IsReal}
+use Rattle.vlog_values.specs.Values.{IsString, IsNumber, IsCount}
 use Rattle.vlog_tokens.specs.declared.token.VFound.{VFound}
-use Rattle.vlog_tokens.specs.declared.token.VToken.{VToken}
 use Rattle.vlog_tokens.specs.declared.token.VToken.TheVariants as token
 use Rattle.vlog_tokens.specs.declared.item.Item.{Item}
 use Rattle.vlog_tokens.specs.declared.item.Item.TheVariants.{Blank, Line, Token}
@@ -30,26 +27,26 @@ use Rattle.vlog_tokens.specs.declared.phase.Phase.{Phase}
 use Rattle.vlog_tokens.specs.declared.phase.Phase.TheVariants as phases
 use Rattle.vlog_tokens.specs.declared.start.Start.{Start}
 use Rattle.vlog_tokens.specs.declared.start.Start.TheVariants as starts
-use Rattle.vlog_tokens.specs.declared.mark.Twin.{Twin}
-use Rattle.vlog_tokens.specs.declared.mark.Twin.TheVariants as twins
 use Rattle.vlog_tokens.specs.declared.string.Escaped.{Escaped}
 use Rattle.vlog_tokens.specs.declared.string.Escaped.TheVariants.{Stands, Octal, NoEscape, NoByte}
 use Rattle.vlog_tokens.specs.Flaws.{Piece, Flaw, flaw, ◌>>=◌}
 use Rattle.vlog_tokens.specs.Keywords.{is_keyword}
 use Rattle.vlog_tokens.specs.Numbers.{decimal_value, digit_count, signed_number, lowered, number_of, real_of, exponent_of, scaled_by, before_mark, from_mark, after_point, is_negative}
-use Rattle.vlog_tokens.specs.Items.{item_of, word_item, number_item, real_item, based_item, directive_item, has_value, is_signed, digits_of, finish, finished}
-use Rattle.vlog_tokens.specs.Scanning.{Lexeme, scan_at, kept, begun}
+use Rattle.vlog_tokens.specs.Items.{item_of, number_item, real_item, based_item, directive_item, has_value, is_signed, digits_of, finish, finished}
+use Rattle.vlog_tokens.specs.Scanning.{Lexeme, scan_at, kept}
 use Rattle.vlog_tokens.specs.Strings.{Within, Parts, Escape, Code, is_octal, escaped_by, is_full, part_by, escape_by, with_code, string_at}
-use Rattle.vlog_tokens.specs.Spelling.{lexeme_spelled, str_of, string_spelled, comment_at, alone, pair_by, second_of, both_of, single_of, twin_by, slash_by, is_mark, is_symbol, start_of, item_by, item_at}
+use Rattle.vlog_tokens.specs.Spelling.{lexeme_spelled, str_of, comment_at, pair_by, slash_by, is_mark, is_symbol, start_of, item_by, item_at}
 use Rattle.vlog_tokens.specs.Language.{then_tokens, then_items, tokens_from, limited_finish, limited_from, limited, stream_from, with_line}
-use Rattle.vlog_kept.specs.Proper.{AreBytes, IsPlainReal, IsProper, IsSound, AreSound}
+use Rattle.vlog_kept.specs.Proper.{AreBytes, IsPlainReal, IsProper, AreSound}
 use Rattle.vlog_kept.proofs.Lexemes.{IsSoFar, IsScanned, letter_bounds, name_of_one, scan_good, based_digits, based_open}
 
 -- ---- numbers
 
-neg_abs : (m : ℕ) → nat_abs (neg_ℤ (pos m)) ≡ m
-neg_abs zero = refl
-neg_abs (suc m) = refl
+-- a sign changes no absolute value
+pub neg_abs : (n : ℤ) → nat_abs (neg_ℤ n) ≡ nat_abs n
+neg_abs (pos zero) = refl
+neg_abs (pos (suc m)) = refl
+neg_abs (negsuc m) = refl
 
 not_negative : (m : ℕ) → pos 0 ≤ℤ pos m
 not_negative m = grind arith
@@ -65,7 +62,7 @@ signed_good : (negative : Bool) (m : ℕ) → IfSome (signed_number negative m) 
 signed_good negative m = go (ltb m (2 ^ 63)) refl
   where
     by : (s : Bool) → m < 2 ^ 63 → IsNumber (cond s (neg_ℤ (pos m)) (pos m))
-    by true lt = rw (neg_abs m) lt
+    by true lt = rw (neg_abs (pos m)) lt
     by false lt = lt
 
     go : (t : Bool) → ltb m (2 ^ 63) ≡ t → IfSome (cond t (Some (cond negative (neg_ℤ (pos m)) (pos m))) None) IsNumber
