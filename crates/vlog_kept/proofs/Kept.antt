@@ -1,5 +1,5 @@
 -- What the values keep that a part spells from the tokens of a text: one fact for each way in which a part is made.
-use Rattle.std.proofs.Common.{◌≡◌, sym, subst, ℕ, Bool, true, false, cond, List, [], ◌∷◌, ◌++◌, length-append, Option, Some, None, Result, Ok, ℤ, inl, inr, arith}
+use Rattle.std.proofs.Common.{◌≡◌, sym, subst, ℕ, Bool, true, false, cond, List, [], ◌∷◌, ◌++◌, length-append, Option, Some, None, Result, Ok, inl, inr, arith}
 use Rattle.std.specs.Prelude.{IfSome, option_map}
 use Rattle.std.specs.List.{AllByRecursion, find}
 use Rattle.grammar.specs.Part.{Glance, gives, sequence, takes}
@@ -10,13 +10,13 @@ use Rattle.nl_base.specs.declared.place.Place.{Place}
 use Rattle.nl_base.specs.declared.fault.Reason.{Reason}
 use Rattle.nl_bytes.proofs.Uses.{AllByRecursion-push}
 use Rattle.readers.specs.Parts.{at_token, of_token, one, if_next, while_next}
-use Rattle.vlog_values.specs.Values.{AreSome, IsName, IsCount}
+use Rattle.vlog_values.specs.Values.{AreSome, IsName}
 use Rattle.vlog_tokens.specs.declared.token.VFound.{VFound}
 use Rattle.vlog_tokens.specs.declared.token.VToken.{VToken}
 use Rattle.vlog_tokens.specs.declared.token.VToken.TheVariants as token
 use Rattle.vlog_exprs.specs.Language.{NoContext, Vlog}
 use Rattle.vlog_exprs.specs.Reasons as say
-use Rattle.vlog_exprs.specs.Grammar.{name, number, after, commas, list}
+use Rattle.vlog_exprs.specs.Grammar.{name, after, commas, list}
 use Rattle.vlog_kept.specs.Proper.{IsProper, AreSound}
 
 -- What the part spells from tokens of a text is good.
@@ -122,24 +122,8 @@ taken_name_is token.AttrStop n is h = absurd cc
 taken_name_is (token.Symbol b) n is h = absurd cc
 taken_name_is (token.Directive w) n is h = absurd cc
 
-number_is : (t : VToken) (n : ℤ) → IsProper t → say.number_of t ≡ Ok n → IsCount n
-number_is (token.Number m) n is h = let same : m ≡ n = cc in subst IsCount same is
-number_is (token.Name m) n is h = absurd cc
-number_is (token.Keyword w) n is h = absurd cc
-number_is (token.Real r) n is h = absurd cc
-number_is (token.Based d) n is h = absurd cc
-number_is (token.Str s) n is h = absurd cc
-number_is (token.Punct b) n is h = absurd cc
-number_is token.AttrStart n is h = absurd cc
-number_is token.AttrStop n is h = absurd cc
-number_is (token.Symbol b) n is h = absurd cc
-number_is (token.Directive w) n is h = absurd cc
-
 pub kept_name : Kept name IsName
 kept_name = kept_one _ (λ x n is h. name_is x.token n is h)
-
-pub kept_number : Kept number IsCount
-kept_number = kept_one _ (λ x n is h. number_is x.token n is h)
 
 -- ---- keywords with a value each
 

@@ -8,7 +8,7 @@ use Rattle.vlog_tokens.specs.declared.token.VToken.TheVariants as token
 use Rattle.vlog_exprs.specs.Language.{Vlog}
 use Rattle.vlog_modules.specs.Grammar.{port_decls, param_groups, pieces, PieceStart, at_word_of, at_attributes, at_module, directive_of, directive_start, module_start, at_piece}
 
--- what a part goes on from
+-- what a part goes on from: a type that stands in the signature of the part, and that its crate does not name to others
 abbrev pub StateOf : {S A : Type 0} → (S → Vlog A) → Type 0
 StateOf {S = S} part = S
 
@@ -31,6 +31,7 @@ pub choose : {D : Type 0} (P : Option D → Type 0) (t : Bool) (x y : Option D) 
 choose P true x y p q = p
 choose P false x y p q = q
 
+-- what holds at each such beginning
 module _ (P : PieceStart → Type 0) (word : (w : List ℕ) → IfSome (directive_of w) (λ d. P (at_word_of d))) (attributes : P at_attributes) (at_keyword : P at_module) where
   by_word : (w : List ℕ) (start : PieceStart) → directive_start (directive_of w) ≡ takes start → P start
   by_word w start h = by (directive_of w) start (word w) h
