@@ -1,6 +1,9 @@
 pub mod AtMostOne
 pub mod Clear
+mod Costs
+mod FileCosts
 pub mod Items
 pub mod Live
 pub mod Pieces
 pub mod Reading
+pub mod TokenCount

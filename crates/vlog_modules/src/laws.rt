@@ -1,7 +1,9 @@
 // The laws of what a text reads as.
-ghost use Rattle.std.specs.Prelude.{◌≡◌, ℕ, List};
+ghost use Rattle.std.specs.Prelude.{◌≡◌, ◌≤◌, ℕ, List};
+ghost use Rattle.nl_bytes.specs.declared.bytes.TheConstants.{LIMIT};
 ghost use Rattle.nl_base.specs.declared.fault.TextFault.{TextFault};
 ghost use Rattle.vlog_values.specs.declared.module.VlogFile.{VlogFile};
+ghost use Rattle.vlog_values.specs.Sizes.{vlog_size};
 ghost use Rattle.vlog_modules.specs.Text.{VlogReads, VlogFault, VlogCut};
 
 /// A text reads as at most one file.
@@ -19,4 +21,9 @@ pub fn file_or_first_fault()
     ensures reads { (bytes : List ℕ) (file : VlogFile) (fault : TextFault) → VlogReads bytes file → VlogFault bytes fault → ⊥ }
     ensures whole { (bytes : List ℕ) (file : VlogFile) → VlogReads bytes file → VlogCut bytes → ⊥ }
     ensures cut { (bytes : List ℕ) (fault : TextFault) → VlogFault bytes fault → VlogCut bytes → ⊥ }
+{}
+
+/// A file that a text reads as has at most as many items in all its lists as an input has bytes: 268,435,456.
+pub fn file_size()
+    ensures { (bytes : List ℕ) (file : VlogFile) → VlogReads bytes file → vlog_size file ≤ LIMIT }
 {}
