@@ -62,7 +62,7 @@ begins_choice : {A B : Type 0} (words : List (List ℕ × A)) (q : A → Vlog B)
 begins_choice words q = begins_then (ChoiceNext words) (choice words) q (due_choice words)
 
 -- a keyword is next
-keyword_is : (due : List ℕ) (t : VToken) (u : Unit {0}) → say.keyword_of due t ≡ Ok u → t ≡ token.Keyword due
+pub keyword_is : (due : List ℕ) (t : VToken) (u : Unit {0}) → say.keyword_of due t ≡ Ok u → t ≡ token.Keyword due
 keyword_is due (token.Keyword w) u h = by w (same_bytes w due) refl h
   where
     by : (w : List ℕ) (b : Bool) → same_bytes w due ≡ b → say.keyword_of due (token.Keyword w) ≡ Ok u → token.Keyword w ≡ token.Keyword due
@@ -85,7 +85,7 @@ next_keyword due q F x n = let m = first_due (λ _ y. say.keyword_of due y.token
 bracket : Ends (λ _ x. say.mark_of 41 x.token) (token.Punct 41)
 bracket = ends_mark 41 refl
 
-at_name_is : (t : VToken) (n : List ℕ) → say.at_name t ≡ takes n → t ≡ token.Name n
+pub at_name_is : (t : VToken) (n : List ℕ) → say.at_name t ≡ takes n → t ≡ token.Name n
 at_name_is (token.Name m) n h = let e : m ≡ n = cc in ap token.Name e
 at_name_is (token.Keyword w) n h = absurd cc
 at_name_is (token.Punct b) n h = absurd cc

@@ -1,3 +1,4 @@
 pub mod Grammar
+pub mod Productions
 pub mod Starts
 pub mod Text

@@ -1,9 +1,18 @@
-// The laws of what a text reads as.
-ghost use Rattle.std.specs.Prelude.{◌≡◌, ◌≤◌, ℕ, List};
+// The laws of what a text reads as, and of what its tokens spell: the grammar that is read by looking at one token has the texts of the
+// extended BNF.
+ghost use Rattle.std.specs.Prelude.{◌≡◌, ◌≤◌, ◌↔◌, ℕ, true, List, []};
+ghost use Rattle.grammar.specs.Texts.{Spells};
 ghost use Rattle.nl_bytes.specs.declared.bytes.TheConstants.{LIMIT};
 ghost use Rattle.nl_base.specs.declared.fault.TextFault.{TextFault};
 ghost use Rattle.vlog_values.specs.declared.module.VlogFile.{VlogFile};
+ghost use Rattle.vlog_values.specs.declared.declaration.PortDecl.{PortDecl};
+ghost use Rattle.vlog_values.specs.declared.declaration.ParamDecl.{ParamDecl};
+ghost use Rattle.vlog_values.specs.declared.module.Header.TheVariants.{Decls};
+ghost use Rattle.vlog_values.specs.declared.module.ItemV.{ItemV};
 ghost use Rattle.vlog_values.specs.Sizes.{vlog_size};
+ghost use Rattle.vlog_exprs.specs.Expressions.{Tokens};
+ghost use Rattle.vlog_modules.specs.Grammar as grammar;
+ghost use Rattle.vlog_modules.specs.Productions.{DeclsText, GroupsText, ItemsText, FileText};
 ghost use Rattle.vlog_modules.specs.Text.{VlogReads, VlogFault, VlogCut};
 
 /// A text reads as at most one file.
@@ -26,4 +35,24 @@ pub fn file_or_first_fault()
 /// A file that a text reads as has at most as many items in all its lists as an input has bytes: 268,435,456.
 pub fn file_size()
     ensures { (bytes : List ℕ) (file : VlogFile) → VlogReads bytes file → vlog_size file ≤ LIMIT }
+{}
+
+/// The tokens that read as the declarations of a header, behind its `(`, are those that the extended BNF has for them.
+pub fn declaration_texts()
+    ensures { (ts : Tokens) (ds : List PortDecl) → Spells tt grammar.decl_header ts (Decls ds) ↔ DeclsText ts ds }
+{}
+
+/// The tokens that read as the parameters of a header, behind its `#`, are those that the extended BNF has for them.
+pub fn parameter_texts()
+    ensures { (ts : Tokens) (gs : List ParamDecl) → Spells tt grammar.params_rest ts gs ↔ GroupsText ts gs }
+{}
+
+/// The tokens that read as the items of a module, up to its `endmodule`, are those that the extended BNF has for them.
+pub fn item_texts()
+    ensures { (ts : Tokens) (is : List ItemV) → Spells tt (grammar.items []) ts is ↔ ItemsText ts is }
+{}
+
+/// The tokens that read as a file are those that the extended BNF has for it.
+pub fn file_texts()
+    ensures { (ts : Tokens) (file : VlogFile) → Spells tt grammar.file ts file ↔ FileText true ts file.modules }
 {}

@@ -132,6 +132,17 @@ fn texts_are_refused_at_their_first_fault(rt: HostRuntime) -> Result<(), Fail> {
             (1, 13),
             b"Unexpected".as_slice(),
         ),
+    ] {
+        let mut source = source_of(alloc, text)?;
+        assert_eq!(rt; fault_of(alloc, &mut source, reason), place);
+    }
+    Ok(())
+}
+
+#[test]
+fn texts_are_refused_within_a_module(rt: HostRuntime) -> Result<(), Fail> {
+    let alloc = rt.alloc();
+    for (text, place, reason) in [
         (
             b"module m; wire [2147483648:0] n; endmodule".as_slice(),
             (1, 17),
