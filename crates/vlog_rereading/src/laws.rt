@@ -4,6 +4,7 @@ ghost use Rattle.nl_bytes.specs.declared.bytes.TheConstants.{LIMIT};
 ghost use Rattle.vlog_values.specs.Values.{IsVlogValue};
 ghost use Rattle.vlog_values.specs.declared.module.VlogFile.{VlogFile};
 ghost use Rattle.vlog_modules.specs.Text.{VlogReads};
+ghost use Rattle.vlog_kept.specs.Proper.{AreBytes};
 ghost use Rattle.vlog_writer.specs.Forms.{vlog_text};
 ghost use Rattle.vlog_rereading.specs.Whole.{VlogSpells};
 
@@ -11,4 +12,11 @@ ghost use Rattle.vlog_rereading.specs.Whole.{VlogSpells};
 pub fn reads_back()
     ensures spells { (file : VlogFile) → IsVlogValue file → VlogSpells (vlog_text file) file }
     ensures reads { (file : VlogFile) → IsVlogValue file → length (vlog_text file) ≤ LIMIT → VlogReads (vlog_text file) file }
+{}
+
+/// What is written of a file that some bytes read as spells that file, and reads as it within the limit of an input. So the normal text of a
+/// file that was read is its own normal text.
+pub fn files_read_are_written()
+    ensures spells { (bytes : List ℕ) (file : VlogFile) → AreBytes bytes → VlogReads bytes file → VlogSpells (vlog_text file) file }
+    ensures again { (bytes : List ℕ) (file : VlogFile) → AreBytes bytes → VlogReads bytes file → length (vlog_text file) ≤ LIMIT → VlogReads (vlog_text file) file }
 {}

@@ -1,0 +1,13 @@
+pub mod Digits
+pub mod Lexemes
+pub mod Tokens
+pub mod Kept
+pub mod Expressions
+pub mod Items
+pub mod Starts
+pub mod Modules
+pub mod Bounds
+pub mod ItemSizes
+pub mod FileSizes
+pub mod TokenCount
+pub mod SizeLaw
