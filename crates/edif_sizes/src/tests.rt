@@ -14,7 +14,8 @@ fn size_of(alloc: Global, source: &mut MemSource) -> u64 {
 
 #[test]
 fn file_is_read(rt: HostRuntime) -> Result<(), Fail> {
-    let text = b"(edif a(edifVersion 2 0 0)(edifLevel 0)(keywordMap(keywordLevel 0))(comment \"a\" \"b\")(userData u(x(y z))))";
+    let text =
+        b"(edif a(edifVersion 2 0 0)(edifLevel 0)(keywordMap(keywordLevel 0))(comment \"a\" \"b\")(userData u(x(y z))))";
     let pieces = vec![in rt.alloc(); Vec::from_slice(rt.alloc(), text)?]?;
     let mut source = MemSource::new(pieces, Vec::new(rt.alloc()));
     assert_eq!(rt; size_of(rt.alloc(), &mut source), 9);
