@@ -29,9 +29,17 @@ fn items_are_read(rt: HostRuntime) -> Result<(), Fail> {
     for (text, kind, count) in [
         (b"input wire signed [3:0] a, b;".as_slice(), 1, 2),
         (b"(* k = 1 *) supply0 g;".as_slice(), 2, 1),
-        (b"parameter [3:0] A = 4'h3, B = 1.5, C = \"c\";".as_slice(), 3, 3),
+        (
+            b"parameter [3:0] A = 4'h3, B = 1.5, C = \"c\";".as_slice(),
+            3,
+            3,
+        ),
         (b"assign {a, b[1]} = {2{c}}, d = 1'b0;".as_slice(), 4, 2),
-        (b"L #(.A(1), .B(2)) u (.x(a), .y()), v (a, );".as_slice(), 5, 2),
+        (
+            b"L #(.A(1), .B(2)) u (.x(a), .y()), v (a, );".as_slice(),
+            5,
+            2,
+        ),
         (b"defparam u.A = 2, v.B = 'h3;".as_slice(), 6, 2),
         (b"assign 1'b0 = a;".as_slice(), 0, 0),
         (b"L #(1) u ();".as_slice(), 0, 0),

@@ -164,6 +164,7 @@ digits_read base d ds all value = record {
   item = λ text e. rw (e, value) refl;
   kept_are = all_kept base (d ∷ ds) all;
 }
+
 open_read : (d : ℕ) → is_open d ≡ true → ReadAs Decimal (d ∷ [])
 unfolding most_of item_of decimal_value is_complete
 open_read d h = record {

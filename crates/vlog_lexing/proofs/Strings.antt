@@ -93,12 +93,15 @@ read_byte b small = by_plain (is_plain b) refl
     by_tab : (w : Bool) → (b == 9) ≡ w → ReadsByte (92 ∷ (if w then 116 ∷ [] else octal b)) b
     by_tab true e = rw (eqb-true b 9 e) (sign_byte 116 9 refl)
     by_tab false e = octal_byte b small
+
     by_line : (w : Bool) → (b == 10) ≡ w → ReadsByte (92 ∷ (if w then 110 ∷ [] else (if b == 9 then 116 ∷ [] else octal b))) b
     by_line true e = rw (eqb-true b 10 e) (sign_byte 110 10 refl)
     by_line false e = by_tab (b == 9) refl
+
     by_itself : (w : Bool) → (b == 34 || b == 92) ≡ w → ReadsByte (92 ∷ (if w then b ∷ [] else (if b == 10 then 110 ∷ [] else (if b == 9 then 116 ∷ [] else octal b)))) b
     by_itself true e = sign_byte b b (itself b e)
     by_itself false e = by_line (b == 10) refl
+
     by_plain : (w : Bool) → is_plain b ≡ w → ReadsByte (if is_plain b then b ∷ [] else 92 ∷ escape_of b) b
     by_plain true e = rw e (plain_byte b e)
     by_plain false e = rw e (by_itself (b == 34 || b == 92) refl)

@@ -1,7 +1,5 @@
 pub mod AtMostOne
 pub mod Clear
-mod Costs
-mod FileCosts
 pub mod FileTexts
 pub mod GroupTexts
 pub mod HeaderTexts
@@ -9,4 +7,3 @@ pub mod Items
 pub mod Live
 pub mod Pieces
 pub mod Reading
-pub mod TokenCount

@@ -1,15 +1,13 @@
 // The laws of what a text reads as, and of what its tokens spell: the grammar that is read by looking at one token has the texts of the
 // extended BNF.
-ghost use Rattle.std.specs.Prelude.{◌≡◌, ◌≤◌, ◌↔◌, ℕ, true, List, []};
+ghost use Rattle.std.specs.Prelude.{◌≡◌, ◌↔◌, ℕ, true, List, []};
 ghost use Rattle.grammar.specs.Texts.{Spells};
-ghost use Rattle.nl_bytes.specs.declared.bytes.TheConstants.{LIMIT};
 ghost use Rattle.nl_base.specs.declared.fault.TextFault.{TextFault};
 ghost use Rattle.vlog_values.specs.declared.module.VlogFile.{VlogFile};
 ghost use Rattle.vlog_values.specs.declared.declaration.PortDecl.{PortDecl};
 ghost use Rattle.vlog_values.specs.declared.declaration.ParamDecl.{ParamDecl};
 ghost use Rattle.vlog_values.specs.declared.module.Header.TheVariants.{Decls};
 ghost use Rattle.vlog_values.specs.declared.module.ItemV.{ItemV};
-ghost use Rattle.vlog_values.specs.Sizes.{vlog_size};
 ghost use Rattle.vlog_exprs.specs.Expressions.{Tokens};
 ghost use Rattle.vlog_modules.specs.Grammar as grammar;
 ghost use Rattle.vlog_modules.specs.Productions.{DeclsText, GroupsText, ItemsText, FileText};
@@ -30,11 +28,6 @@ pub fn file_or_first_fault()
     ensures reads { (bytes : List ℕ) (file : VlogFile) (fault : TextFault) → VlogReads bytes file → VlogFault bytes fault → ⊥ }
     ensures whole { (bytes : List ℕ) (file : VlogFile) → VlogReads bytes file → VlogCut bytes → ⊥ }
     ensures cut { (bytes : List ℕ) (fault : TextFault) → VlogFault bytes fault → VlogCut bytes → ⊥ }
-{}
-
-/// A file that a text reads as has at most as many items in all its lists as an input has bytes: 268,435,456.
-pub fn file_size()
-    ensures { (bytes : List ℕ) (file : VlogFile) → VlogReads bytes file → vlog_size file ≤ LIMIT }
 {}
 
 /// The tokens that read as the declarations of a header, behind its `(`, are those that the extended BNF has for them.

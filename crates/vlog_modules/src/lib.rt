@@ -4,8 +4,8 @@
 // by the grammar in `specs/Grammar.antt`; a text fault only where the bytes have that first fault, with its place and its reason; and
 // `TooLong` only where more bytes are given than are looked at and no first fault lies within those. A source that fails and want of
 // memory aside, it answers nothing else, and at a fault at most 4,096 bytes past its stop were taken. `laws` has it that these are three
-// cases: a text reads as at most one file, has at most one first fault, and never both; and that a file that is read has at most 268,435,456
-// items in all its lists. The grammar has the texts of the extended BNF in `specs/Productions.antt`.
+// cases: a text reads as at most one file, has at most one first fault, and never both; and that the grammar has the texts of the extended
+// BNF in `specs/Productions.antt`.
 #![tactic(auto)]
 
 mod file;

@@ -239,8 +239,8 @@ plain_started on_left room cat rep e = expr_cases (Starts on_left room)
       rest = at_last {g = λ s. expr.Ref name s} (select_front s ts good.1);
     })
     (λ l fits ts.
-      let good = is_layer room (expr.Lit l) (Expr-F.Lit l) (out-Lit l) fits.within in
-      let right : on_left ≡ false = right_only on_left (expr.Lit l) fits.assignable (left-Lit l) in record {
+    let good = is_layer room (expr.Lit l) (Expr-F.Lit l) (out-Lit l) fits.within in
+    let right : on_left ≡ false = right_only on_left (expr.Lit l) fits.assignable (left-Lit l) in record {
       token = t.Number (pos l.size);
       start = starts.Number (pos l.size);
       mid = t.Based l.based ∷ ts;
@@ -250,11 +250,11 @@ plain_started on_left room cat rep e = expr_cases (Starts on_left room)
       rest = at_last {g = g.expr_of_number (pos l.size)} (digits_front l ts good);
     })
     (λ n fits ts.
-      let good = is_layer room (expr.LooseNumber n) (Expr-F.LooseNumber n) (out-LooseNumber n) fits.within in
-      let right : on_left ≡ false = right_only on_left (expr.LooseNumber n) fits.assignable (left-LooseNumber n) in
-      number n good right ts)
+    let good = is_layer room (expr.LooseNumber n) (Expr-F.LooseNumber n) (out-LooseNumber n) fits.within in
+    let right : on_left ≡ false = right_only on_left (expr.LooseNumber n) fits.assignable (left-LooseNumber n) in
+    number n good right ts)
     (λ b fits ts.
-      let right : on_left ≡ false = right_only on_left (expr.Loose b) fits.assignable (left-Loose b) in record {
+    let right : on_left ≡ false = right_only on_left (expr.Loose b) fits.assignable (left-Loose b) in record {
       token = t.Based b;
       start = starts.Based b;
       mid = ts;

@@ -85,8 +85,10 @@ decls_front before last (d ∷ others) ts good = by_names d.names good.0.names (
   where
     behind : List VToken
     behind = further_tokens (each form.port_form others) (t.Punct 41 ∷ ts)
+
     whole : List PortDecl
     whole = (before ++ last ∷ []) ++ d ∷ others
+
     by_names : (ns : List (List ℕ)) → AreSome IsName ns → Front (decls_from (before ++ last ∷ []) (naming d ns)) whole behind ts
         → Front (decls_from before last) (before ++ last ∷ d ∷ others) (t.Punct 44 ∷ header_tokens d ns behind) ts
     by_names [] some x = absurd (omega (arith, some.some))
@@ -109,6 +111,7 @@ decl_header_front (d ∷ others) ts good = by_names d.names good.all.0.names (de
   where
     behind : List VToken
     behind = further_tokens (each form.port_form others) (t.Punct 41 ∷ ts)
+
     by_names : (ns : List (List ℕ)) → AreSome IsName ns → Front (decls_from [] (naming d ns)) (d ∷ others) behind ts → Front decl_header (headers.Decls (d ∷ others)) (header_tokens d ns behind) ts
     by_names [] some x = absurd (omega (arith, some.some))
     by_names (n ∷ ns) some x =
@@ -181,8 +184,10 @@ groups_of_front before last (p ∷ others) ts good =
   where
     behind : List VToken
     behind = further_tokens (each form.group_form others) (t.Punct 41 ∷ ts)
+
     whole : List ParamDecl
     whole = (before ++ last ∷ []) ++ p ∷ others
+
     by_sets : (ss : List ParamSet) → AreSome IsParamSet ss → Front (groups_from (before ++ last ∷ []) (setting p ss)) whole behind ts
         → Front (groups_from before last) (before ++ last ∷ p ∷ others) (t.Punct 44 ∷ group_tokens p ss behind) ts
     by_sets [] some x = absurd (omega (arith, some.some))
@@ -200,6 +205,7 @@ params_front (p ∷ others) ts good =
   where
     behind : List VToken
     behind = further_tokens (each form.group_form others) (t.Punct 41 ∷ ts)
+
     by_sets : (ss : List ParamSet) → AreSome IsParamSet ss → Front (groups_from [] (setting p ss)) (p ∷ others) behind ts → Front params (p ∷ others) (t.Punct 35 ∷ t.Punct 40 ∷ group_tokens p ss behind) ts
     by_sets [] some x = absurd (omega (arith, some.some))
     by_sets (s ∷ ss) some x =
@@ -323,6 +329,7 @@ module_turn modules m ts rest v good x =
   where
     body : List VToken
     body = line_tokens (all form.item_lines m.items) (t.Keyword (codes "endmodule") ∷ ts)
+
     by_attrs : (as_written : List Attr) → m.attrs ≡ as_written
         → Front (pieces_from modules m.implicit) v (line_tokens (form.attribute_lines (each form.attr_form as_written)) (t.Keyword (codes "module") ∷ rest_tokens m ts)) rest
     by_attrs [] e =

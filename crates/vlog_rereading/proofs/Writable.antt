@@ -183,13 +183,13 @@ expr_writable_within zero e = plain_writable zero
     (λ n es h. absurd (is_layer zero (expr.Rep n es) (Expr-F.Rep n es) (out-Rep n es) h).1) e
 expr_writable_within (suc levels) e = plain_writable (suc levels)
     (λ es h.
-      let good = is_layer (suc levels) (expr.Cat es) (Expr-F.Cat es) (out-Cat es) h in
-      let inner = each_writable form.expr_form (IsExprWithin levels) (expr_writable_within levels) es good.all in
-      rw (cat_is es) (braced_writable (Listed (each form.expr_form es)) inner))
+    let good = is_layer (suc levels) (expr.Cat es) (Expr-F.Cat es) (out-Cat es) h in
+    let inner = each_writable form.expr_form (IsExprWithin levels) (expr_writable_within levels) es good.all in
+    rw (cat_is es) (braced_writable (Listed (each form.expr_form es)) inner))
     (λ n es h.
-      let good = is_layer (suc levels) (expr.Rep n es) (Expr-F.Rep n es) (out-Rep n es) h in
-      let inner = each_writable form.expr_form (IsExprWithin levels) (expr_writable_within levels) es good.1.all in
-      rw (rep_is n es) (braced_writable (Number n ▸ form.cat_form (each form.expr_form es)) (good.0.number, braced_writable (Listed (each form.expr_form es)) inner, refl))) e
+    let good = is_layer (suc levels) (expr.Rep n es) (Expr-F.Rep n es) (out-Rep n es) h in
+    let inner = each_writable form.expr_form (IsExprWithin levels) (expr_writable_within levels) es good.1.all in
+    rw (rep_is n es) (braced_writable (Number n ▸ form.cat_form (each form.expr_form es)) (good.0.number, braced_writable (Listed (each form.expr_form es)) inner, refl))) e
 
 expr_writable : (e : Expr) → IsExpr e → IsWritable (form.expr_form e)
 expr_writable e good = expr_writable_within 64 e good

@@ -1,0 +1,5 @@
+pub mod Finding
+pub mod LinkLaws
+pub mod Small
+pub mod TableLaws
+pub mod Turns

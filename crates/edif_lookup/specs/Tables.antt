@@ -1,0 +1,66 @@
+-- What the look-up tables hold.
+use Rattle.std.specs.Prelude.{◌≡◌, ℕ, true, false, cond, List, [], ◌∷◌, map, Option, Some, None}
+use Rattle.std.specs.List.{filter}
+use Rattle.std.specs.Borrow.{Bor}
+use Rattle.std.specs.declared.alloc.Global.{Global}
+use Rattle.std.specs.declared.vec.Vec.{Vec}
+use Rattle.indexmap.specs.IndexMap.{IndexMap, get_by}
+use Rattle.nl_base.specs.Case.{small, same_bytes}
+use Rattle.edif_lookup.specs.Candidates.{candidates}
+use Rattle.edif_lookup.specs.declared.definitions.Alike.{Alike}
+use Rattle.edif_lookup.specs.declared.definitions.Meaning.{Meaning}
+use Rattle.edif_lookup.specs.declared.definitions.Meaning.TheVariants.{Nothing, One, Several}
+
+-- entries as they are written: a number and a spelling
+abbrev pub written : List (ℕ × Bor (List ℕ)) → List (ℕ × List ℕ)
+written = map (λ entry. (entry.0, entry.1.now))
+
+abbrev pub first_number : List (ℕ × List ℕ) → Option ℕ
+first_number [] = None
+first_number (entry ∷ rest) = Some entry.0
+
+-- the entries with this spelling
+abbrev pub spelled_so : List ℕ → List (ℕ × List ℕ) → List (ℕ × List ℕ)
+spelled_so spelling = filter (λ entry. same_bytes entry.1 spelling)
+
+-- the entries with this spelling in small letters
+abbrev pub small_so : List ℕ → List (ℕ × List ℕ) → List (ℕ × List ℕ)
+small_so spelling = filter (λ entry. same_bytes (map small entry.1) spelling)
+
+-- the table has at each spelling the number of the first entry with it
+abbrev pub HoldsSpellings : {S : Type 0} → List (ℕ × List ℕ) → IndexMap (Bor (List ℕ)) ℕ S → Type 0
+HoldsSpellings entries table = (spelling : List ℕ) → get_by (λ key. same_bytes spelling key.now) table ≡ first_number (spelled_so spelling entries)
+
+-- the number of the first of some entries, and whether there are more
+abbrev pub summary : List (ℕ × List ℕ) → Option Alike
+summary [] = None
+summary (one ∷ []) = Some (record { first = one.0; more = false })
+summary (one ∷ (two ∷ rest)) = Some (record { first = one.0; more = true })
+
+-- those definitions, and one more
+abbrev pub one_more : Option Alike → ℕ → Alike
+one_more None number = record { first = number; more = false }
+one_more (Some alike) number = record { first = alike.first; more = true }
+
+-- what candidates mean
+abbrev pub meant_by : {A : Type 0} → List (ℕ × A) → Meaning
+meant_by [] = Nothing
+meant_by (one ∷ []) = One one.0
+meant_by (one ∷ (two ∷ rest)) = Several
+
+-- what a spelling means among definitions
+abbrev pub meaning : List (ℕ × List ℕ) → List ℕ → Meaning
+meaning definitions spelling = meant_by (candidates (λ name. name) definitions spelling)
+
+-- what a summary means
+abbrev pub meant_in : Option Alike → Meaning
+meant_in None = Nothing
+meant_in (Some alike) = cond alike.more Several (One alike.first)
+
+-- the table has at each spelling in small letters the summary of the entries with it
+abbrev pub HoldsSmall : {S : Type 0} → List (ℕ × List ℕ) → IndexMap (Vec ℕ Global) Alike S → Type 0
+HoldsSmall entries table = (spelling : List ℕ) → get_by (λ key. same_bytes spelling key.items) table ≡ summary (small_so spelling entries)
+
+-- definitions by their numbers and names
+abbrev pub named : {A : Type 0} → (A → List ℕ) → List (ℕ × A) → List (ℕ × List ℕ)
+named name = map (λ definition. (definition.0, name definition.1))

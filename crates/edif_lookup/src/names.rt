@@ -1,0 +1,44 @@
+// The names that stand before a place.
+ghost use Rattle.std.specs.Prelude.{◌≡◌, ◌||◌, false, List, ℕ, IfOk, OnOk};
+ghost use Rattle.nl_base.specs.Case.{same_bytes};
+ghost use Rattle.edif_lookup.specs.Refusals.{is_in};
+
+use indexmap::IndexSet;
+use nl_base::NoMemory;
+use std::alloc::Global;
+use std::marker::Model;
+
+/// A set of names, seen as a list of them.
+#[derive(Drop)]
+pub struct Names<'a> {
+    set: IndexSet<&'a [u8]>,
+}
+
+impl<'a> Model for Names<'a> {
+    ghost use Rattle.std.specs.Prelude.{List, ℕ, map};
+
+    ghost Value = { List (List ℕ) };
+
+    ghost view = { λ n. map (λ key. key.now) n.set.keys };
+}
+
+impl<'a> Names<'a> {
+    pub fn new(alloc: Global) -> Names<'a>
+        ensures { (name : List ℕ) → is_in name result ≡ false }
+    {
+        Names {
+            set: IndexSet::new(alloc),
+        }
+    }
+
+    /// Notes a name, and answers whether it was there.
+    pub fn note(&mut self, name: &'a [u8]) -> Result<bool, NoMemory>
+        ensures known { IfOk result (λ known. known ≡ is_in name.now self.old) }
+        ensures noted { OnOk result ((other : List ℕ) → is_in other self.new ≡ (same_bytes other name.now || is_in other self.old)) }
+    {
+        if let Ok(fresh) = self.set.insert(name) {
+            return Ok(!fresh);
+        }
+        Err(NoMemory)
+    }
+}

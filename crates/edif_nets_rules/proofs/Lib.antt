@@ -1,0 +1,9 @@
+pub mod BitLaws
+pub mod ArrayLaws
+pub mod Turns
+pub mod ScopeLaws
+pub mod NetTurns
+pub mod SizeLaws
+pub mod TableTurns
+pub mod WalkLaws
+pub mod InstanceLaws

@@ -1,0 +1,6 @@
+pub mod Breaks
+pub mod Idents
+pub mod Lists
+pub mod Scopes
+pub mod Spots
+pub mod Walks

@@ -1,0 +1,365 @@
+// What the references in the nets of a cell break.
+ghost use Rattle.std.specs.Prelude.{◌≡◌, ◌∷◌, ◌++◌, true, [], None, IfOk, OnOk};
+ghost use Rattle.std.specs.List.{filter_map, flat_map, list_any};
+ghost use Rattle.edif_lookup.specs.Refusals.{broken, if_some, lowest};
+ghost use Rattle.net_hier.specs.declared.nodes.Node.{Node};
+ghost use Rattle.edif_design.specs.CellRules.{bit_of, index_names, is_wide, member_refusals, port_name, same_node, size_of};
+ghost use Rattle.edif_nets_rules.specs.Breaks.{bit_breaks, found_breaks, names_of, port_breaks_at, ref_breaks, ref_node, taken_breaks};
+ghost use Rattle.edif_nets_rules.specs.Scopes.{lists_of, port_at};
+ghost use Rattle.std.specs.Prelude.{option_to_list};
+ghost use Rattle.edif_nets_rules.specs.Spots.{node_of_bit};
+
+use crate::bits::{Bits, Spot};
+use crate::faces::{port_face, port_name, port_size};
+use crate::found::{Found, Scope, find_port, instance_name, member_of, port_at, spot_of};
+use crate::indexes::{Indexes, index_text, member_text};
+use crate::naming::port_names;
+use crate::sizes::bit_of;
+use edif_lookup::{lower, one_name, refusal, two_names};
+use edif_nets::{Port, PortRef};
+use nl_base::{Ident, NoMemory, Refusal, Rule, Seq, Text};
+use std::alloc::Global;
+
+/// The original names of a net and of its cell.
+#[derive(Clone, Copy)]
+pub struct NetNames<'s> {
+    pub cell: &'s [u8],
+    pub net: &'s [u8],
+}
+
+/// The refusal by this rule, with these names.
+#[tactic(auto, unfolding(edif_lookup::specs::Refusals::lowest, edif_lookup::specs::Refusals::lower))]
+pub(crate) fn refused(
+    alloc: Global,
+    rule: Rule,
+    cell: &[u8],
+    names: Seq<Text>,
+) -> Result<Option<Refusal>, NoMemory>
+    ensures { IfOk result (λ made. made ≡ lowest (broken true rule cell.now names)) }
+{
+    let made = refusal(alloc, rule, cell, names)?;
+    Ok(Some(made))
+}
+
+/// Nothing is broken.
+#[tactic(auto, unfolding(edif_lookup::specs::Refusals::lowest))]
+pub(crate) fn unbroken() -> Option<Refusal>
+    ensures { result ≡ lowest [] }
+{
+    None
+}
+
+/// The refusal of an instanceRef that means no instance.
+fn no_instance(
+    alloc: Global,
+    names: &NetNames<'_>,
+    spelling: &Option<Ident>,
+) -> Result<Option<Refusal>, NoMemory>
+    ensures { IfOk result (λ found. found ≡ lowest (if_some spelling.now (λ s. broken true Rule.E7 names.now.cell.now (names.now.net.now ∷ (s ∷ []))))) }
+{
+    match spelling {
+        None => Ok(unbroken()),
+        Some(spelling) => {
+            let told = two_names(alloc, names.net, spelling.bytes())?;
+            let found = refused(alloc, Rule::E7, names.cell, told)?;
+            Ok(found)
+        }
+    }
+}
+
+/// The refusal of an instanceRef that may mean several instances.
+fn several_instances(
+    alloc: Global,
+    names: &NetNames<'_>,
+    spelling: &Option<Ident>,
+) -> Result<Option<Refusal>, NoMemory>
+    ensures { IfOk result (λ found. found ≡ lowest (if_some spelling.now (λ s. broken true Rule.E6 names.now.cell.now (s ∷ [])))) }
+{
+    match spelling {
+        None => Ok(unbroken()),
+        Some(spelling) => {
+            let told = one_name(alloc, spelling.bytes())?;
+            let found = refused(alloc, Rule::E6, names.cell, told)?;
+            Ok(found)
+        }
+    }
+}
+
+/// The refusal of a portRef that means no port.
+fn no_port(
+    alloc: Global,
+    scope: &Scope<'_, '_>,
+    names: &NetNames<'_>,
+    instance: Option<u32>,
+    spelling: &Ident,
+) -> Result<Option<Refusal>, NoMemory>
+    ensures { IfOk result (λ found. found ≡ lowest (broken true Rule.E8 names.now.cell.now (names_of (lists_of scope.now) names.now.net.now instance spelling.now))) }
+{
+    let told = port_names(
+        alloc,
+        names.net,
+        instance_name(scope, instance),
+        spelling.bytes(),
+    )?;
+    let found = refused(alloc, Rule::E8, names.cell, told)?;
+    Ok(found)
+}
+
+/// The refusal of a portRef that may mean several ports.
+fn several_ports(
+    alloc: Global,
+    names: &NetNames<'_>,
+    spelling: &Ident,
+) -> Result<Option<Refusal>, NoMemory>
+    ensures { IfOk result (λ found. found ≡ lowest (broken true Rule.E6 names.now.cell.now (spelling.now ∷ []))) }
+{
+    let told = one_name(alloc, spelling.bytes())?;
+    let found = refused(alloc, Rule::E6, names.cell, told)?;
+    Ok(found)
+}
+
+/// Whether a port of this size has two or more bits.
+fn is_wide(size: Option<i64>) -> bool
+    ensures { result ≡ is_wide size }
+{
+    match size {
+        None => false,
+        Some(size) => size > 1,
+    }
+}
+
+/// The refusal of a reference that means no bit of its port, with these names.
+fn no_bit(
+    alloc: Global,
+    cell: &[u8],
+    told: Seq<Text>,
+    size: Option<i64>,
+    member: Option<i64>,
+) -> Result<Option<Refusal>, NoMemory>
+    requires { bit_of size member ≡ None }
+    ensures { IfOk result (λ found. found ≡ lowest (member_refusals cell.now told size member)) }
+{
+    match member {
+        None => {
+            if is_wide(size) {
+                let found = refused(alloc, Rule::E10, cell, told)?;
+                return Ok(found);
+            }
+            Ok(unbroken())
+        }
+        Some(index) => {
+            let mut told = told;
+            told.push(member_text(alloc, index)?)?;
+            let found = refused(alloc, Rule::E9, cell, told)?;
+            Ok(found)
+        }
+    }
+}
+
+/// Adds the index of the bit, where its port has a range.
+fn add_index(
+    alloc: Global,
+    told: &mut Seq<Text>,
+    indexes: Option<Indexes>,
+    bit: u64,
+) -> Result<(), NoMemory>
+    ensures { OnOk result (told.new ≡ told.old ++ index_names indexes bit) }
+{
+    match indexes {
+        None => Ok(()),
+        Some(indexes) => {
+            told.push(index_text(alloc, indexes, bit)?)?;
+            Ok(())
+        }
+    }
+}
+
+/// The refusal of a bit that an earlier net has, with these names.
+fn taken_bit(
+    alloc: Global,
+    cell: &[u8],
+    told: Seq<Text>,
+    face: &Port,
+    taken: &Bits,
+    spot: Spot,
+) -> Result<Option<Refusal>, NoMemory>
+    ensures { IfOk result (λ found. found ≡ lowest (taken_breaks cell.now told face.now taken.now (node_of_bit spot.instance spot.port) spot.bit)) }
+{
+    if !taken.has(spot) {
+        return Ok(unbroken());
+    }
+    let mut told = told;
+    let (_, indexes) = port_face(face);
+    add_index(alloc, &mut told, indexes, spot.bit)?;
+    let found = refused(alloc, Rule::E11, cell, told)?;
+    Ok(found)
+}
+
+/// The refusal of a reference with this member to the port, with these names.
+fn bit_refusal(
+    alloc: Global,
+    cell: &[u8],
+    told: Seq<Text>,
+    face: &Port,
+    taken: &Bits,
+    instance: Option<u32>,
+    port: u32,
+    member: Option<i64>,
+) -> Result<Option<Refusal>, NoMemory>
+    ensures { IfOk result (λ found. found ≡ lowest (bit_breaks cell.now told face.now taken.now (node_of_bit instance port) member)) }
+{
+    match bit_of(port_size(face), member) {
+        None => {
+            let found = no_bit(alloc, cell, told, port_size(face), member)?;
+            Ok(found)
+        }
+        Some(bit) => {
+            let spot = Spot {
+                instance,
+                port,
+                bit,
+            };
+            let found = taken_bit(alloc, cell, told, face, taken, spot)?;
+            Ok(found)
+        }
+    }
+}
+
+/// The refusal of a reference to the port of this number.
+fn port_refusal(
+    alloc: Global,
+    scope: &Scope<'_, '_>,
+    names: &NetNames<'_>,
+    taken: &Bits,
+    instance: Option<u32>,
+    port: u32,
+    member: Option<i64>,
+) -> Result<Option<Refusal>, NoMemory>
+    ensures { IfOk result (λ found. found ≡ lowest (port_breaks_at (lists_of scope.now) names.now.cell.now names.now.net.now taken.now instance port member (port_at (lists_of scope.now) instance port))) }
+{
+    match port_at(scope, instance, port) {
+        None => Ok(unbroken()),
+        Some(face) => {
+            let told = port_names(
+                alloc,
+                names.net,
+                instance_name(scope, instance),
+                port_name(face),
+            )?;
+            let found = bit_refusal(alloc, names.cell, told, face, taken, instance, port, member)?;
+            Ok(found)
+        }
+    }
+}
+
+/// The refusal of a reference that leads here.
+#[tactic(auto, unfolding(crate::specs::Breaks::found_breaks))]
+fn found_refusal(
+    alloc: Global,
+    scope: &Scope<'_, '_>,
+    names: &NetNames<'_>,
+    taken: &Bits,
+    reference: &PortRef,
+    found: Found,
+) -> Result<Option<Refusal>, NoMemory>
+    ensures { IfOk result (λ made. made ≡ lowest (found_breaks (lists_of scope.now) names.now.cell.now names.now.net.now taken.now reference.now found)) }
+{
+    match found {
+        Found::Port(instance, port) => {
+            let made = port_refusal(
+                alloc,
+                scope,
+                names,
+                taken,
+                instance,
+                port,
+                member_of(reference),
+            )?;
+            Ok(made)
+        }
+        Found::NoInstance => {
+            let made = no_instance(alloc, names, &reference.instance)?;
+            Ok(made)
+        }
+        Found::SeveralInstances => {
+            let made = several_instances(alloc, names, &reference.instance)?;
+            Ok(made)
+        }
+        Found::NoCell => Ok(unbroken()),
+        Found::NoPort(instance) => {
+            let made = no_port(alloc, scope, names, instance, &reference.port)?;
+            Ok(made)
+        }
+        Found::SeveralPorts => {
+            let made = several_ports(alloc, names, &reference.port)?;
+            Ok(made)
+        }
+    }
+}
+
+/// The refusal of a reference.
+fn ref_refusal(
+    alloc: Global,
+    scope: &Scope<'_, '_>,
+    names: &NetNames<'_>,
+    taken: &Bits,
+    reference: &PortRef,
+) -> Result<Option<Refusal>, NoMemory>
+    ensures { IfOk result (λ made. made ≡ lowest (ref_breaks (lists_of scope.now) names.now.cell.now names.now.net.now taken.now reference.now)) }
+{
+    let found = find_port(alloc, scope, reference)?;
+    let made = found_refusal(alloc, scope, names, taken, reference, found)?;
+    Ok(made)
+}
+
+/// The first refusal of what a net joins.
+pub fn joined_refusal(
+    alloc: Global,
+    scope: &Scope<'_, '_>,
+    names: &NetNames<'_>,
+    taken: &Bits,
+    joined: &[PortRef],
+) -> Result<Option<Refusal>, NoMemory>
+    ensures { IfOk result (λ found. found ≡ lowest (flat_map (ref_breaks (lists_of scope.now) names.now.cell.now names.now.net.now taken.now) joined.now)) }
+{
+    let mut best = unbroken();
+    for reference in joined {
+        let next = ref_refusal(alloc, scope, names, taken, reference)?;
+        best = lower(best, next);
+    }
+    Ok(best)
+}
+
+/// Adds the bit that a reference means.
+fn add_bit(
+    alloc: Global,
+    scope: &Scope<'_, '_>,
+    taken: &mut Bits,
+    reference: &PortRef,
+) -> Result<(), NoMemory>
+    ensures { OnOk result ((other : Node) → list_any (same_node other) taken.new ≡ list_any (same_node other) (taken.old ++ option_to_list (ref_node (lists_of scope.now) reference.now))) }
+{
+    let found = find_port(alloc, scope, reference)?;
+    match spot_of(scope, found, member_of(reference)) {
+        None => Ok(()),
+        Some(spot) => {
+            taken.add(spot)?;
+            Ok(())
+        }
+    }
+}
+
+/// Adds the bits that a net has.
+pub fn add_bits(
+    alloc: Global,
+    scope: &Scope<'_, '_>,
+    taken: &mut Bits,
+    joined: &[PortRef],
+) -> Result<(), NoMemory>
+    ensures { OnOk result ((other : Node) → list_any (same_node other) taken.new ≡ list_any (same_node other) (taken.old ++ filter_map (ref_node (lists_of scope.now)) joined.now)) }
+{
+    for reference in joined {
+        add_bit(alloc, scope, taken, reference)?;
+    }
+    Ok(())
+}

@@ -1,0 +1,11 @@
+pub mod BitCounts
+pub mod Capped
+pub mod Examples
+pub mod ExprLemmas
+pub mod JoinSteps
+pub mod NameSets
+pub mod Parts
+pub mod Positions
+pub mod SmallFiles
+pub mod Steps
+pub mod Tables

@@ -1,0 +1,9 @@
+pub mod Design
+pub mod Exprs
+pub mod Names
+pub mod Numbers
+pub mod Ranges
+pub mod Reach
+pub mod Rules
+pub mod Tables
+pub mod Uses

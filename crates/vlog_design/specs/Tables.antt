@@ -1,0 +1,22 @@
+-- Tables of names, seen as the lists of what they have.
+use Rattle.std.specs.Prelude.{List, ℕ, map}
+use Rattle.std.specs.Borrow.{Bor}
+use Rattle.vlog_design.specs.Names.{Signal}
+use Rattle.vlog_design.specs.declared.signals.Slot.{Slot}
+use Rattle.vlog_values.specs.declared.module.Module.{Module}
+
+-- a name with what it stands for
+abbrev pub signal_of : Bor (List ℕ) × Slot → Signal
+signal_of entry = record { name = entry.0.now; slot = entry.1 }
+
+-- the signals of a table
+abbrev pub signals_of : List (Bor (List ℕ) × Slot) → List Signal
+signals_of entries = map signal_of entries
+
+-- the names that are kept
+abbrev pub names_of : List (Bor (List ℕ)) → List (List ℕ)
+names_of keys = map (λ key. key.now) keys
+
+-- the modules that are lent
+abbrev pub modules_of : List (Bor Module) → List Module
+modules_of = map (λ m. m.now)

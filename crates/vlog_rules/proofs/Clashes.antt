@@ -1,0 +1,52 @@
+-- The first declaration that clashes with one before it.
+use Rattle.std.specs.Borrow.{Bor}
+use Rattle.vlog_design.specs.Tables.{names_of}
+use Rattle.std.proofs.Common.{not, bytes_eq, if◌then◌else◌, ◌≡◌, ℕ, ◌+◌, ◌<◌, ◌≤◌, List, [], ◌∷◌, ◌++◌, Bool, true, false, cond, Some, None, drop, get_or, length, map, ap, refl, sym, ◌∙◌, add-one, drop-cons, drop_of_length-le}
+use Rattle.std.specs.List.{list_any}
+use Rattle.vlog_design.specs.Names.{clashing, has_name}
+use Rattle.vlog_design.specs.Rules.{first_of}
+
+first_if : {A : Type 0} (b : Bool) (x : A) (xs : List A) → first_of (cond b (x ∷ xs) xs) ≡ cond b (Some x) (first_of xs)
+first_if true x xs = refl
+first_if false x xs = refl
+
+-- one step: the element at i clashes, or the search goes on behind it
+pub clash_left : {A K : Type 0} (f : K → A) (clash : A → A → Bool) (before : List A) (keys : List K) (i : ℕ) (d : K) → i < length keys →
+    first_of (clashing clash before (map f (drop i keys))) ≡ cond (list_any (clash (f (get_or keys i d))) before) (Some (f (get_or keys i d))) (first_of (clashing clash (before ++ f (get_or keys i d) ∷ []) (map f (drop (i + 1) keys))))
+unfolding clashing
+clash_left f clash before keys i d h = rw (drop-cons keys i d h, add-one) (first_if _ _ _)
+
+pub clash_here : {A K : Type 0} (f : K → A) (clash : A → A → Bool) (before : List A) (keys : List K) (i : ℕ) (d : K) → i < length keys → true ≡ list_any (clash (f (get_or keys i d))) before →
+    first_of (clashing clash before (map f (drop i keys))) ≡ Some (f (get_or keys i d))
+clash_here f clash before keys i d h e = clash_left f clash before keys i d h ∙ ap (λ b. cond b (Some (f (get_or keys i d))) (first_of (clashing clash (before ++ f (get_or keys i d) ∷ []) (map f (drop (i + 1) keys))))) (sym e)
+
+pub clash_there : {A K : Type 0} (f : K → A) (clash : A → A → Bool) (before : List A) (keys : List K) (i : ℕ) (d : K) → i < length keys → false ≡ list_any (clash (f (get_or keys i d))) before →
+    first_of (clashing clash before (map f (drop i keys))) ≡ first_of (clashing clash (before ++ f (get_or keys i d) ∷ []) (map f (drop (i + 1) keys)))
+clash_there f clash before keys i d h e = clash_left f clash before keys i d h ∙ ap (λ b. cond b (Some (f (get_or keys i d))) (first_of (clashing clash (before ++ f (get_or keys i d) ∷ []) (map f (drop (i + 1) keys))))) (sym e)
+
+pub clash_none : {A K : Type 0} (f : K → A) (clash : A → A → Bool) (before : List A) (keys : List K) (i : ℕ) → length keys ≤ i → first_of (clashing clash before (map f (drop i keys))) ≡ None
+unfolding clashing
+clash_none f clash before keys i h = ap (λ ks. first_of (clashing clash before (map f ks))) (drop_of_length-le keys {i = i} h)
+
+-- names that stand in a list before: those that are kept are no others than those before the one at i
+
+not_new : (new there : Bool) → new ≡ not there → new ≡ false → true ≡ there
+not_new new true e h = refl
+not_new new false e h = cc
+
+is_new : (new there : Bool) → new ≡ not there → new ≡ true → false ≡ there
+is_new new false e h = refl
+is_new new true e h = cc
+
+pub repeated_here : (before : List (List ℕ)) (keys : List (Bor (List ℕ))) (i : ℕ) (d : Bor (List ℕ)) (new : Bool) → i < length keys → new ≡ not (has_name before (get_or keys i d).now) → new ≡ false →
+    first_of (clashing bytes_eq before (names_of (drop i keys))) ≡ Some (get_or keys i d).now
+repeated_here before keys i d new h e n = clash_here (λ k. k.now) bytes_eq before keys i d h (not_new new (has_name before (get_or keys i d).now) e n)
+
+pub repeated_there : (before after : List (List ℕ)) (keys : List (Bor (List ℕ))) (i : ℕ) (d : Bor (List ℕ)) (new : Bool) → i < length keys → new ≡ not (has_name before (get_or keys i d).now) → new ≡ true →
+    after ≡ before ++ (if new then (get_or keys i d).now ∷ [] else []) → first_of (clashing bytes_eq after (names_of (drop (i + 1) keys))) ≡ first_of (clashing bytes_eq before (names_of (drop i keys)))
+repeated_there before after keys i d true h e n a =
+    ap (λ names. first_of (clashing bytes_eq names (names_of (drop (i + 1) keys)))) a ∙ sym (clash_there (λ k. k.now) bytes_eq before keys i d h (is_new true (has_name before (get_or keys i d).now) e n))
+repeated_there before after keys i d false h e n a = cc
+
+pub repeated_none : (before : List (List ℕ)) (keys : List (Bor (List ℕ))) (i : ℕ) → length keys ≤ i → first_of (clashing bytes_eq before (names_of (drop i keys))) ≡ None
+repeated_none before keys i h = clash_none (λ k. k.now) bytes_eq before keys i h

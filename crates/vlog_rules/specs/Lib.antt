@@ -1,0 +1,3 @@
+pub mod Redeclared
+pub mod Seen
+pub mod Wide

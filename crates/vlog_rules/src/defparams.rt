@@ -1,0 +1,63 @@
+// Values for parameters of instances.
+ghost use Rattle.std.specs.Prelude.{◌≡◌, find, flat_map, map, not, option_copied, IfOk};
+ghost use Rattle.nl_base.specs.declared.rule.Rule.TheVariants.{G17};
+ghost use Rattle.vlog_design.specs.Design.{def_sets};
+ghost use Rattle.vlog_design.specs.Names.{defparam_statement, has_name};
+ghost use Rattle.vlog_design.specs.Rules.{first_of, refused, unknown_instances};
+
+use crate::lists::{instance_names, name_set};
+use crate::refusals::refuse_two;
+use nl_base::{NoMemory, Refusal, Rule};
+use std::alloc::Global;
+use vlog_design::names::Names;
+use vlog_values::{DefSet, ItemV, Module};
+
+fn first_in_sets<'a>(names: &Names, sets: &'a [DefSet]) -> Option<&'a DefSet>
+    ensures { option_copied result ≡ find (λ set. not (has_name names.now set.instance)) sets.now }
+{
+    for set in sets {
+        if !names.has(set.instance.bytes()) {
+            return Some(set);
+        }
+    }
+    None
+}
+
+fn first_in_item<'a>(names: &Names, item: &'a ItemV) -> Option<&'a DefSet>
+    ensures { option_copied result ≡ find (λ set. not (has_name names.now set.instance)) (flat_map (λ statement. statement.sets) (defparam_statement item.now)) }
+{
+    match item {
+        ItemV::Defparam(statement) => first_in_sets(names, statement.sets.items()),
+        ItemV::Port(_) => None,
+        ItemV::Net(_) => None,
+        ItemV::Param(_) => None,
+        ItemV::Assign(_) => None,
+        ItemV::Instances(_) => None,
+    }
+}
+
+fn first_in_items<'a>(names: &Names, items: &'a [ItemV]) -> Option<&'a DefSet>
+    ensures { option_copied result ≡ find (λ set. not (has_name names.now set.instance)) (flat_map (λ item. flat_map (λ statement. statement.sets) (defparam_statement item)) items.now) }
+{
+    for item in items {
+        if let Some(set) = first_in_item(names, item) {
+            return Some(set);
+        }
+    }
+    None
+}
+
+/// The first value of the module for a parameter of an instance that the module has not.
+pub fn unknown_instance(alloc: Global, m: &Module) -> Result<Option<Refusal>, NoMemory>
+    ensures { IfOk result (λ found. found ≡ first_of (map (refused G17 m.now.name) (unknown_instances m.now))) }
+{
+    let listed = instance_names(alloc, m)?;
+    let names = name_set(alloc, &listed)?;
+    match first_in_items(&names, m.items.items()) {
+        None => Ok(None),
+        Some(set) => {
+            let (instance, name) = (set.instance.bytes(), set.name.bytes());
+            Ok(Some(refuse_two(alloc, Rule::G17, m.name.bytes(), instance, name)?))
+        }
+    }
+}

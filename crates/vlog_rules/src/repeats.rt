@@ -1,0 +1,66 @@
+// Names that stand twice in a list.
+ghost use Rattle.std.specs.Prelude.{◌≡◌, [], bytes_eq, map, IfOk, option_copied};
+ghost use Rattle.vlog_design.specs.Names.{clashing};
+ghost use Rattle.vlog_design.specs.Rules.{conn_names, first_of};
+ghost use Rattle.vlog_design.specs.Tables.{names_of};
+
+use nl_base::NoMemory;
+use std::alloc::Global;
+use vlog_design::names::Names;
+use vlog_values::{Conns, Module, NamedConn, ParamSet};
+
+/// The first name that stands in the list before.
+pub fn first_repeated<'a>(alloc: Global, names: &[&'a [u8]]) -> Result<Option<&'a [u8]>, NoMemory>
+    ensures { IfOk result (λ found. option_copied found ≡ first_of (clashing bytes_eq [] (names_of names.now))) }
+{
+    let mut seen = Names::empty(alloc);
+    for name in names {
+        let new = seen.add(*name)?;
+        if !new {
+            return Ok(Some(*name));
+        }
+    }
+    Ok(None)
+}
+
+/// The names of modules.
+pub fn names_of_modules<'a>(alloc: Global, modules: &'a [Module]) -> Result<Vec<&'a [u8]>, NoMemory>
+    ensures { IfOk result (λ names. names_of names.items ≡ map (λ m. m.name) modules.now) }
+{
+    let mut names = Vec::new(alloc);
+    for m in modules {
+        names.push(m.name.bytes())?;
+    }
+    Ok(names)
+}
+
+/// The names of parameters.
+pub fn names_of_params<'a>(alloc: Global, sets: &'a [ParamSet]) -> Result<Vec<&'a [u8]>, NoMemory>
+    ensures { IfOk result (λ names. names_of names.items ≡ map (λ set. set.name) sets.now) }
+{
+    let mut names = Vec::new(alloc);
+    for set in sets {
+        names.push(set.name.bytes())?;
+    }
+    Ok(names)
+}
+
+fn names_of_named<'a>(alloc: Global, conns: &'a [NamedConn]) -> Result<Vec<&'a [u8]>, NoMemory>
+    ensures { IfOk result (λ names. names_of names.items ≡ map (λ conn. conn.port) conns.now) }
+{
+    let mut names = Vec::new(alloc);
+    for conn in conns {
+        names.push(conn.port.bytes())?;
+    }
+    Ok(names)
+}
+
+/// The ports that connections name.
+pub fn names_of_ports<'a>(alloc: Global, conns: &'a Conns) -> Result<Vec<&'a [u8]>, NoMemory>
+    ensures { IfOk result (λ names. names_of names.items ≡ conn_names conns.now) }
+{
+    match conns {
+        Conns::Named(conns) => names_of_named(alloc, conns.items()),
+        Conns::Order(_) => Ok(Vec::new(alloc)),
+    }
+}
