@@ -10,7 +10,7 @@ use Rattle.netlist_cli.specs.declared.status.Status.{Status}
 use Rattle.netlist_cli.specs.declared.status.Status.TheVariants as statuses
 use Rattle.netlist_cli.specs.Statuses.{status_of}
 use Rattle.netlist_cli.specs.Lines.{line}
-use Rattle.netlist_cli.specs.Outcomes.{Outcome, written, faulty, too_long, status_due, IsWriting, Gives}
+use Rattle.netlist_cli.specs.Outcomes.{Outcome, written, faulty, too_long, refused, too_big, status_due, IsWriting, Gives}
 use Rattle.netlist_cli.specs.Runs.{PutsText, WroteText, BrokeOff, IsCause, Fails, IsTold, TakesFrom, TellsFailure, FitsOutcome, FitsBytes, IsDecided, Does, Performs}
 use Rattle.netlist_cli.proofs.Told.{if_told, any_told}
 use Rattle.netlist_cli.proofs.Results.{one_outcome}
@@ -64,6 +64,8 @@ module _ {O : Type 0} (taken : O → List ℕ → Type 0) (accepts : O → ℕ �
   done_so (Err failures.Usage) h e = absurd cc
   done_so (Err failures.NoMemory) h e = absurd cc
   done_so (Err failures.InputLimit) h e = absurd cc
+  done_so (Err (failures.Refused r)) h e = absurd cc
+  done_so (Err (failures.DesignLimit n)) h e = absurd cc
 
   pub broke_so : (r : Result (Unit {0}) Failure) → does r → ending r ≡ statuses.WriteFault → BrokeOff taken accepts faults c i j old new
   broke_so (Ok u) h e = absurd cc
@@ -73,6 +75,8 @@ module _ {O : Type 0} (taken : O → List ℕ → Type 0) (accepts : O → ℕ �
   broke_so (Err failures.Usage) h e = absurd cc
   broke_so (Err failures.NoMemory) h e = absurd cc
   broke_so (Err failures.InputLimit) h e = absurd cc
+  broke_so (Err (failures.Refused r)) h e = absurd cc
+  broke_so (Err (failures.DesignLimit n)) h e = absurd cc
 
   pub cause_so : (f : Failure) → does (Err f) → IsCause c i j f
   cause_so (failures.Text f) h = h.0
@@ -81,6 +85,8 @@ module _ {O : Type 0} (taken : O → List ℕ → Type 0) (accepts : O → ℕ �
   cause_so failures.Usage h = h.0
   cause_so failures.NoMemory h = tt
   cause_so failures.InputLimit h = h.0
+  cause_so (failures.Refused r) h = h.0
+  cause_so (failures.DesignLimit n) h = h.0
 
   pub never_usage : (r : Result (Unit {0}) Failure) → does r → ending r ≢ statuses.Usage
   never_usage (Ok u) h e = absurd cc
@@ -90,6 +96,8 @@ module _ {O : Type 0} (taken : O → List ℕ → Type 0) (accepts : O → ℕ �
   never_usage (Err failures.Usage) h e = h.0
   never_usage (Err failures.NoMemory) h e = absurd cc
   never_usage (Err failures.InputLimit) h e = absurd cc
+  never_usage (Err (failures.Refused r)) h e = absurd cc
+  never_usage (Err (failures.DesignLimit n)) h e = absurd cc
 
   -- nothing is written but a whole text
   pub unwritten_so : (r : Result (Unit {0}) Failure) → does r → ending r ≢ statuses.Done → ending r ≢ statuses.WriteFault → new ≡ old
@@ -100,6 +108,8 @@ module _ {O : Type 0} (taken : O → List ℕ → Type 0) (accepts : O → ℕ �
   unwritten_so (Err failures.Usage) h n m = h.1
   unwritten_so (Err failures.NoMemory) h n m = h.1
   unwritten_so (Err failures.InputLimit) h n m = h.1
+  unwritten_so (Err (failures.Refused r)) h n m = h.1
+  unwritten_so (Err (failures.DesignLimit k)) h n m = h.1
 
   -- ---- what the bytes are decides
 
@@ -114,6 +124,8 @@ module _ {O : Type 0} (taken : O → List ℕ → Type 0) (accepts : O → ℕ �
   fits_bytes (Err failures.Usage) h = absurd h.0
   fits_bytes (Err failures.NoMemory) h = any_told i.left (λ bs. FitsBytes c bs statuses.NoMemory) (no_memory_fits c)
   fits_bytes (Err failures.InputLimit) h = due_where too_long h.0
+  fits_bytes (Err (failures.Refused r)) h = due_where (refused r) h.0
+  fits_bytes (Err (failures.DesignLimit n)) h = due_where (too_big n) h.0
 
   abbrev failed : Type 0
   failed = Rose (faults old) (faults new)
@@ -129,6 +141,8 @@ module _ {O : Type 0} (taken : O → List ℕ → Type 0) (accepts : O → ℕ �
   is_decided (Err failures.Usage) h n = absurd h.0
   is_decided (Err failures.NoMemory) h n = any_told i.left (λ bs. IsDecided c bs failed statuses.NoMemory) (λ bs. no_memory_decided c bs failed)
   is_decided (Err failures.InputLimit) h n = decided_where too_long h.0
+  is_decided (Err (failures.Refused r)) h n = decided_where (refused r) h.0
+  is_decided (Err (failures.DesignLimit k)) h n = decided_where (too_big k) h.0
 
 -- What a run has done with the input and the output, by its status.
 pub record RunsTo {S O : Type 0} (left : S → Option (List ℕ)) (count : S → ℕ) (taken : O → List ℕ → Type 0) (accepts : O → ℕ → Type 0) (faults : O → ℕ) (m : Option Command) (a b : S) (old new : O) (status : Status) : Type 0 where
@@ -196,6 +210,8 @@ never_done failures.WriteFault e = cc
 never_done failures.Usage e = cc
 never_done failures.NoMemory e = cc
 never_done failures.InputLimit e = cc
+never_done (failures.Refused r) e = cc
+never_done (failures.DesignLimit n) e = cc
 
 module _ {E : Type 0} (old new : E) where
   -- something was told where the work was not done

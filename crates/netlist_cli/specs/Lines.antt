@@ -1,6 +1,9 @@
 -- The line that is written on errors for a failure. Each text is given with what follows it.
-use Rattle.std.specs.Prelude.{ℕ, List, [], ◌++◌, Option, Some, None, codes}
+use Rattle.std.specs.Prelude.{ℕ, List, [], ◌∷◌, ◌++◌, Option, Some, None, codes}
 use Rattle.std.specs.Fmt.{decimal}
+use Rattle.nl_base.specs.Rules.{rule_name}
+use Rattle.nl_base.specs.declared.rule.Refusal.{Refusal}
+use Rattle.edif_writer.specs.Strings.{quoted}
 use Rattle.nl_base.specs.Faults.{reason_name, reason_word}
 use Rattle.nl_base.specs.declared.fault.Reason.{Reason}
 use Rattle.nl_base.specs.declared.fault.TextFault.{TextFault}
@@ -24,14 +27,29 @@ fault_then f rest = codes "fault " ++ (decimal f.place.line ++ (codes ":" ++ (de
 unfoldable pub usage : List ℕ
 usage = codes "usage: netlist format or vformat or check [--top NAME] or report [--top NAME] [--zero CELL.PORT] [--one CELL.PORT] or to-verilog {--parameter NAME} or to-edif --top NAME [--zero CELL.PORT] [--one CELL.PORT] or generate SEED CELLS or lint [--top NAME] [--zero CELL.PORT] [--one CELL.PORT] or flatten [--top NAME] [--zero CELL.PORT] [--one CELL.PORT] or to-spice [--top NAME]"
 
+-- the names of a refusal, each as a string after a blank
+abbrev pub names_then : List (List ℕ) → List ℕ → List ℕ
+names_then [] rest = rest
+names_then (name ∷ names) rest = codes " " ++ quoted name (names_then names rest)
+
+-- refused RULE CELL, and the names
+unfoldable pub refusal_then : Refusal → List ℕ → List ℕ
+refusal_then r rest = codes "refused " ++ (rule_name r.rule ++ (codes " " ++ quoted r.cell (names_then r.names rest)))
+
+-- limit design UNITS
+unfoldable pub units_then : ℕ → List ℕ → List ℕ
+units_then n rest = codes "limit design " ++ (decimal n ++ rest)
+
 -- what is told of a failure
 unfoldable pub message_then : Failure → List ℕ → List ℕ
 message_then (failures.Text f) rest = fault_then f rest
+message_then (failures.Refused r) rest = refusal_then r rest
 message_then failures.ReadFault rest = codes "read fault" ++ rest
 message_then failures.WriteFault rest = codes "write fault" ++ rest
 message_then failures.Usage rest = usage ++ rest
 message_then failures.NoMemory rest = codes "no memory" ++ rest
 message_then failures.InputLimit rest = codes "limit input" ++ rest
+message_then (failures.DesignLimit n) rest = units_then n rest
 
 -- the line, with its line feed
 unfoldable pub line : Failure → List ℕ

@@ -13,7 +13,10 @@ use Rattle.netlist_cli.specs.declared.status.Status.{Status}
 use Rattle.netlist_cli.specs.declared.status.Status.TheVariants as statuses
 use Rattle.netlist_cli.specs.Statuses.{status_of}
 use Rattle.netlist_cli.specs.Lines.{line}
-use Rattle.netlist_cli.specs.Outcomes.{Outcome, written, faulty, too_long, status_due, IsWriting, IsText, Gives}
+use Rattle.edif_library.specs.declared.file.EdifFile.{EdifFile}
+use Rattle.edif_design.specs.FileRules.{first_E}
+use Rattle.edif_resolve.specs.Answers.{IsTooBigFor}
+use Rattle.netlist_cli.specs.Outcomes.{Outcome, IsGood, ok_text, written, faulty, too_long, refused, too_big, status_due, IsWriting, IsText, Gives}
 
 -- The input was read to its end, and this is how the writing of the text that the command makes of it went.
 pub record PutsText {O : Type 0} (taken : O → List ℕ → Type 0) (accepts : O → ℕ → Type 0) (faults : O → ℕ) (c : Command) (i j : Supply) (old new : O) (result : Result (Unit {0}) Failed) : Type 0 where
@@ -58,6 +61,8 @@ IsCause c i j failures.WriteFault = ⊤
 IsCause c i j failures.Usage = ⊥
 IsCause c i j failures.NoMemory = ⊤
 IsCause c i j failures.InputLimit = IfSome i.left (λ bs. Gives c bs too_long)
+IsCause c i j (failures.Refused r) = IfSome i.left (λ bs. Gives c bs (refused r))
+IsCause c i j (failures.DesignLimit n) = IfSome i.left (λ bs. Gives c bs (too_big n))
 
 -- When each failure comes for what the words ask for: without a command it is that of the usage.
 abbrev pub Fails : Option Command → Supply → Supply → Failure → Type 0
@@ -90,6 +95,15 @@ abbrev pub Does : {O : Type 0} → (O → List ℕ → Type 0) → (O → ℕ �
 Does taken accepts faults c i j old new (Ok u) = WroteText taken accepts faults c i j old new
 Does taken accepts faults c i j old new (Err failures.WriteFault) = BrokeOff taken accepts faults c i j old new
 Does taken accepts faults c i j old new (Err f) = IsCause c i j f × (new ≡ old)
+
+-- What is done with the output for a file that was read to be checked.
+abbrev pub Checks : {O : Type 0} → (O → List ℕ → Type 0) → (O → ℕ → Type 0) → (O → ℕ) → EdifFile → O → O → Result (Unit {0}) Failure → Type 0
+Checks taken accepts faults file old new (Ok u) = IsGood file × Writes taken accepts faults old new ok_text (Ok tt)
+Checks taken accepts faults file old new (Err failures.WriteFault) = IsGood file × ((e : Failed) × Writes taken accepts faults old new ok_text (Err e))
+Checks taken accepts faults file old new (Err (failures.Refused r)) = (first_E file ≡ Some r) × (new ≡ old)
+Checks taken accepts faults file old new (Err (failures.DesignLimit n)) = IsTooBigFor file n × (new ≡ old)
+Checks taken accepts faults file old new (Err failures.NoMemory) = new ≡ old
+Checks taken accepts faults file old new (Err f) = ⊥
 
 -- What is done for the command that the words have, if any.
 abbrev pub Performs : {S O : Type 0} → (O → List ℕ → Type 0) → (O → ℕ → Type 0) → (O → ℕ) → (S → Supply) → Option Command → S → S → O → O → Result (Unit {0}) Failure → Type 0

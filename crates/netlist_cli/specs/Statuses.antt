@@ -21,11 +21,13 @@ number_of statuses.Limit = 7
 -- the status of a failure
 abbrev pub status_of : Failure → Status
 status_of (failures.Text f) = statuses.TextFault
+status_of (failures.Refused r) = statuses.Refused
 status_of failures.ReadFault = statuses.ReadFault
 status_of failures.WriteFault = statuses.WriteFault
 status_of failures.Usage = statuses.Usage
 status_of failures.NoMemory = statuses.NoMemory
 status_of failures.InputLimit = statuses.Limit
+status_of (failures.DesignLimit n) = statuses.Limit
 
 -- the failure that an error of a reader of whole texts is; such a reader is never spent
 abbrev pub failure_of : ReadError → Failure

@@ -8,6 +8,8 @@ use nl_base::{Seq, Text};
 pub enum Command {
     /// Reads an EDIF file and writes it in the project's layout.
     Format,
+    /// Reads an EDIF file and tells whether it breaks no rule.
+    Check,
     /// Reads a Verilog file and writes it in the project's layout.
     Vformat,
 }
@@ -20,6 +22,7 @@ impl Command {
         match words.items() {
             [word] if word.bytes() == b"format".as_slice() => Some(Command::Format),
             [word] if word.bytes() == b"vformat".as_slice() => Some(Command::Vformat),
+            [word] if word.bytes() == b"check".as_slice() => Some(Command::Check),
             _ => None,
         }
     }

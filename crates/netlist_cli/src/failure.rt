@@ -3,13 +3,15 @@ ghost use Rattle.netlist_cli.specs.Statuses.{failure_of, status_of};
 ghost use Rattle.nl_base.specs.declared.fault.ReadError.TheVariants as errors;
 
 use crate::status::Status;
-use nl_base::{ReadError, TextFault};
+use nl_base::{ReadError, Refusal, TextFault};
 
 /// Why a run does not end with its work done.
 #[derive(Drop)]
 pub enum Failure {
     /// The input has this first fault.
     Text(TextFault),
+    /// The file breaks a rule.
+    Refused(Refusal),
     /// The input failed.
     ReadFault,
     /// The output failed.
@@ -20,6 +22,8 @@ pub enum Failure {
     NoMemory,
     /// The input is longer than is read.
     InputLimit,
+    /// The design has this many units, which are more than a design may have.
+    DesignLimit(u64),
 }
 
 impl Failure {
@@ -43,11 +47,13 @@ impl Failure {
     {
         match self {
             Failure::Text(_) => Status::TextFault,
+            Failure::Refused(_) => Status::Refused,
             Failure::ReadFault => Status::ReadFault,
             Failure::WriteFault => Status::WriteFault,
             Failure::Usage => Status::Usage,
             Failure::NoMemory => Status::NoMemory,
             Failure::InputLimit => Status::Limit,
+            Failure::DesignLimit(_) => Status::Limit,
         }
     }
 }

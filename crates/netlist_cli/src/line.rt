@@ -1,12 +1,13 @@
 ghost use Rattle.std.specs.Prelude.{◌≡◌, ◌++◌};
 ghost use Rattle.nl_output.specs.Writing.{state, Puts, Writes};
-ghost use Rattle.netlist_cli.specs.Lines.{fault_then, line, message_then, reason_then, word_then};
+ghost use Rattle.netlist_cli.specs.Lines.{fault_then, line, message_then, names_then, reason_then, refusal_then, units_then, word_then};
 ghost use Rattle.netlist_cli.specs.Runs.{IsTold};
 ghost use Rattle.netlist_cli.specs.Statuses.{status_of};
 
 use crate::failure::Failure;
 use crate::status::Status;
-use nl_base::{Reason, TextFault};
+use edif_writer::string::write_string;
+use nl_base::{Reason, Refusal, Text, TextFault};
 use nl_io::{Failed, Sink};
 use nl_output::Output;
 
@@ -37,17 +38,51 @@ fn put_fault<E: Sink>(fault: &TextFault, output: &mut Output, errors: &mut E)
     put_reason(&fault.reason, output, errors);
 }
 
+/// Puts the names of a refusal, each after a blank. There are few.
+fn put_names<E: Sink>(names: &[Text], output: &mut Output, errors: &mut E)
+    ensures { Puts (names_then names.now) (state E.taken E.accepts E.faults errors.old output.old) (state E.taken E.accepts E.faults errors.new output.new) }
+{
+    if let [first, others @ ..] = names {
+        output.put(b" ", errors);
+        write_string(first.bytes(), output, errors);
+        put_names(others, output, errors);
+    }
+}
+
+/// Puts a refusal by its rule, its cell and its names.
+#[tactic(auto, unfolding(crate::specs::Lines::refusal_then))]
+fn put_refusal<E: Sink>(refusal: &Refusal, output: &mut Output, errors: &mut E)
+    ensures { Puts (refusal_then refusal.now) (state E.taken E.accepts E.faults errors.old output.old) (state E.taken E.accepts E.faults errors.new output.new) }
+{
+    output.put(b"refused ", errors);
+    output.put(refusal.rule.name(), errors);
+    output.put(b" ", errors);
+    write_string(refusal.cell.bytes(), output, errors);
+    put_names(refusal.names.items(), output, errors);
+}
+
+/// Puts the limit of a design and its units.
+#[tactic(auto, unfolding(crate::specs::Lines::units_then))]
+fn put_units<E: Sink>(units: u64, output: &mut Output, errors: &mut E)
+    ensures { Puts (units_then units) (state E.taken E.accepts E.faults errors.old output.old) (state E.taken E.accepts E.faults errors.new output.new) }
+{
+    output.put(b"limit design ", errors);
+    output.put_u64(units, errors);
+}
+
 /// Puts what is told of a failure.
 fn put_message<E: Sink>(failure: &Failure, output: &mut Output, errors: &mut E)
     ensures { Puts (message_then failure.now) (state E.taken E.accepts E.faults errors.old output.old) (state E.taken E.accepts E.faults errors.new output.new) }
 {
     match failure {
         Failure::Text(fault) => put_fault(fault, output, errors),
+        Failure::Refused(refusal) => put_refusal(refusal, output, errors),
         Failure::ReadFault => output.put(b"read fault", errors),
         Failure::WriteFault => output.put(b"write fault", errors),
         Failure::Usage => output.put(USAGE, errors),
         Failure::NoMemory => output.put(b"no memory", errors),
         Failure::InputLimit => output.put(b"limit input", errors),
+        Failure::DesignLimit(units) => put_units(*units, output, errors),
     }
 }
 

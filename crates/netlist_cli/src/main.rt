@@ -11,6 +11,7 @@
 // 268,435,456 bytes and has no fault within them. Status 2 belongs to commands that resolve references and never comes here.
 #![tactic(auto)]
 
+pub mod checking;
 pub mod command;
 pub mod failure;
 pub mod formatting;

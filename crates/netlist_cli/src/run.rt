@@ -4,6 +4,7 @@ ghost use Rattle.readers.specs.Sources.{supply};
 ghost use Rattle.netlist_cli.specs.Commands.{command};
 ghost use Rattle.netlist_cli.specs.Runs.{BrokeOff, FitsBytes, IsDecided, Performs, TakesFrom, TellsFailure, WroteText};
 
+use crate::checking::check;
 use crate::command::Command;
 use crate::failure::Failure;
 use crate::formatting::{format, vformat};
@@ -26,6 +27,7 @@ fn perform<S: Source, O: Sink>(
     match Command::of(words) {
         Some(Command::Format) => format(alloc, input, output),
         Some(Command::Vformat) => vformat(alloc, input, output),
+        Some(Command::Check) => check(alloc, input, output),
         None => Err(Failure::Usage),
     }
 }

@@ -1,6 +1,9 @@
 use crate::run::run;
 use crate::status::Status;
-use crate::texts::{ALIASED, BLINKER, BLINKER_WRITTEN, PARTS, PARTS_WRITTEN, SMALL, WRITTEN};
+use crate::texts::{
+    ALIASED, BLINKER, BLINKER_WRITTEN, PARTS, PARTS_WRITTEN, RECURSIVE, SMALL, WIDE,
+    WITHOUT_DESIGN, WRITTEN,
+};
 use nl_base::{Seq, Text};
 use nl_io::{MemSink, MemSource};
 use std::alloc::Global;
@@ -46,6 +49,14 @@ fn format_of(text: &[u8]) -> Given<'_> {
 fn vformat_of(text: &[u8]) -> Given<'_> {
     Given {
         word: b"vformat",
+        ..format_of(text)
+    }
+}
+
+/// `check` on a text in one piece, with room enough and no failure.
+fn check_of(text: &[u8]) -> Given<'_> {
+    Given {
+        word: b"check",
         ..format_of(text)
     }
 }
@@ -346,6 +357,38 @@ fn faults_of_modules_are_told(rt: HostRuntime) -> Result<(), Fail> {
         (b"module m ((", b"fault 1:11 Unexpected\n"),
     ] {
         assert_eq!(rt; is_refused(rt.alloc(), &vformat_of(text), line)?, true);
+    }
+    Ok(())
+}
+
+/// Whether `check` ends with this status, and puts this text and this line.
+fn is_checked(
+    alloc: Global,
+    text: &[u8],
+    status: u8,
+    output: &[u8],
+    line: &[u8],
+) -> Result<bool, Fail> {
+    let wanted = Wanted {
+        status,
+        output,
+        errors: line,
+        taken: text.len() as u64,
+    };
+    ends_so(alloc, &check_of(text), &wanted)
+}
+
+#[test]
+fn files_are_checked(rt: HostRuntime) -> Result<(), Fail> {
+    for (text, status, output, line) in [
+        (SMALL, 0, b"ok\n".as_slice(), b"".as_slice()),
+        (BLINKER, 0, b"ok\n", b""),
+        (WITHOUT_DESIGN, 2, b"", b"refused E1 \"\"\n"),
+        (RECURSIVE, 2, b"", b"refused E13 \"top\" \"u\"\n"),
+        (WIDE, 2, b"", b"refused E12 \"top\" \"size\" \"p\"\n"),
+        (b"(edi", 1, b"", b"fault 1:2 UnknownWord edi\n"),
+    ] {
+        assert_eq!(rt; is_checked(rt.alloc(), text, status, output, line)?, true);
     }
     Ok(())
 }

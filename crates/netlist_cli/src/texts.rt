@@ -199,3 +199,15 @@ pub const BLINKER_WRITTEN: &[u8] = b"(edif blinker
   (design blinker (cellRef blinker (libraryRef work)) (property part (string \"xc7\")))
 )
 ";
+
+/// A file without a design.
+pub const WITHOUT_DESIGN: &[u8] =
+    b"(edif a(edifVersion 2 0 0)(edifLevel 0)(keywordMap(keywordLevel 0)))";
+
+/// A cell with an instance of itself.
+pub const RECURSIVE: &[u8] =
+    b"(edif t(edifVersion 2 0 0)(edifLevel 0)(keywordMap(keywordLevel 0))(library w(edifLevel 0)(technology(numberDefinition))(cell top(cellType GENERIC)(view v(viewType NETLIST)(interface)(contents(instance u(viewRef v(cellRef top)))))))(design t(cellRef top(libraryRef w))))";
+
+/// A port that is one bit too wide.
+pub const WIDE: &[u8] =
+    b"(edif t(edifVersion 2 0 0)(edifLevel 0)(keywordMap(keywordLevel 0))(library w(edifLevel 0)(technology(numberDefinition))(cell top(cellType GENERIC)(view v(viewType NETLIST)(interface(port(array p 65537)(direction INPUT))))))(design t(cellRef top(libraryRef w))))";

@@ -24,3 +24,11 @@ returns-in-NoMemory g c = λ b rest h. c.put-in-NoMemory.ensures b rest (rw c.in
 pub returns-in-InputLimit : goal.returns-in-InputLimit
 unfolding message_then
 returns-in-InputLimit g c = λ b rest h. c.put-in-InputLimit.ensures b rest (rw c.in-InputLimit.is at h)
+
+pub returns-in-Refused : goal.returns-in-Refused
+unfolding message_then
+returns-in-Refused g c = λ b rest h. c.put_refusal.ensures b rest (rw c.in-Refused.is at h)
+
+pub returns-in-DesignLimit : goal.returns-in-DesignLimit
+unfolding message_then
+returns-in-DesignLimit g c = λ b rest h. c.put_units.ensures b rest (rw c.in-DesignLimit.is at h)

@@ -1,0 +1,14 @@
+pub mod Answering
+pub mod Building
+pub mod Clean
+pub mod FewParts
+pub mod Fitting
+pub mod Linking
+pub mod Low
+pub mod Numbers
+pub mod Recursion
+pub mod Renumbering
+pub mod Sizes
+pub mod Views
+pub mod Walking
+pub mod Widths

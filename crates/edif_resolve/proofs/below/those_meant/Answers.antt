@@ -1,0 +1,10 @@
+use Rattle.std.proofs.Common.{◌≡◌, ℕ, ◌+◌, ◌<◌, ◌≤◌, ◌++◌, ◌∷◌, [], ◌∙◌, ap, sym, length, take, get_or, Option, Some, None, Bool, true, false, arith, slice_get}
+use Rattle.std.specs.Prelude.{option_to_list}
+use Rattle.edif_lookup.proofs.ListLaws.{filter_map_more}
+use Rattle.edif_resolve.proofs.below.those_meant.Goals as goal
+
+pub loop-number-preserved : goal.loop-number-preserved
+loop-number-preserved c =
+    c.in_ok-add_number.ensures
+    ∙ (ap (λ list. list ++ option_to_list (get_or c.args.numbers.now c.loop-number.number-index None)) c.loop-number.invariant
+    ∙ sym (filter_map_more (λ number. number) c.args.numbers.now c.loop-number.number-index None (omega arith)))

@@ -1,0 +1,6 @@
+use Rattle.std.proofs.Common.{◌≡◌, ℕ, ◌+◌, ◌<◌, ◌≤◌, ◌++◌, ◌∷◌, [], ◌∙◌, ap, sym, length, take, get_or, Option, Some, None, Bool, true, false, arith, slice_get}
+use Rattle.edif_resolve.proofs.Walking.{passed_design}
+use Rattle.edif_resolve.proofs.file.pass_design.Goals as goal
+
+pub returns : goal.returns
+returns c before passed = passed_design c.args.scene.now before c.args.walk passed c.args.design.now c.in_ok-next.next c.lower.result c.in_ok-next.ensures c.lower.ensures

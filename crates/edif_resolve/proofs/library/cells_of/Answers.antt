@@ -1,0 +1,9 @@
+use Rattle.std.proofs.Common.{◌≡◌, ℕ, ◌+◌, ◌<◌, ◌≤◌, ◌++◌, ◌∷◌, [], ◌∙◌, ap, sym, length, take, get_or, Option, Some, None, Bool, true, false, arith, slice_get}
+use Rattle.edif_design.specs.Parts.{cell_in}
+use Rattle.edif_design.proofs.Turns.{gathered, in_items}
+use Rattle.edif_resolve.proofs.library.cells_of.Goals as goal
+
+pub loop-item-preserved : goal.loop-item-preserved
+loop-item-preserved c =
+    let at = in_items c.items-item-items.result.now c.args.library.now.items c.items-item-items.ensures c.loop-item.item-index c.item-item.result (omega arith) c.item-item.is in
+    gathered cell_in c.args.library.now.items c.loop-item.item-index c.item-item.result at.0 at.1 _ _ c.loop-item.invariant c.in_ok-add_cell.ensures

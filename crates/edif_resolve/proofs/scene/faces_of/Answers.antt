@@ -1,0 +1,10 @@
+use Rattle.std.proofs.Common.{◌≡◌, ℕ, ◌+◌, ◌<◌, ◌≤◌, ◌++◌, ◌∷◌, [], ◌∙◌, ap, sym, length, take, get_or, Option, Some, None, Bool, true, false, arith, slice_get}
+use Rattle.edif_resolve.proofs.Numbers.{faces_done}
+use Rattle.edif_resolve.proofs.Sizes.{place_small}
+use Rattle.edif_resolve.proofs.scene.faces_of.Goals as goal
+
+pub of-requires : goal.of-requires
+of-requires c = place_small c.args.tables.now c.places-place-items.result.now c.places-place-items.ensures 268435456 c.requires c.loop-place.place-index c.place-item.result (omega arith) c.place-item.is
+
+pub returns : goal.returns
+returns c = faces_done c.args.tables.now c.places-place-items.result.now c.places-place-items.ensures c.loop-place.place-index (omega arith) c.loop-place.faces.items c.loop-place.invariant

@@ -1,0 +1,156 @@
+// The design of a file, or why it has none.
+ghost use Rattle.std.specs.Prelude.{ℕ, ◌≡◌, ◌≤◌, [], Some, MatchResult, IfOk, slice_get};
+ghost use Rattle.net_graph.specs.Graph.{IsFirstRecursion, ReachesItself};
+ghost use Rattle.net_hier.specs.Design.{cells_below};
+ghost use Rattle.net_hier.specs.Units.{units};
+ghost use Rattle.net_hier.specs.Valid.{CellsFit, count_limit, unit_limit};
+ghost use Rattle.edif_library.specs.Sizes.{edif_size};
+ghost use Rattle.edif_design.specs.FileRules.{recursion_refusals, refusals};
+ghost use Rattle.edif_design.specs.Parts.{designs};
+ghost use Rattle.edif_design.specs.Tables.{seen};
+ghost use Rattle.net_hier.specs.Build.{IsFaultOf as IsBuildFault};
+ghost use Rattle.edif_resolve.specs.declared.answer.ResolveError.TheVariants.{NoMemory};
+ghost use Rattle.edif_resolve.specs.Answers.{IsDesignFrom, IsDesignOf, IsFaultFrom, IsFaultOf};
+
+use crate::cells::{design_cells, design_top, designs_properties};
+use crate::counts::counts_of;
+use crate::file::file_refusal;
+use crate::scene::Scene;
+use crate::top::designs_of;
+use edif_library::{Design, EdifFile};
+use edif_lookup::{one_name, refusal};
+use net_hier::build::{BuildFault, order_of};
+use net_hier::{HCell, HProp, Hier};
+use nl_base::{NoMemory, Refusal, Rule, Seq};
+use std::alloc::Global;
+
+/// Why a file has no design.
+#[derive(Drop)]
+pub enum ResolveError {
+    /// The first object, in file order, that breaks the lowest broken rule.
+    Refused(Refusal),
+    /// No rule is broken, and the units, this many or 2^64-1 where there are more, pass 33,554,432.
+    TooBig(u64),
+    /// Memory ran out.
+    NoMemory,
+}
+
+impl From<NoMemory> for ResolveError {
+    ghost from_gives = { λ _ e. e ≡ NoMemory };
+
+    fn from(_: NoMemory) -> Self {
+        ResolveError::NoMemory
+    }
+}
+
+// E13 of the instance by which a cell reaches itself.
+fn recursion_refusal(
+    alloc: Global,
+    cells: &[HCell],
+    cell: u32,
+    instance: u32,
+) -> Result<Refusal, NoMemory>
+    requires fit { (top : ℕ) × CellsFit cells.now top }
+    requires first { IsFirstRecursion (cells_below cells.now) cell instance }
+    ensures { IfOk result (λ made. slice_get (recursion_refusals cells.now) 0 ≡ Some made) }
+{
+    let at = &cells[cell as usize];
+    let inner = &at.instances.items()[instance as usize];
+    let names = one_name(alloc, inner.name.bytes())?;
+    let made = refusal(alloc, Rule::E13, at.name.bytes(), names)?;
+    Ok(made)
+}
+
+// Why cells that fit are no design.
+fn fault_of(alloc: Global, cells: &[HCell], fault: BuildFault) -> ResolveError
+    requires fit { (top : ℕ) × CellsFit cells.now top }
+    requires fault { IsBuildFault cells.now fault }
+    ensures { IsFaultFrom cells.now result }
+{
+    match fault {
+        BuildFault::Recursion { cell, instance } => {
+            match recursion_refusal(alloc, cells, cell, instance) {
+                Ok(refusal) => ResolveError::Refused(refusal),
+                Err(_) => ResolveError::NoMemory,
+            }
+        }
+        BuildFault::TooBig(units) => ResolveError::TooBig(units),
+        BuildFault::NoMemory => ResolveError::NoMemory,
+    }
+}
+
+// The design of cells of which none reaches itself, and whose units are within the limit.
+fn ordered(
+    alloc: Global,
+    cells: Seq<HCell>,
+    top: u32,
+    props: Seq<HProp>,
+) -> Result<Hier, NoMemory>
+    requires fit { CellsFit cells top }
+    requires no_recursion { (number : ℕ) → ¬ ReachesItself (cells_below cells) number }
+    requires few_units { units cells ≤ unit_limit }
+    ensures { IfOk result (IsDesignFrom cells top props) }
+{
+    match Hier::build(alloc, cells, top, props) {
+        Ok(hier) => Ok(hier),
+        Err(fault) => match fault {
+            BuildFault::Recursion { .. } => unreachable!(),
+            BuildFault::TooBig(_) => unreachable!(),
+            BuildFault::NoMemory => Err(NoMemory),
+        },
+    }
+}
+
+// The design of cells that fit, or why they are none.
+fn built(
+    alloc: Global,
+    cells: Seq<HCell>,
+    top: u32,
+    props: Seq<HProp>,
+) -> Result<Hier, ResolveError>
+    requires { CellsFit cells top }
+    ensures { MatchResult result (IsDesignFrom cells top props) (IsFaultFrom cells) }
+{
+    match order_of(alloc, &cells, top) {
+        Ok(_) => {
+            let hier = ordered(alloc, cells, top, props)?;
+            Ok(hier)
+        }
+        Err(fault) => Err(fault_of(alloc, cells.items(), fault)),
+    }
+}
+
+// The design of a file that breaks none of the rules E1 to E12.
+fn design_of(
+    alloc: Global,
+    scene: &Scene<'_>,
+    found: &[&Design],
+) -> Result<Hier, ResolveError>
+    requires clean { refusals scene.now ≡ [] }
+    requires small { edif_size scene.now ≤ count_limit }
+    requires designs { seen found.now ≡ designs scene.now }
+    ensures { MatchResult result (IsDesignOf scene.now) (IsFaultOf scene.now) }
+{
+    let numbers = counts_of(alloc, scene.marks())?;
+    let cells = design_cells(alloc, scene, numbers.as_slice())?;
+    let top = design_top(scene, numbers.as_slice());
+    let props = designs_properties(alloc, found)?;
+    built(alloc, cells, top, props)
+}
+
+/// The design of a file of at most 268,435,456 items (EDIF 2 0 0, edif), in which every reference has to mean something.
+///
+/// # Errors
+/// `Refused`: the file breaks a rule; it is the first object, in file order, that breaks the lowest broken rule. `TooBig`: no rule is
+/// broken, and the units pass 33,554,432. `NoMemory`: memory ran out.
+pub fn resolve(alloc: Global, file: &EdifFile) -> Result<Hier, ResolveError>
+    requires { edif_size file.now ≤ count_limit }
+    ensures { MatchResult result (IsDesignOf file.now) (IsFaultOf file.now) }
+{
+    let found = designs_of(alloc, file)?;
+    let scene = Scene::of(alloc, file, found.as_slice())?;
+    match file_refusal(alloc, &scene, file, found.as_slice())? {
+        Some(refusal) => Err(ResolveError::Refused(refusal)),
+        None => design_of(alloc, &scene, found.as_slice()),
+    }
+}

@@ -1,0 +1,95 @@
+// The cells of the design of a file that breaks no rule.
+ghost use Rattle.std.specs.Prelude.{◌≡◌, ◌≤◌, ◌++◌, ◌∷◌, [], Some, cond, slice_get, IfOk, OnOk};
+ghost use Rattle.net_hier.specs.Valid.{count_limit};
+ghost use Rattle.edif_library.specs.Sizes.{edif_size};
+ghost use Rattle.edif_design.specs.Design.{cell_value, design_properties, edif_cells, number_in, numbers_in_design};
+ghost use Rattle.edif_design.specs.FileRules.{refusals};
+ghost use Rattle.edif_design.specs.Reach.{is_reached};
+ghost use Rattle.edif_design.specs.References.{all_cells, linked_cell, number_meant, top};
+ghost use Rattle.edif_design.specs.Tables.{place_of, seen};
+ghost use Rattle.std.specs.List.{flat_map};
+
+use crate::below::numbers_meant;
+use crate::scene::Scene;
+use edif_cells::{add_properties, cell_of};
+use edif_design::tables::Place;
+use edif_library::Design;
+use net_hier::{HCell, HProp};
+use nl_base::{NoMemory, Seq};
+use std::alloc::Global;
+
+// Adds the cell at a place, where it is reached.
+fn add_cell(
+    alloc: Global,
+    scene: &Scene<'_>,
+    numbers: &[u32],
+    cells: &mut Seq<HCell>,
+    number: u32,
+    place: &Place<'_>,
+) -> Result<(), NoMemory>
+    requires clean { refusals scene.now ≡ [] }
+    requires small { edif_size scene.now ≤ count_limit }
+    requires stands { slice_get (all_cells scene.now) number ≡ Some (place_of place.now) }
+    ensures { OnOk result (cells.new ≡ cells.old ++ cond (is_reached scene.now number) (cell_value numbers.now (linked_cell scene.now (place_of place.now)) ∷ []) []) }
+{
+    if !scene.is_reached(number) {
+        return Ok(());
+    }
+    let below = numbers_meant(alloc, scene.tables(), place.library, place.cell)?;
+    let cell = cell_of(
+        alloc,
+        scene.tables(),
+        scene.faces(),
+        numbers,
+        place.cell,
+        below.as_slice(),
+    )?;
+    cells.push(cell)?;
+    Ok(())
+}
+
+/// The reached cells in file order.
+pub(crate) fn design_cells(
+    alloc: Global,
+    scene: &Scene<'_>,
+    numbers: &[u32],
+) -> Result<Seq<HCell>, NoMemory>
+    requires clean { refusals scene.now ≡ [] }
+    requires small { edif_size scene.now ≤ count_limit }
+    requires numbers { numbers.now ≡ numbers_in_design scene.now }
+    ensures { IfOk result (λ cells. cells ≡ edif_cells scene.now) }
+{
+    let mut cells = Seq::empty(alloc);
+    let places = scene.tables().places();
+    for number in 0..places.len() as u32 {
+        add_cell(alloc, scene, numbers, &mut cells, number, &places[number as usize])?;
+    }
+    Ok(cells)
+}
+
+/// The number of the top cell in the design.
+pub(crate) fn design_top(scene: &Scene<'_>, numbers: &[u32]) -> u32
+    ensures { result ≡ number_in numbers.now (number_meant (top scene.now)) }
+{
+    match scene.top() {
+        None => 0,
+        Some(number) => match numbers.get(number as usize) {
+            Some(renumbered) => *renumbered,
+            None => 0,
+        },
+    }
+}
+
+/// The properties of the designs.
+pub(crate) fn designs_properties(
+    alloc: Global,
+    designs: &[&Design],
+) -> Result<Seq<HProp>, NoMemory>
+    ensures { IfOk result (λ props. props ≡ flat_map design_properties (seen designs.now)) }
+{
+    let mut props = Seq::empty(alloc);
+    for design in designs {
+        add_properties(alloc, &mut props, design)?;
+    }
+    Ok(props)
+}
