@@ -1,14 +1,14 @@
 -- From the design of cells to the design of a file.
-use Rattle.std.proofs.Common.{◌≡◌, refl, ℕ, ◌∷◌, Option, Result, Ok, Err, ◌<◌, ◌≤◌, List, [], map, length, get_or, ap, ◌∙◌, sym, subst, slice_get, Some, None, arith}
+use Rattle.std.proofs.Common.{◌≡◌, ℕ, ◌∷◌, Option, Result, Ok, Err, ◌<◌, ◌≤◌, List, [], length, get_or, ap, ◌∙◌, sym, subst, slice_get, Some, None, arith}
 use Rattle.std.specs.Prelude.{MatchResult}
 use Rattle.std.proofs.lemmas.List.{length-map}
-use Rattle.std.proofs.lemmas.Option.{slice_get-get_or, slice_get-map, slice_get_within}
+use Rattle.std.proofs.lemmas.Option.{slice_get-get_or, slice_get_within}
 use Rattle.net_graph.specs.Graph.{IsClosing, IsFirstRecursion, ReachesItself}
 use Rattle.net_graph.proofs.MarkLaws.{length_marks}
 use Rattle.net_hier.specs.Build.{IsBuilt, IsTooBig}
 use Rattle.net_hier.specs.Design.{Design, below_of, cells_below}
 use Rattle.net_hier.specs.Units.{units}
-use Rattle.net_hier.specs.Valid.{CellsFit, unit_limit}
+use Rattle.net_hier.specs.Valid.{CellsFit}
 use Rattle.net_hier.specs.declared.cells.HCell.{HCell}
 use Rattle.net_hier.specs.declared.cells.HInst.{HInst}
 use Rattle.net_hier.specs.declared.cells.HProp.{HProp}
@@ -51,9 +51,9 @@ pub recursion_answered : (cells : List HCell) → (x : ℕ) × CellsFit cells x 
     → slice_get (recursion_refusals cells) 0 ≡ Some (record { rule = E13; cell = cell.name; names = inner.name ∷ [] })
 recursion_answered cells fit n i first cell is items are inner there =
     first_recursion_refusal cells (good_in_range cells fit.1.good_cells) n i first cell inner
-      (outer_is cells n i first.closing cell is)
-      (ap (λ those. slice_get those i) (sym are)
-      ∙ (slice_get-get_or items i inner (subst (λ those. i < length those) (sym are) (inner_within cells n i first.closing cell is)) ∙ ap Some (sym there)))
+    (outer_is cells n i first.closing cell is)
+    (ap (λ those. slice_get those i) (sym are)
+    ∙ (slice_get-get_or items i inner (subst (λ those. i < length those) (sym are) (inner_within cells n i first.closing cell is)) ∙ ap Some (sym there)))
 
 pub first_reaches : (graph : List (List ℕ)) (n i : ℕ) → IsFirstRecursion graph n i → ReachesItself graph n
 first_reaches graph n i first = record {

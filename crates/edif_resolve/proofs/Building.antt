@@ -1,5 +1,5 @@
 -- The cells of the design, one after the other.
-use Rattle.std.proofs.Common.{◌≡◌, ℕ, zero, suc, ◌+◌, ◌<◌, ◌≤◌, Bool, true, false, cond, List, [], ◌∷◌, ◌++◌, map, length, take, filter, get_or, slice_get, Option, Some, None, refl, sym, ap, ◌∙◌, subst, arith}
+use Rattle.std.proofs.Common.{◌≡◌, ℕ, zero, suc, ◌+◌, ◌<◌, ◌≤◌, Bool, true, false, cond, List, [], ◌∷◌, ◌++◌, map, length, take, filter, get_or, slice_get, Option, Some, refl, sym, ap, ◌∙◌, subst, arith}
 use Rattle.std.specs.Prelude.{option_map}
 use Rattle.std.specs.Borrow.{Bor}
 use Rattle.std.specs.List.{enumerate_from, flat_map}
@@ -8,8 +8,7 @@ use Rattle.std.proofs.lemmas.List.Elements.{filter-append}
 use Rattle.std.proofs.lemmas.Grind.{flat_map-append}
 use Rattle.std.proofs.lemmas.Bool.{false≢true}
 use Rattle.std.proofs.lemmas.Option.{slice_get-get_or, slice_get-map}
-use Rattle.edif_lookup.specs.Refusals.{lowest}
-use Rattle.edif_lookup.proofs.ListLaws.{enumerate_more, flat_map_more}
+use Rattle.edif_lookup.proofs.ListLaws.{enumerate_more}
 use Rattle.edif_names.specs.Names.{original}
 use Rattle.edif_library.specs.Sizes.{cell_size, edif_size}
 use Rattle.edif_library.specs.declared.cell.Cell.{Cell}
@@ -17,11 +16,11 @@ use Rattle.edif_library.specs.declared.file.Design.{Design}
 use Rattle.edif_library.specs.declared.file.EdifFile.{EdifFile}
 use Rattle.net_hier.specs.declared.cells.HCell.{HCell}
 use Rattle.net_hier.specs.declared.cells.HProp.{HProp}
-use Rattle.edif_design.specs.CellRules.{cell_refusals, has_good_sizes}
+use Rattle.edif_design.specs.CellRules.{has_good_sizes}
 use Rattle.edif_design.specs.Design.{cell_value, design_properties, edif_cells, edif_top, number_in, numbers_in_design}
 use Rattle.edif_design.specs.FileRules.{refusals}
-use Rattle.edif_design.specs.Parts.{instances, numbered}
-use Rattle.edif_design.specs.Reach.{is_reached, reached_cells, reached_marks}
+use Rattle.edif_design.specs.Parts.{instances}
+use Rattle.edif_design.specs.Reach.{is_reached}
 use Rattle.edif_design.specs.References.{CellPlace, all_cells, cell_meant, file_cells, linked_cell, number_meant, numbers_meant, top}
 use Rattle.edif_design.specs.Tables.{place_of, seen}
 use Rattle.edif_design.specs.declared.tables.Place.{Place}
@@ -44,7 +43,7 @@ cells_more file numbers places are i x within is old new is_old is_new =
     let inside : i < length (all_cells file) = subst (λ ps. i < length ps) are (subst (λ n. i < n) (sym (length-map places place_of)) within) in
     let at : get_or (all_cells file) i (place_of x) ≡ place_of x = ap (λ ps. get_or ps i (place_of x)) (sym are) ∙ (get_or-map place_of places i x (place_of x) within ∙ ap place_of (sym is)) in
     let more : enumerate_from 0 (take (i + 1) (all_cells file)) ≡ enumerate_from 0 (take i (all_cells file)) ++ (i, place_of x) ∷ [] =
-      enumerate_more 0 (all_cells file) i (place_of x) inside ∙ (λ j. enumerate_from 0 (take i (all_cells file)) ++ ((let e : 0 + i ≡ i = omega arith in e) j, at j) ∷ []) in
+    enumerate_more 0 (all_cells file) i (place_of x) inside ∙ (λ j. enumerate_from 0 (take i (all_cells file)) ++ ((let e : 0 + i ≡ i = omega arith in e) j, at j) ∷ []) in
     is_new
     ∙ (ap (λ cells. cells ++ cond (is_reached file i) (cell_value numbers (linked_cell file (place_of x)) ∷ []) []) is_old
     ∙ (ap (λ cells. cells_so_far file numbers (take i (all_cells file)) ++ cells) (one (is_reached file i))
@@ -106,7 +105,7 @@ properties_more those i x within is old new is_old is_new =
     ∙ (ap (λ props. props ++ design_properties x.now) is_old
     ∙ (ap (λ y. flat_map design_properties (seen (take i those)) ++ design_properties y.now) is
     ∙ sym (ap (flat_map design_properties) (ap seen (take_more those i x within) ∙ map-append (λ d. d.now) (take i those) (get_or those i x ∷ []))
-      ∙ (flat_map-append design_properties (seen (take i those)) ((get_or those i x).now ∷ []) ∙ ap (λ props. flat_map design_properties (seen (take i those)) ++ props) (append-nil (design_properties (get_or those i x).now))))))
+    ∙ (flat_map-append design_properties (seen (take i those)) ((get_or those i x).now ∷ []) ∙ ap (λ props. flat_map design_properties (seen (take i those)) ++ props) (append-nil (design_properties (get_or those i x).now))))))
 
 -- the number of the top in the design
 pub top_is : (file : EdifFile) (numbers : List ℕ) → numbers ≡ numbers_in_design file → number_in numbers (number_meant (top file)) ≡ edif_top file

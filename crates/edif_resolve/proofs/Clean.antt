@@ -1,5 +1,5 @@
 -- A file that breaks no rule up to E12: what its parts then mean.
-use Rattle.std.proofs.Common.{◌≡◌, ℕ, zero, suc, ◌+◌, ◌<◌, ◌⊎◌, inl, inr, Bool, true, false, cond, List, [], ◌∷◌, ◌++◌, map, length, take, get_or, slice_get, Option, Some, None, refl, sym, ap, ◌∙◌, subst, arith, append_assoc}
+use Rattle.std.proofs.Common.{◌≡◌, ℕ, zero, suc, ◌+◌, ◌<◌, ◌⊎◌, inl, inr, Bool, true, false, cond, List, [], ◌∷◌, ◌++◌, map, length, take, get_or, slice_get, Option, Some, None, refl, sym, ap, ◌∙◌, subst, arith}
 use Rattle.std.specs.Prelude.{option_map, is_none}
 use Rattle.std.specs.Option.{option_and_then}
 use Rattle.std.specs.List.{AllByRecursion, filter_map, flat_map}
@@ -7,14 +7,12 @@ use Rattle.std.proofs.lemmas.Bool.{false≢true}
 use Rattle.std.proofs.lemmas.List.{append-nil, length-append, length-map}
 use Rattle.std.proofs.lemmas.List.Elements.{filter_map-append}
 use Rattle.std.proofs.lemmas.Grind.{flat_map-append}
-use Rattle.std.proofs.lemmas.Option.{get_or_from_slice_get, slice_get-map, slice_get_within}
-use Rattle.nl_base.specs.declared.rule.Refusal.{Refusal}
+use Rattle.std.proofs.lemmas.Option.{get_or_from_slice_get, slice_get_within}
 use Rattle.nl_base.specs.declared.rule.Rule.TheVariants.{E2, E3, E4}
 use Rattle.edif_lookup.specs.Candidates.{the_only}
 use Rattle.edif_lookup.specs.Refusals.{broken, broken_reference, each_after, if_some, in_order}
 use Rattle.edif_lookup.proofs.Orders.{in_order_none, none_left, none_right}
 use Rattle.edif_names.specs.Names.{original}
-use Rattle.edif_nets.specs.declared.instance.Instance.{Instance}
 use Rattle.edif_library.specs.declared.cell.Cell.{Cell}
 use Rattle.edif_library.specs.declared.file.Design.{Design}
 use Rattle.edif_library.specs.declared.file.EdifFile.{EdifFile}
@@ -72,22 +70,27 @@ module _ (file : EdifFile) where
   walk_clean before [] k first is_k is_first h n place e reached = absurd (cc)
   walk_clean before (file_items.Library library ∷ rest) k first is_k is_first h n place e reached =
       elim (split_get (map (place_in k) (cells_in library)) (places_from (k + 1) (libraries_in rest)) n place e) [
-      | inl a ↦ (let found = map_get (place_in k) (cells_in library) n place a.1 in subst (λ p. cell_refusals file p ≡ []) found.1.1 (library_clean k first (cells_in library) own n found.0 found.1.0 reached))
-      | inr b ↦ walk_clean (before ++ file_items.Library library ∷ []) rest (k + 1) (first + length (cells_in library)) more_k more_first later b.0 place b.1.1
-          (subst (λ m. is_reached file m ≡ true) (let f : first + n ≡ first + length (cells_in library) + b.0 = omega (arith, b.1.0, length-map (cells_in library) (place_in k)) in f) reached)
+        | inl a ↦ (let found = map_get (place_in k) (cells_in library) n place a.1 in subst (λ p. cell_refusals file p ≡ []) found.1.1 (library_clean k first (cells_in library) own n found.0 found.1.0 reached))
+        | inr b ↦ walk_clean (before ++ file_items.Library library ∷ []) rest (k + 1) (first + length (cells_in library)) more_k more_first later b.0 place b.1.1
+            (subst (λ m. is_reached file m ≡ true) (let f : first + n ≡ first + length (cells_in library) + b.0 = omega (arith, b.1.0, length-map (cells_in library) (place_in k)) in f) reached)
       ]
     where
       here : file_item_refusals file before (file_items.Library library) ≡ []
       here = none_left (file_item_refusals file before (file_items.Library library)) (each_after (file_item_refusals file) (before ++ file_items.Library library ∷ []) rest) h
+
       later : each_after (file_item_refusals file) (before ++ file_items.Library library ∷ []) rest ≡ []
       later = none_right (file_item_refusals file before (file_items.Library library)) (each_after (file_item_refusals file) (before ++ file_items.Library library ∷ []) rest) h
+
       own : in_order (library_cell_refusals file k first) (cells_in library) ≡ []
       own = (λ j. in_order (library_cell_refusals file (is_k j) (is_first j)) (cells_in library))
           ∙ none_right (second_library (libraries_in before) library) (in_order (library_cell_refusals file (length (libraries_in before)) (cells_before before)) (cells_in library)) here
+
       more : libraries_in (before ++ file_items.Library library ∷ []) ≡ libraries_in before ++ library ∷ []
       more = libraries_more before (file_items.Library library)
+
       more_k : k + 1 ≡ length (libraries_in (before ++ file_items.Library library ∷ []))
       more_k = ap (λ m. m + 1) is_k ∙ (sym (length-append (libraries_in before) (library ∷ [])) ∙ ap length (sym more))
+
       more_first : first + length (cells_in library) ≡ cells_before (before ++ file_items.Library library ∷ [])
       more_first =
           ap (λ m. m + length (cells_in library)) is_first
@@ -96,13 +99,13 @@ module _ (file : EdifFile) where
           ∙ (ap length (sym (flat_map-append cells_in (libraries_in before) (library ∷ []))) ∙ ap (λ ls. length (flat_map cells_in ls)) (sym more))))
   walk_clean before (file_items.Design design ∷ rest) k first is_k is_first h n place e reached =
       walk_clean (before ++ file_items.Design design ∷ []) rest k first (is_k ∙ ap length (sym (same_libraries before (file_items.Design design) refl))) (is_first ∙ ap (λ ls. length (flat_map cells_in ls)) (sym (same_libraries before (file_items.Design design) refl)))
-        (none_right (file_item_refusals file before (file_items.Design design)) (each_after (file_item_refusals file) (before ++ file_items.Design design ∷ []) rest) h) n place e reached
+      (none_right (file_item_refusals file before (file_items.Design design)) (each_after (file_item_refusals file) (before ++ file_items.Design design ∷ []) rest) h) n place e reached
   walk_clean before (file_items.Status status ∷ rest) k first is_k is_first h n place e reached =
       walk_clean (before ++ file_items.Status status ∷ []) rest k first (is_k ∙ ap length (sym (same_libraries before (file_items.Status status) refl))) (is_first ∙ ap (λ ls. length (flat_map cells_in ls)) (sym (same_libraries before (file_items.Status status) refl)))
-        h n place e reached
+      h n place e reached
   walk_clean before (file_items.Note note ∷ rest) k first is_k is_first h n place e reached =
       walk_clean (before ++ file_items.Note note ∷ []) rest k first (is_k ∙ ap length (sym (same_libraries before (file_items.Note note) refl))) (is_first ∙ ap (λ ls. length (flat_map cells_in ls)) (sym (same_libraries before (file_items.Note note) refl)))
-        h n place e reached
+      h n place e reached
 
   items_clean : refusals file ≡ [] → in_order (file_item_refusals file) file.items ≡ []
   unfolding refusals
@@ -116,9 +119,10 @@ module _ (file : EdifFile) where
   designs_clean before [] h = tt
   designs_clean before (file_items.Library library ∷ rest) h =
       designs_clean (before ++ file_items.Library library ∷ []) rest (none_right (file_item_refusals file before (file_items.Library library)) (each_after (file_item_refusals file) (before ++ file_items.Library library ∷ []) rest) h)
-  designs_clean before (file_items.Design design ∷ rest) h =
-      (none_left (design_refusals file design) (each_after (file_item_refusals file) (before ++ file_items.Design design ∷ []) rest) h,
-        designs_clean (before ++ file_items.Design design ∷ []) rest (none_right (design_refusals file design) (each_after (file_item_refusals file) (before ++ file_items.Design design ∷ []) rest) h))
+  designs_clean before (file_items.Design design ∷ rest) h = (
+    none_left (design_refusals file design) (each_after (file_item_refusals file) (before ++ file_items.Design design ∷ []) rest) h,
+    designs_clean (before ++ file_items.Design design ∷ []) rest (none_right (design_refusals file design) (each_after (file_item_refusals file) (before ++ file_items.Design design ∷ []) rest) h),
+  )
   designs_clean before (file_items.Status status ∷ rest) h = designs_clean (before ++ file_items.Status status ∷ []) rest h
   designs_clean before (file_items.Note note ∷ rest) h = designs_clean (before ++ file_items.Note note ∷ []) rest h
 
@@ -154,12 +158,12 @@ module _ (file : EdifFile) where
   instances_in_clean place before [] h = refl
   instances_in_clean place before (contents_items.Instance instance ∷ rest) h =
       let a : instance_refusals file place.library (original place.cell.name) (filter_map instance_in before) instance ≡ [] =
-        none_left (contents_refusals file place before (contents_items.Instance instance)) (each_after (contents_refusals file place) (before ++ contents_items.Instance instance ∷ []) rest) h in
+      none_left (contents_refusals file place before (contents_items.Instance instance)) (each_after (contents_refusals file place) (before ++ contents_items.Instance instance ∷ []) rest) h in
       let b = instances_in_clean place (before ++ contents_items.Instance instance ∷ []) rest
-        (none_right (contents_refusals file place before (contents_items.Instance instance)) (each_after (contents_refusals file place) (before ++ contents_items.Instance instance ∷ []) rest) h) in
+      (none_right (contents_refusals file place before (contents_items.Instance instance)) (each_after (contents_refusals file place) (before ++ contents_items.Instance instance ∷ []) rest) h) in
       let e : filter_map instance_in (before ++ contents_items.Instance instance ∷ []) ≡ filter_map instance_in before ++ instance ∷ [] = filter_map-append instance_in before (contents_items.Instance instance ∷ []) in
       let d : each_after (instance_refusals file place.library (original place.cell.name)) (filter_map instance_in before ++ instance ∷ []) (filter_map instance_in rest) ≡ [] =
-        ap (λ earlier. each_after (instance_refusals file place.library (original place.cell.name)) earlier (filter_map instance_in rest)) (sym e) ∙ b in
+      ap (λ earlier. each_after (instance_refusals file place.library (original place.cell.name)) earlier (filter_map instance_in rest)) (sym e) ∙ b in
       (λ j. a j ++ d j)
   instances_in_clean place before (contents_items.Net net ∷ rest) h =
       let e : filter_map instance_in (before ++ contents_items.Net net ∷ []) ≡ filter_map instance_in before = filter_map-append instance_in before (contents_items.Net net ∷ []) ∙ append-nil (filter_map instance_in before) in

@@ -5,21 +5,17 @@ use Rattle.std.specs.List.{AllByRecursion, cons_option, enumerate_from, filter_m
 use Rattle.std.proofs.lemmas.List.{length-append, length-map}
 use Rattle.std.proofs.lemmas.List.Sums.{sum_by-cons}
 use Rattle.net_hier.specs.Valid.{CellsFit, HasFewParts}
-use Rattle.net_hier.specs.declared.cells.HCell.{HCell}
-use Rattle.edif_library.specs.Sizes.{cell_item_size, cell_size, contents_item_size, edif_size, file_item_size, list_size, view_item_size, view_size}
+use Rattle.edif_library.specs.Sizes.{cell_item_size, cell_size, contents_item_size, edif_size, list_size, view_item_size, view_size}
 use Rattle.edif_library.specs.declared.cell.Cell.{Cell}
 use Rattle.edif_library.specs.declared.cell.CellItem.{CellItem}
 use Rattle.edif_library.specs.declared.cell.CellItem.TheVariants as cell_items
 use Rattle.edif_library.specs.declared.file.EdifFile.{EdifFile}
-use Rattle.edif_library.specs.declared.file.FileItem.{FileItem}
 use Rattle.edif_library.specs.declared.library.Library.{Library}
-use Rattle.edif_library.specs.declared.view.ContentsItem.{ContentsItem}
-use Rattle.edif_library.specs.declared.view.View.{View}
 use Rattle.edif_library.specs.declared.view.ViewItem.{ViewItem}
 use Rattle.edif_library.specs.declared.view.ViewItem.TheVariants as view_items
 use Rattle.edif_design.specs.Design.{cell_value, edif_cells, edif_top, instance_value, numbers_in_design}
 use Rattle.edif_design.specs.FileRules.{refusals}
-use Rattle.edif_design.specs.Parts.{cell_contents, cells_in, contents, contents_in, instance_in, instances, libraries_in, numbered, view_in, views}
+use Rattle.edif_design.specs.Parts.{cell_contents, cells_in, contents, contents_in, instance_in, instances, libraries_in, numbered, view_in}
 use Rattle.edif_design.specs.Reach.{is_reached, reached_cells}
 use Rattle.edif_design.specs.References.{CellPlace, all_cells, linked_cell, place_in}
 use Rattle.edif_design.specs.Tables.{places_from}
@@ -117,11 +113,11 @@ few_parts : (file : EdifFile) → edif_size file ≤ 268435456 → HasFewParts (
 few_parts file h = record {
   few_cells = design_few file 268435456 h;
   few_instances = λ number cell e.
-    (let from : ComesFrom file number cell = design_from file number cell e in
-    let a : length (cell_value (numbers_in_design file) (linked_cell file from.place)).instances ≡ length (instances from.place.cell) = value_instances file from.place in
-    let b : length (instances from.place.cell) ≤ cell_size from.place.cell = instances_few from.place.cell in
-    let d : cell_size from.place.cell ≤ 268435456 = all_get (λ place. cell_size place.cell ≤ 268435456) (all_cells file) from.old from.place (file_cells_small file 268435456 h) from.stands in
-    subst (λ c. length c.instances ≤ 268435456) from.value (omega (arith, a, b, d)));
+      (let from : ComesFrom file number cell = design_from file number cell e in
+      let a : length (cell_value (numbers_in_design file) (linked_cell file from.place)).instances ≡ length (instances from.place.cell) = value_instances file from.place in
+      let b : length (instances from.place.cell) ≤ cell_size from.place.cell = instances_few from.place.cell in
+      let d : cell_size from.place.cell ≤ 268435456 = all_get (λ place. cell_size place.cell ≤ 268435456) (all_cells file) from.old from.place (file_cells_small file 268435456 h) from.stands in
+      subst (λ c. length c.instances ≤ 268435456) from.value (omega (arith, a, b, d)));
 }
 
 -- the cells of a file that breaks no rule fit

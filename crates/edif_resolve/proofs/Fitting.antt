@@ -1,42 +1,36 @@
 -- The cells of a file that breaks no rule up to E12 are as in a design.
-use Rattle.std.proofs.Common.{◌≡◌, ℕ, zero, suc, ◌+◌, ◌<◌, ◌≤◌, inl, inr, Bool, true, false, List, [], ◌∷◌, ◌++◌, map, length, take, filter, get_or, slice_get, cond, Option, Some, None, refl, sym, ap, ◌∙◌, subst, arith, pos}
-use Rattle.std.specs.Prelude.{option_map, codes, ℤ, nat_abs, int_lt, not, ◌||◌, negsuc}
-use Rattle.std.specs.List.{AllByRecursion, cons_option, enumerate_from, filter_map, flat_map}
+use Rattle.std.proofs.Common.{◌≡◌, ℕ, zero, suc, ◌+◌, ◌<◌, inl, inr, Bool, true, false, List, [], ◌∷◌, length, get_or, slice_get, cond, Option, Some, None, refl, sym, ap, ◌∙◌, subst, arith, pos}
+use Rattle.std.specs.Prelude.{option_map, ℤ, nat_abs, int_lt, not, ◌||◌, negsuc}
+use Rattle.std.specs.List.{cons_option, filter_map, flat_map}
 use Rattle.std.specs.Option.{option_and_then}
 use Rattle.std.proofs.lemmas.Bool.{false≢true}
 use Rattle.std.proofs.lemmas.Bool.Decides.{nat_tests}
 use Rattle.std.proofs.lemmas.List.{length-map}
-use Rattle.std.proofs.lemmas.Option.{get_or_from_slice_get, slice_get-map, slice_get_within}
-use Rattle.nl_base.specs.Ranges.{Bounds, range_bits}
+use Rattle.std.proofs.lemmas.Option.{slice_get-map, slice_get_within}
 use Rattle.net_graph.specs.Graph.{IsReached}
 use Rattle.net_graph.proofs.ListLaws.{element_there}
 use Rattle.net_hier.specs.Cells.{IsPinBit, IsPortBit, width_of}
 use Rattle.net_hier.specs.Design.{cells_below as design_below}
-use Rattle.net_hier.specs.Valid.{CellsFit, Each, HasFewParts, HaveOwnNames, IsGoodCell, IsJoinOf, IsNode, IsPortWidth}
+use Rattle.net_hier.specs.Valid.{Each, HaveOwnNames, IsGoodCell, IsJoinOf, IsNode, IsPortWidth}
 use Rattle.net_hier.specs.declared.cells.HCell.{HCell}
-use Rattle.net_hier.specs.declared.cells.HInst.{HInst}
-use Rattle.net_hier.specs.declared.cells.HPort.{HPort}
-use Rattle.net_hier.specs.declared.nodes.Join.{Join}
 use Rattle.net_hier.specs.declared.nodes.Node.{Node}
 use Rattle.net_hier.specs.declared.nodes.Node.TheVariants as nodes
-use Rattle.edif_names.specs.Names.{array_name, original, port_original}
+use Rattle.edif_names.specs.Names.{original, port_original}
 use Rattle.edif_names.specs.declared.name.PortName.{PortName}
 use Rattle.edif_names.specs.declared.name.PortName.TheVariants.{Single, Array}
 use Rattle.edif_nets.specs.declared.instance.Instance.{Instance}
-use Rattle.edif_nets.specs.declared.net.Net.{Net}
 use Rattle.edif_nets.specs.declared.net.PortRef.{PortRef}
 use Rattle.edif_nets.specs.declared.port.Port.{Port}
 use Rattle.edif_lookup.specs.Candidates.{the_only}
-use Rattle.edif_library.specs.Sizes.{cell_size, edif_size}
 use Rattle.edif_library.specs.declared.cell.Cell.{Cell}
 use Rattle.edif_library.specs.declared.file.EdifFile.{EdifFile}
-use Rattle.edif_design.specs.CellRules.{bit_meant, bit_of, cell_refusals, instance_candidates, is_bad_size, is_no_member, node_of, only_bit, owner_at, owner_bit, owner_of, Owner, port_candidates, port_ident, port_name, port_refusals, size_of}
+use Rattle.edif_design.specs.CellRules.{bit_meant, bit_of, instance_candidates, is_bad_size, is_no_member, node_of, owner_at, owner_bit, owner_of, Owner, port_candidates, port_ident, port_name, size_of}
 use Rattle.edif_design.specs.Design.{cell_value, edif_cells, edif_top, instance_value, net_joins, net_value, number_in, numbers_in_design, port_value}
 use Rattle.edif_design.specs.FileRules.{refusals}
 use Rattle.edif_design.specs.Parts.{instances, nets, numbered, ports}
-use Rattle.edif_design.specs.Reach.{is_reached, reached_cells}
-use Rattle.edif_design.specs.References.{CellPlace, all_cells, cell_meant, linked_cell, number_meant, top}
-use Rattle.edif_resolve.proofs.Clean.{map_get, ports_clean, reached_clean, split_get, top_there}
+use Rattle.edif_design.specs.Reach.{is_reached}
+use Rattle.edif_design.specs.References.{CellPlace, all_cells, linked_cell, number_meant, top}
+use Rattle.edif_resolve.proofs.Clean.{map_get, ports_clean, reached_clean, split_get}
 use Rattle.edif_resolve.proofs.Linking.{below_at, design_reached, inner_there, instance_from, instance_meant, instance_names_clean, instance_number, instance_there}
 use Rattle.edif_resolve.proofs.Numbers.{StandsAt, meant_stands, all_candidates, numbered_stand, the_only_is, top_stands}
 use Rattle.edif_resolve.proofs.Recursion.{numbered_is}
@@ -182,10 +176,10 @@ module _ (file : EdifFile) (clean : refusals file ≡ []) (start : ℕ × CellPl
         by : (o : Option (List ℕ)) → option_and_then (owner_bit ref) (owner_of (linked_cell file place) o) ≡ Some node → GoodNode node
         by None g = owner_node ref (None, place.cell) node (λ port bit is_port is_bit. port_bit n place e reached ref.port port ref.member bit is_port is_bit) g
         by (Some spelling) g =
-          let a = then_some (owner_bit ref) (owner_of (linked_cell file place) (Some spelling)) node g in
-          let b = then_some (owner_at (linked_cell file place).below) (the_only (instance_candidates place.cell spelling)) a.0 a.1.0 in
-          let d = map_some (λ inner. (Some b.0, inner.1)) (get_or (linked_cell file place).below b.0.0 None) a.0 b.1.1 in
-          owner_node ref (Some b.0, d.0.1) node (λ port bit is_port is_bit. pin_bit spelling b.0 d.0 b.1.0 d.1.0 ref.port port ref.member bit is_port is_bit) (ap (owner_bit ref) d.1.1 ∙ a.1.1)
+            let a = then_some (owner_bit ref) (owner_of (linked_cell file place) (Some spelling)) node g in
+            let b = then_some (owner_at (linked_cell file place).below) (the_only (instance_candidates place.cell spelling)) a.0 a.1.0 in
+            let d = map_some (λ inner. (Some b.0, inner.1)) (get_or (linked_cell file place).below b.0.0 None) a.0 b.1.1 in
+            owner_node ref (Some b.0, d.0.1) node (λ port bit is_port is_bit. pin_bit spelling b.0 d.0 b.1.0 d.1.0 ref.port port ref.member bit is_port is_bit) (ap (owner_bit ref) d.1.1 ∙ a.1.1)
 
     joins_good : Each (IsJoinOf (edif_cells file) (value_of place)) (value_of place).joins
     unfolding cell_value
@@ -204,7 +198,7 @@ module _ (file : EdifFile) (clean : refusals file ≡ []) (start : ℕ × CellPl
         let a = map_get port_value (ports place.cell) i x is_x in
         let b = map_get port_value (ports place.cell) j y is_y in
         own_names port_name (ports place.cell) (port_names_clean (original place.cell.name) (ports place.cell) (ports_clean file place (reached_clean file clean n place e reached))) i j a.0 b.0 a.1.0 b.1.0
-          (ap (λ p. p.name) a.1.1 ∙ (same ∙ sym (ap (λ p. p.name) b.1.1)))
+        (ap (λ p. p.name) a.1.1 ∙ (same ∙ sym (ap (λ p. p.name) b.1.1)))
 
     widths_good : Each IsPortWidth (value_of place).ports
     unfolding cell_value
@@ -241,7 +235,7 @@ module _ (file : EdifFile) (clean : refusals file ≡ []) (start : ℕ × CellPl
   pub has_top : edif_top file < length (edif_cells file)
   has_top =
       subst (λ m. m < length (edif_cells file)) (sym top_number)
-        (slice_get_within (edif_cells file) (get_or (numbers_in_design file) start.0 0) (value_of start.1) (design_at file start.0 start.1 (top_stands file start is_top) (top_reached file start is_top)))
+      (slice_get_within (edif_cells file) (get_or (numbers_in_design file) start.0 0) (value_of start.1) (design_at file start.0 start.1 (top_stands file start is_top) (top_reached file start is_top)))
 
   pub good_cells : (number : ℕ) (cell : HCell) → slice_get (edif_cells file) number ≡ Some cell → IsGoodCell (edif_cells file) cell
   good_cells number cell g =
@@ -253,5 +247,5 @@ module _ (file : EdifFile) (clean : refusals file ≡ []) (start : ℕ × CellPl
       let there = element_there (edif_cells file) number within in
       let from : ComesFrom file number there.0 = design_from file number there.0 there.1 in
       subst (λ m. IsReached (design_below (edif_cells file)) (edif_top file) m) from.renumbered
-        (subst (λ m. IsReached (design_below (edif_cells file)) m (get_or (numbers_in_design file) from.old 0)) (sym top_number)
-          (design_reached file clean start is_top from.old (reach_of file start is_top from.old from.reached) from.reached))
+      (subst (λ m. IsReached (design_below (edif_cells file)) m (get_or (numbers_in_design file) from.old 0)) (sym top_number)
+      (design_reached file clean start is_top from.old (reach_of file start is_top from.old from.reached) from.reached))

@@ -1,7 +1,7 @@
 -- The instances of a reached cell that breaks no rule, in the design.
-use Rattle.std.proofs.Common.{◌≡◌, ℕ, zero, suc, ◌+◌, ◌<◌, ◌≤◌, Bool, true, false, List, [], ◌∷◌, ◌++◌, map, length, take, get_or, slice_get, Option, Some, None, refl, sym, ap, ◌∙◌, subst, arith}
+use Rattle.std.proofs.Common.{◌≡◌, ℕ, zero, suc, ◌+◌, true, false, List, [], ◌∷◌, ◌++◌, map, take, get_or, slice_get, Option, Some, None, refl, sym, ap, ◌∙◌, arith}
 use Rattle.std.specs.Prelude.{option_map, codes}
-use Rattle.std.specs.List.{cons_option, enumerate_from, filter_map}
+use Rattle.std.specs.List.{cons_option}
 use Rattle.std.specs.Option.{option_and_then}
 use Rattle.std.proofs.lemmas.Option.{get_or_from_slice_get, slice_get-map, slice_get_within}
 use Rattle.nl_base.specs.declared.rule.Refusal.{Refusal}
@@ -12,16 +12,14 @@ use Rattle.net_graph.proofs.WalkLaws.{linked_along, linked_by, linked_itself}
 use Rattle.net_graph.proofs.WorkLaws.{has_above}
 use Rattle.net_hier.specs.Design.{below_of}
 use Rattle.net_hier.specs.Design.{cells_below as design_below}
-use Rattle.net_hier.specs.declared.cells.HCell.{HCell}
 use Rattle.net_hier.specs.declared.cells.HInst.{HInst}
-use Rattle.edif_lookup.specs.Refusals.{broken, in_order, is_in}
+use Rattle.edif_lookup.specs.Refusals.{broken, is_in}
 use Rattle.edif_lookup.proofs.Orders.{in_order_none, none_left, none_right}
 use Rattle.edif_names.specs.Names.{original}
 use Rattle.edif_nets.specs.declared.instance.Instance.{Instance}
-use Rattle.edif_library.specs.declared.cell.Cell.{Cell}
 use Rattle.edif_library.specs.declared.file.EdifFile.{EdifFile}
-use Rattle.edif_design.specs.CellRules.{cell_refusals, inner_cell, instance_refusals, link_refusals, view_refusals}
-use Rattle.edif_design.specs.Design.{cell_value, edif_cells, instance_value, number_below, number_in, numbers_in_design}
+use Rattle.edif_design.specs.CellRules.{inner_cell, instance_refusals, link_refusals, view_refusals}
+use Rattle.edif_design.specs.Design.{cell_value, edif_cells, instance_value, number_in, numbers_in_design}
 use Rattle.edif_design.specs.FileRules.{refusals}
 use Rattle.edif_design.specs.Parts.{instances, numbered}
 use Rattle.edif_design.specs.Reach.{cells_below, is_reached, those_meant}
@@ -29,7 +27,7 @@ use Rattle.edif_design.specs.References.{CellPlace, all_cells, cell_meant, file_
 use Rattle.edif_resolve.proofs.Clean.{instances_clean, link_there, map_get, reached_clean}
 use Rattle.edif_resolve.proofs.Numbers.{meant_stands}
 use Rattle.edif_resolve.proofs.Recursion.{numbered_get, numbered_is}
-use Rattle.edif_resolve.proofs.Renumbering.{below_reached, design_at, reach_of, reached_by}
+use Rattle.edif_resolve.proofs.Renumbering.{below_reached, design_at, reached_by}
 use Rattle.edif_resolve.proofs.Widths.{unbroken}
 
 -- what is kept of a list of options stands where the option does, further on
@@ -63,8 +61,8 @@ module _ (file : EdifFile) where
       → get_or (linked_cell file place).below i None ≡ option_map (λ found. (found.0, found.1.cell)) (cell_meant file place.library instance)
   below_at place i instance e =
       get_or_from_slice_get (linked_cell file place).below i (option_and_then (with_number (file_cells file)) (number_meant (cell_meant file place.library instance))) None
-        (slice_get-map (option_and_then (with_number (file_cells file))) (numbers_meant file place) i
-        ∙ ap (option_map (option_and_then (with_number (file_cells file)))) (slice_get-map (λ u. number_meant (cell_meant file place.library u)) (instances place.cell) i ∙ ap (option_map (λ u. number_meant (cell_meant file place.library u))) e))
+      (slice_get-map (option_and_then (with_number (file_cells file))) (numbers_meant file place) i
+      ∙ ap (option_map (option_and_then (with_number (file_cells file)))) (slice_get-map (λ u. number_meant (cell_meant file place.library u)) (instances place.cell) i ∙ ap (option_map (λ u. number_meant (cell_meant file place.library u))) e))
       ∙ meant_cell (cell_meant file place.library instance) (λ found g. meant_stands file place.library instance.library instance.cell found g)
 
   -- the number that an instance of the design has
@@ -123,15 +121,15 @@ module _ (file : EdifFile) where
       pub instance_meant : (i : ℕ) (u : Instance) → slice_get (instances place.cell) i ≡ Some u → (found : ℕ × CellPlace) × (cell_meant file place.library u ≡ Some found)
       instance_meant i u g =
           link_there file place.library cell_name u.library u.cell
-            (none_right (second_one i u) (link_refusals file place.library cell_name u.library u.cell)
-              (none_left (second_one i u ++ link_refusals file place.library cell_name u.library u.cell) (view_refusals cell_name u.view (inner_cell file place.library u))
-                (none_left (second_one i u ++ link_refusals file place.library cell_name u.library u.cell ++ view_refusals cell_name u.view (inner_cell file place.library u)) (same_named i u) (instance_clean i u g))))
+          (none_right (second_one i u) (link_refusals file place.library cell_name u.library u.cell)
+          (none_left (second_one i u ++ link_refusals file place.library cell_name u.library u.cell) (view_refusals cell_name u.view (inner_cell file place.library u))
+          (none_left (second_one i u ++ link_refusals file place.library cell_name u.library u.cell ++ view_refusals cell_name u.view (inner_cell file place.library u)) (same_named i u) (instance_clean i u g))))
 
       -- no instance has the name of one before it
       pub instance_names_clean : (i : ℕ) (u : Instance) → slice_get (instances place.cell) i ≡ Some u → is_in (original u.name) (map (λ other. original other.name) (take i (instances place.cell))) ≡ false
       instance_names_clean i u g =
           unbroken (is_in (original u.name) (map (λ other. original other.name) (take i (instances place.cell)))) E12 cell_name (codes "instance" ∷ (original u.name ∷ []))
-            (none_right (second_one i u ++ link_refusals file place.library cell_name u.library u.cell ++ view_refusals cell_name u.view (inner_cell file place.library u)) (same_named i u) (instance_clean i u g))
+          (none_right (second_one i u ++ link_refusals file place.library cell_name u.library u.cell ++ view_refusals cell_name u.view (inner_cell file place.library u)) (same_named i u) (instance_clean i u g))
 
     module _ (start : ℕ × CellPlace) (is_top : top file ≡ Some start) where
       -- the cell of an instance of a reached cell stands in the design
@@ -153,8 +151,8 @@ module _ (file : EdifFile) where
             are_below = slice_get-map below_of (edif_cells file) (get_or (numbers_in_design file) outer 0) ∙ ap (option_map below_of) (design_at file outer place list.1.0 reached);
             place = at.0;
             is_there = slice_get-map (λ u. u.cell) (cell_value (numbers_in_design file) (linked_cell file place)).instances at.0
-              ∙ (ap (option_map (λ u. u.cell)) (instance_there place at.0 from.0 from.1.0)
-              ∙ ap Some (instance_number place at.0 from.0 meant.0 from.1.0 meant.1.0 ∙ ap (λ m. get_or (numbers_in_design file) m 0) meant.1.1));
+                ∙ (ap (option_map (λ u. u.cell)) (instance_there place at.0 from.0 from.1.0)
+                ∙ ap Some (instance_number place at.0 from.0 meant.0 from.1.0 meant.1.0 ∙ ap (λ m. get_or (numbers_in_design file) m 0) meant.1.1));
           }
 
       -- what is reached in the file is reached in the design

@@ -1,5 +1,5 @@
 -- The refusals of the rules up to E12 are none of a higher rule.
-use Rattle.std.proofs.Common.{◌≡◌, ℕ, ◌≤◌, ◌<◌, Bool, true, false, cond, List, [], ◌∷◌, ◌++◌, map, Option, Some, None, refl, sym, ap, ◌∙◌, subst, arith, slice_get}
+use Rattle.std.proofs.Common.{◌≡◌, ℕ, ◌≤◌, Bool, true, false, cond, List, [], ◌∷◌, ◌++◌, map, Option, Some, None, refl, sym, ap, ◌∙◌, subst, arith, slice_get}
 use Rattle.std.specs.Prelude.{ℤ, codes, is_none, not, nat_lt, ◌+◌, length}
 use Rattle.std.specs.Fmt.{signed_decimal}
 use Rattle.std.specs.List.{AllByRecursion, filter_map, flat_map, list_any}
@@ -8,9 +8,9 @@ use Rattle.std.proofs.lemmas.Bool.Decides.{nat_tests}
 use Rattle.nl_base.specs.Rules.{rule_number}
 use Rattle.nl_base.specs.declared.rule.Refusal.{Refusal}
 use Rattle.nl_base.specs.declared.rule.Rule.{Rule}
-use Rattle.nl_base.specs.declared.rule.Rule.TheVariants.{E1, E2, E3, E4, E5, E6, E7, E8, E9, E10, E11, E12, E13}
+use Rattle.nl_base.specs.declared.rule.Rule.TheVariants.{E2, E3, E4, E5, E7, E8, E9, E10, E11, E12}
 use Rattle.net_hier.specs.declared.nodes.Node.{Node}
-use Rattle.edif_lookup.specs.Refusals.{broken, broken_reference, each_after, first_refusal, if_some, in_order, is_in, lower, lowest}
+use Rattle.edif_lookup.specs.Refusals.{broken, broken_reference, each_after, if_some, in_order, is_in, lower, lowest}
 use Rattle.edif_lookup.proofs.FirstLaws.{first-lowest}
 use Rattle.edif_lookup.proofs.Orders.{lowest-append}
 use Rattle.edif_nets.specs.declared.instance.Instance.{Instance}
@@ -26,7 +26,7 @@ use Rattle.edif_library.specs.declared.view.ContentsItem.{ContentsItem}
 use Rattle.edif_library.specs.declared.view.ContentsItem.TheVariants as contents_items
 use Rattle.edif_design.specs.CellRules.{Owner, bit_of, bits_of_nets, index_names, inner_cell, instance_candidates, is_bad_size, is_no_member, is_wide, means_view, node_of, owner_names, owner_of, port_candidates, port_ident, port_name, same_node, size_of, bit_refusals, cell_refusals, contents_refusals, instance_ref_refusals, instance_refusals, link_refusals, member_refusals, net_refusals, port_ref_refusals, port_refusals, ref_refusals, view_refusals}
 use Rattle.edif_design.specs.Design.{edif_cells}
-use Rattle.edif_design.specs.FileRules.{cells_before, design_count_refusals, design_refusals, file_item_refusals, first_E, library_cell_refusals, reached_refusals, recursion_refusals, refusals, second_cell, second_library}
+use Rattle.edif_design.specs.FileRules.{cells_before, design_count_refusals, file_item_refusals, first_E, library_cell_refusals, reached_refusals, recursion_refusals, refusals, second_cell, second_library}
 use Rattle.edif_design.specs.Parts.{cell_contents, cells_in, designs, instance_in, libraries_in, net_in, ports, views}
 use Rattle.edif_design.specs.Reach.{is_reached}
 use Rattle.edif_design.specs.References.{CellPlace, LinkedCell, cell_candidates, library_candidates, library_meant, linked_cell, place_in, top_meant}
@@ -91,8 +91,8 @@ low_instance_ref cell net spelling = low_reference (instance_candidates cell spe
 low_ref : (linked : LinkedCell) (net : List ℕ) (bits : List Node) (ref : PortRef) → AreLow (ref_refusals linked net bits ref)
 low_ref linked net bits ref =
     low_both (if_some ref.instance (instance_ref_refusals linked.cell net)) (if_some (owner_of linked ref.instance) (port_ref_refusals (original linked.cell.name) net bits ref))
-      (low_if ref.instance (instance_ref_refusals linked.cell net) (low_instance_ref linked.cell net))
-      (low_if (owner_of linked ref.instance) (port_ref_refusals (original linked.cell.name) net bits ref) (low_port_ref (original linked.cell.name) net bits ref))
+    (low_if ref.instance (instance_ref_refusals linked.cell net) (low_instance_ref linked.cell net))
+    (low_if (owner_of linked ref.instance) (port_ref_refusals (original linked.cell.name) net bits ref) (low_port_ref (original linked.cell.name) net bits ref))
 
 low_net : (linked : LinkedCell) (earlier : List Net) (net : Net) → AreLow (net_refusals linked earlier net)
 low_net linked earlier net = low_both (broken (is_in net.name.ident (map (λ other. other.name.ident) earlier)) E5 (original linked.cell.name) (codes "net" ∷ (net.name.ident ∷ []))) (flat_map (ref_refusals linked (original net.name) (bits_of_nets linked earlier)) net.joined) (low_broken (is_in net.name.ident (map (λ other. other.name.ident) earlier)) E5 (original linked.cell.name) (codes "net" ∷ (net.name.ident ∷ [])) (omega arith)) (low_flat (ref_refusals linked (original net.name) (bits_of_nets linked earlier)) net.joined (low_ref linked (original net.name) (bits_of_nets linked earlier)))
@@ -106,7 +106,7 @@ low_cell : (file : EdifFile) (place : CellPlace) → AreLow (cell_refusals file 
 unfolding cell_refusals
 low_cell file place =
     low_both (in_order (port_refusals (original place.cell.name)) (ports place.cell)) (in_order (contents_refusals file place) (cell_contents place.cell))
-      (low_each (port_refusals (original place.cell.name)) [] (ports place.cell) (low_port (original place.cell.name))) (low_each (contents_refusals file place) [] (cell_contents place.cell) (low_contents file place))
+    (low_each (port_refusals (original place.cell.name)) [] (ports place.cell) (low_port (original place.cell.name))) (low_each (contents_refusals file place) [] (cell_contents place.cell) (low_contents file place))
 
 low_reached : (file : EdifFile) (b : Bool) (place : CellPlace) → AreLow (cond b (cell_refusals file place) [])
 low_reached file true place = low_cell file place
@@ -115,17 +115,17 @@ low_reached file false place = tt
 low_library : (file : EdifFile) (library first : ℕ) (before : List Cell) (cell : Cell) → AreLow (library_cell_refusals file library first before cell)
 low_library file library first before cell =
     low_both (second_cell before cell) (reached_refusals file (first + length before) (place_in library cell))
-      (low_broken (is_in cell.name.ident (map (λ other. other.name.ident) before)) E5 [] (codes "cell" ∷ (cell.name.ident ∷ [])) (omega arith)) (low_reached file (is_reached file (first + length before)) (place_in library cell))
+    (low_broken (is_in cell.name.ident (map (λ other. other.name.ident) before)) E5 [] (codes "cell" ∷ (cell.name.ident ∷ [])) (omega arith)) (low_reached file (is_reached file (first + length before)) (place_in library cell))
 
 low_item : (file : EdifFile) (before : List FileItem) (item : FileItem) → AreLow (file_item_refusals file before item)
 low_item file before (file_items.Library library) =
     low_both (second_library (libraries_in before) library) (in_order (library_cell_refusals file (length (libraries_in before)) (cells_before before)) (cells_in library))
-      (low_broken (is_in library.name.ident (map (λ other. other.name.ident) (libraries_in before))) E5 [] (codes "library" ∷ (library.name.ident ∷ [])) (omega arith))
-      (low_each (library_cell_refusals file (length (libraries_in before)) (cells_before before)) [] (cells_in library) (low_library file (length (libraries_in before)) (cells_before before)))
+    (low_broken (is_in library.name.ident (map (λ other. other.name.ident) (libraries_in before))) E5 [] (codes "library" ∷ (library.name.ident ∷ [])) (omega arith))
+    (low_each (library_cell_refusals file (length (libraries_in before)) (cells_before before)) [] (cells_in library) (low_library file (length (libraries_in before)) (cells_before before)))
 low_item file before (file_items.Design design) =
     low_both (link_refusals file 0 [] (Some design.library) design.cell) (if_some (top_meant file design) (λ place. broken (is_none (slice_get (views place.1.cell) 0)) E4 [] (design.cell ∷ [])))
-      (low_link file 0 [] (Some design.library) design.cell)
-      (low_if (top_meant file design) (λ place. broken (is_none (slice_get (views place.1.cell) 0)) E4 [] (design.cell ∷ [])) (λ place. low_broken (is_none (slice_get (views place.1.cell) 0)) E4 [] (design.cell ∷ []) (omega arith)))
+    (low_link file 0 [] (Some design.library) design.cell)
+    (low_if (top_meant file design) (λ place. broken (is_none (slice_get (views place.1.cell) 0)) E4 [] (design.cell ∷ [])) (λ place. low_broken (is_none (slice_get (views place.1.cell) 0)) E4 [] (design.cell ∷ []) (omega arith)))
 low_item file before (file_items.Status status) = tt
 low_item file before (file_items.Note note) = tt
 
@@ -169,5 +169,5 @@ first_of_file file refusal e =
     ∙ (lowest-append (refusals file) (recursion_refusals (edif_cells file))
     ∙ (ap (λ o. lower o (lowest (recursion_refusals (edif_cells file)))) e
     ∙ over_last refusal (lowest (recursion_refusals (edif_cells file))) (low_lowest (refusals file) (low_file file) refusal e)
-      (λ y g. all_get (λ r. rule_number r.rule ≡ 12) (recursion_refusals (edif_cells file)) 0 y (recursion_rule (edif_cells file))
-        (sym (same_rule_lowest (recursion_refusals (edif_cells file)) (λ i x h. all_get (λ r. rule_number r.rule ≡ 12) (recursion_refusals (edif_cells file)) i x (recursion_rule (edif_cells file)) h)) ∙ g))))
+    (λ y g. all_get (λ r. rule_number r.rule ≡ 12) (recursion_refusals (edif_cells file)) 0 y (recursion_rule (edif_cells file))
+    (sym (same_rule_lowest (recursion_refusals (edif_cells file)) (λ i x h. all_get (λ r. rule_number r.rule ≡ 12) (recursion_refusals (edif_cells file)) i x (recursion_rule (edif_cells file)) h)) ∙ g))))

@@ -1,9 +1,8 @@
 -- Cells that are meant stand in the file under their numbers.
-use Rattle.std.proofs.Common.{◌≡◌, ℕ, zero, suc, ◌+◌, ◌<◌, ◌≤◌, Bool, true, false, cond, List, [], ◌∷◌, ◌++◌, map, length, get_or, filter, take, slice_get, Option, Some, None, refl, sym, ap, ◌∙◌, subst, arith, append_assoc}
+use Rattle.std.proofs.Common.{◌≡◌, ℕ, zero, suc, ◌+◌, ◌<◌, ◌≤◌, Bool, true, false, cond, List, [], ◌∷◌, ◌++◌, map, length, filter, take, slice_get, Option, Some, None, refl, sym, ap, ◌∙◌, subst, arith, append_assoc}
 use Rattle.std.specs.Prelude.{option_map}
-use Rattle.std.specs.List.{AllByRecursion, cons_option, enumerate_from, filter_map}
+use Rattle.std.specs.List.{AllByRecursion, cons_option, enumerate_from}
 use Rattle.std.specs.Option.{option_and_then}
-use Rattle.std.proofs.lemmas.List.{append-nil}
 use Rattle.std.proofs.lemmas.Option.{slice_get-map, slice_get_within}
 use Rattle.std.proofs.lemmas.List.{length-map}
 use Rattle.net_graph.proofs.OrderLaws.{get_front, get_last}
@@ -12,7 +11,7 @@ use Rattle.edif_library.specs.declared.file.EdifFile.{EdifFile}
 use Rattle.edif_library.specs.declared.file.Design.{Design}
 use Rattle.edif_nets.specs.declared.instance.Instance.{Instance}
 use Rattle.edif_nets.specs.declared.port.Port.{Port}
-use Rattle.net_graph.specs.Graph.{IsAbove, IsInRange}
+use Rattle.net_graph.specs.Graph.{IsInRange}
 use Rattle.net_graph.specs.Marks.{marks_of}
 use Rattle.edif_design.specs.Parts.{designs, instances, ports}
 use Rattle.edif_design.specs.Reach.{cells_below, marks_below, reached_marks, those_meant}
@@ -49,9 +48,10 @@ all_numbered : {A : Type 0} (before xs : List A) → AllByRecursion (StandsAt (b
 all_numbered before [] = tt
 all_numbered {A = A} before (x ∷ xs) =
     let e : (before ++ x ∷ []) ++ xs ≡ before ++ (x ∷ xs) = append_assoc before (x ∷ []) xs in
-    let n : length (before ++ x ∷ []) ≡ length before + 1 = length_push before x in
-    (subst (λ ys. slice_get ys (length before) ≡ Some x) e (get_front (before ++ x ∷ []) xs (length before) x (get_last before x)),
-      subst (λ ys. AllByRecursion (StandsAt ys) (enumerate_from (length before + 1) xs)) e (subst (λ m. AllByRecursion (StandsAt ((before ++ x ∷ []) ++ xs)) (enumerate_from m xs)) n (all_numbered (before ++ x ∷ []) xs)))
+    let n : length (before ++ x ∷ []) ≡ length before + 1 = length_push before x in (
+      subst (λ ys. slice_get ys (length before) ≡ Some x) e (get_front (before ++ x ∷ []) xs (length before) x (get_last before x)),
+      subst (λ ys. AllByRecursion (StandsAt ys) (enumerate_from (length before + 1) xs)) e (subst (λ m. AllByRecursion (StandsAt ((before ++ x ∷ []) ++ xs)) (enumerate_from m xs)) n (all_numbered (before ++ x ∷ []) xs)),
+    )
   where
     length_push : (ys : List A) (y : A) → length (ys ++ y ∷ []) ≡ length ys + 1
     length_push [] y = refl
@@ -64,7 +64,7 @@ module _ (file : EdifFile) where
   candidates_stand : (library : ℕ) (spelling : List ℕ) → AllByRecursion (StandsAt (all_cells file)) (cell_candidates file library spelling)
   candidates_stand library spelling =
       all_candidates (StandsAt (all_cells file)) (λ place. place.cell.name.ident) (cells_of_library file library) spelling
-        (all_filter (StandsAt (all_cells file)) _ (enumerate_from 0 (all_cells file)) (numbered_stand (all_cells file)))
+      (all_filter (StandsAt (all_cells file)) _ (enumerate_from 0 (all_cells file)) (numbered_stand (all_cells file)))
 
   -- a cell that is meant stands in the file under its number
   pub meant_stands : (home : ℕ) (library : Option (List ℕ)) (spelling : List ℕ) (place : ℕ × CellPlace) → link_meant file home library spelling ≡ Some place → slice_get (all_cells file) place.0 ≡ Some place.1
@@ -128,8 +128,8 @@ module _ (file : EdifFile) where
   pub below_in_range : IsInRange (cells_below file)
   below_in_range outer inner above =
       subst (λ m. inner < m) (sym cells_below_long)
-        (all_there (length (all_cells file)) above.numbers above.place inner
-          (of_place (slice_get (all_cells file) outer) above.numbers (sym (slice_get-map (λ place. those_meant (numbers_meant file place)) (all_cells file) outer) ∙ above.are_below)) above.is_there)
+      (all_there (length (all_cells file)) above.numbers above.place inner
+      (of_place (slice_get (all_cells file) outer) above.numbers (sym (slice_get-map (λ place. those_meant (numbers_meant file place)) (all_cells file) outer) ∙ above.are_below)) above.is_there)
 
   first_within : (found : List Design) (place : ℕ × CellPlace) → first_meant (map (top_meant file) found) ≡ Some place → slice_get (all_cells file) place.0 ≡ Some place.1
   first_within [] place e = absurd (cc)
@@ -163,6 +163,6 @@ module _ (file : EdifFile) where
       by : (o : Option (ℕ × CellPlace)) → top file ≡ o → Some n ≡ number_meant o → n < length (cells_below file)
       by None e g = absurd (cc)
       by (Some place) e g =
-        let f : n ≡ place.0 = cc in
-        let w : place.0 < length (all_cells file) = slice_get_within (all_cells file) place.0 place.1 (top_stands place e) in
-        omega (arith, f, w, cells_below_long)
+          let f : n ≡ place.0 = cc in
+          let w : place.0 < length (all_cells file) = slice_get_within (all_cells file) place.0 place.1 (top_stands place e) in
+          omega (arith, f, w, cells_below_long)

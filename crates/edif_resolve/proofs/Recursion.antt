@@ -1,14 +1,14 @@
 -- The first refusal of a design in which a cell reaches itself.
-use Rattle.std.proofs.Common.{◌≡◌, ℕ, zero, suc, ◌+◌, ◌<◌, Bool, true, false, List, [], ◌∷◌, ◌++◌, map, length, get_or, slice_get, cond, Option, Some, None, refl, sym, ap, ◌∙◌, subst, arith}
+use Rattle.std.proofs.Common.{◌≡◌, ℕ, zero, suc, ◌+◌, ◌<◌, Bool, true, false, List, [], ◌∷◌, ◌++◌, length, slice_get, cond, Option, Some, None, refl, sym, ap, ◌∙◌, subst, arith}
 use Rattle.std.specs.Prelude.{option_map, nat_lt}
 use Rattle.std.specs.List.{AllByRecursion, enumerate_from, flat_map}
 use Rattle.std.proofs.lemmas.Bool.{false≢true}
 use Rattle.std.proofs.lemmas.Bool.Decides.{nat_tests}
-use Rattle.std.proofs.lemmas.Option.{slice_get-map, slice_get_within}
+use Rattle.std.proofs.lemmas.Option.{slice_get-map}
 use Rattle.nl_base.specs.Rules.{rule_number}
 use Rattle.nl_base.specs.declared.rule.Refusal.{Refusal}
 use Rattle.nl_base.specs.declared.rule.Rule.TheVariants.{E13}
-use Rattle.net_graph.specs.Graph.{IsAbove, IsClosing, IsFirstRecursion, IsInRange, IsReached, ReachesItself}
+use Rattle.net_graph.specs.Graph.{IsAbove, IsFirstRecursion, IsInRange, IsReached, ReachesItself}
 use Rattle.net_graph.specs.Marks.{has_below, is_marked, marks_of}
 use Rattle.net_graph.proofs.MarkLaws.{marked-reachable, reachable-marked}
 use Rattle.net_graph.proofs.WorkLaws.{has_above, marked_by_reach, reached_by_marks}
@@ -20,7 +20,6 @@ use Rattle.edif_lookup.proofs.FirstLaws.{first-lowest}
 use Rattle.edif_library.specs.declared.file.EdifFile.{EdifFile}
 use Rattle.edif_design.specs.Design.{edif_cells}
 use Rattle.edif_design.specs.FileRules.{closing_refusals, first_E, recursion_refusals, refusals}
-use Rattle.edif_resolve.proofs.Clean.{map_get}
 
 -- the first of a list of lists that is not empty gives the first item
 first_some : {A B : Type 0} (f : A → List B) (xs : List A) (i : ℕ) (x : A) (y : B) → slice_get xs i ≡ Some x → ((j : ℕ) (z : A) → j < i → slice_get xs j ≡ Some z → f z ≡ []) → slice_get (f x) 0 ≡ Some y → slice_get (flat_map f xs) 0 ≡ Some y
@@ -84,37 +83,40 @@ module _ (cells : List HCell) (in_range : IsInRange (cells_below cells)) where
   -- a cell that does not reach itself closes nothing
   quiet_cell : (n : ℕ) (cell : HCell) → slice_get cells n ≡ Some cell → ¬ ReachesItself (cells_below cells) n → flat_map (closing_refusals cells n cell.name) cell.instances ≡ []
   quiet_cell n cell e free = none_at_all (closing_refusals cells n cell.name) cell.instances
-    (λ i instance g. silent (is_marked (marks_of (cells_below cells) instance.cell) n) cell.name (instance.name ∷ [])
+      (λ i instance g. silent (is_marked (marks_of (cells_below cells) instance.cell) n) cell.name (instance.name ∷ [])
       (unmarked (is_marked (marks_of (cells_below cells) instance.cell) n) (λ h. free (record { below = instance.cell; first = below_there n cell i instance e g; back = is_marked_so instance.cell n h }))))
 
   -- where no cell reaches itself, nothing closes
   pub no_recursion_refusals : ((n : ℕ) → ¬ ReachesItself (cells_below cells) n) → recursion_refusals cells ≡ []
   no_recursion_refusals free = none_at_all (λ item. flat_map (closing_refusals cells item.0 item.1.name) item.1.instances) (enumerate_from 0 cells)
-    (λ j item e. (let r = numbered_is 0 cells j item e in quiet_cell item.0 item.1 (ap (slice_get cells) (r.0 ∙ (let g : 0 + j ≡ j = omega arith in g)) ∙ r.1) (free item.0)))
+      (λ j item e. (let r = numbered_is 0 cells j item e in quiet_cell item.0 item.1 (ap (slice_get cells) (r.0 ∙ (let g : 0 + j ≡ j = omega arith in g)) ∙ r.1) (free item.0)))
 
   -- the first cell that reaches itself and its closing instance are the first refusal
   pub first_recursion_refusal : (n i : ℕ) → IsFirstRecursion (cells_below cells) n i → (cell : HCell) (instance : HInst) → slice_get cells n ≡ Some cell → slice_get cell.instances i ≡ Some instance
       → slice_get (recursion_refusals cells) 0 ≡ Some (record { rule = E13; cell = cell.name; names = instance.name ∷ [] })
   first_recursion_refusal n i first cell instance e g =
       first_some (λ item. flat_map (closing_refusals cells item.0 item.1.name) item.1.instances) (enumerate_from 0 cells) n (n, cell) (record { rule = E13; cell = cell.name; names = instance.name ∷ [] })
-        (numbered_get 0 cells n cell e ∙ ap (λ m. Some (m, cell)) (let f : 0 + n ≡ n = omega arith in f))
-        (λ j item lt h. (let r = numbered_is 0 cells j item h in
-          let same : item.0 ≡ j = r.0 ∙ (let f : 0 + j ≡ j = omega arith in f) in
-          quiet_cell item.0 item.1 (ap (slice_get cells) same ∙ r.1) (first.first_number item.0 (omega (arith, same, lt)))))
-        (first_some (closing_refusals cells n cell.name) cell.instances i instance (record { rule = E13; cell = cell.name; names = instance.name ∷ [] }) g
-          (λ j other lt h. silent (is_marked (marks_of (cells_below cells) other.cell) n) cell.name (other.name ∷ [])
-            (unmarked (is_marked (marks_of (cells_below cells) other.cell) n) (λ m. first.closing.first_place j other.cell lt (place_of_instance j other h) (is_marked_so other.cell n m))))
-          (ap (λ refusals. slice_get refusals 0)
-            (aloud (is_marked (marks_of (cells_below cells) instance.cell) n) cell.name (instance.name ∷ []) (marked_is instance.cell n (in_range n instance.cell (below_there n cell i instance e g)) closes))))
+      (numbered_get 0 cells n cell e ∙ ap (λ m. Some (m, cell)) (let f : 0 + n ≡ n = omega arith in f))
+      (λ j item lt h. (let r = numbered_is 0 cells j item h in
+      let same : item.0 ≡ j = r.0 ∙ (let f : 0 + j ≡ j = omega arith in f) in
+      quiet_cell item.0 item.1 (ap (slice_get cells) same ∙ r.1) (first.first_number item.0 (omega (arith, same, lt)))))
+      (first_some (closing_refusals cells n cell.name) cell.instances i instance (record { rule = E13; cell = cell.name; names = instance.name ∷ [] }) g
+      (λ j other lt h. silent (is_marked (marks_of (cells_below cells) other.cell) n) cell.name (other.name ∷ [])
+      (unmarked (is_marked (marks_of (cells_below cells) other.cell) n) (λ m. first.closing.first_place j other.cell lt (place_of_instance j other h) (is_marked_so other.cell n m))))
+      (ap (λ refusals. slice_get refusals 0)
+      (aloud (is_marked (marks_of (cells_below cells) instance.cell) n) cell.name (instance.name ∷ []) (marked_is instance.cell n (in_range n instance.cell (below_there n cell i instance e g)) closes))))
     where
       are : first.closing.numbers ≡ below_of cell
       are = let a : slice_get (cells_below cells) n ≡ Some (below_of cell) = slice_get-map below_of cells n ∙ ap (option_map below_of) e in
-        let b : slice_get (cells_below cells) n ≡ Some first.closing.numbers = first.closing.are_below in cc
+          let b : slice_get (cells_below cells) n ≡ Some first.closing.numbers = first.closing.are_below in cc
+
       place_of_instance : (j : ℕ) (other : HInst) → slice_get cell.instances j ≡ Some other → slice_get first.closing.numbers j ≡ Some other.cell
       place_of_instance j other h = ap (λ ns. slice_get ns j) are ∙ (slice_get-map (λ u. u.cell) cell.instances j ∙ ap (option_map (λ u. u.cell)) h)
+
       inner_is : first.closing.inner ≡ instance.cell
       inner_is = let a : slice_get first.closing.numbers i ≡ Some instance.cell = place_of_instance i instance g in
-        let b : slice_get first.closing.numbers i ≡ Some first.closing.inner = first.closing.is_there in cc
+          let b : slice_get first.closing.numbers i ≡ Some first.closing.inner = first.closing.is_there in cc
+
       closes : IsReached (cells_below cells) instance.cell n
       closes = subst (λ m. IsReached (cells_below cells) m n) inner_is first.closing.closes
 

@@ -1,24 +1,18 @@
 -- The numbers of the reached cells in the design.
-use Rattle.std.proofs.Common.{◌≡◌, ℕ, zero, suc, ◌+◌, ◌<◌, ◌≤◌, Bool, true, false, cond, List, [], ◌∷◌, ◌++◌, map, length, filter, get_or, slice_get, Option, Some, None, refl, sym, ap, ◌∙◌, subst, arith}
+use Rattle.std.proofs.Common.{◌≡◌, ℕ, zero, suc, ◌+◌, ◌<◌, Bool, true, false, cond, List, [], ◌∷◌, length, filter, get_or, slice_get, Some, refl, sym, ap, ◌∙◌, subst, arith}
 use Rattle.std.specs.Prelude.{option_map}
-use Rattle.std.specs.List.{enumerate_from, filter_map}
-use Rattle.std.specs.Option.{option_and_then}
-use Rattle.std.proofs.lemmas.Bool.{false≢true}
+use Rattle.std.specs.List.{enumerate_from}
 use Rattle.std.proofs.lemmas.List.{length-map}
 use Rattle.std.proofs.lemmas.Option.{slice_get-map, slice_get_within}
-use Rattle.net_graph.specs.Graph.{IsAbove, IsReached}
+use Rattle.net_graph.specs.Graph.{IsAbove}
 use Rattle.net_graph.specs.Marks.{IsReachable, itself, below, has_below, is_marked, marks_of}
 use Rattle.net_graph.proofs.MarkLaws.{marked-reachable, reachable-marked}
-use Rattle.net_graph.proofs.WalkLaws.{linked_along, linked_by, linked_itself}
 use Rattle.net_graph.proofs.WorkLaws.{above_has, has_above}
-use Rattle.net_hier.specs.Design.{below_of}
-use Rattle.net_hier.specs.Design.{cells_below as design_below}
 use Rattle.net_hier.specs.declared.cells.HCell.{HCell}
 use Rattle.edif_library.specs.declared.file.EdifFile.{EdifFile}
 use Rattle.edif_design.specs.Design.{cell_value, counts_from, edif_cells, numbers_in_design}
-use Rattle.edif_design.specs.Parts.{numbered}
 use Rattle.edif_design.specs.Reach.{cells_below, is_reached, marks_below, reached_cells, reached_marks, those_meant}
-use Rattle.edif_design.specs.References.{CellPlace, all_cells, linked_cell, number_meant, numbers_meant, top}
+use Rattle.edif_design.specs.References.{CellPlace, all_cells, linked_cell, numbers_meant, top}
 use Rattle.net_graph.proofs.MarkLaws.{marked_within}
 use Rattle.edif_resolve.proofs.Clean.{map_get}
 use Rattle.edif_resolve.proofs.Numbers.{below_in_range, top_stands}
@@ -53,14 +47,16 @@ module _ {A : Type 0} (test : ℕ → Bool) where
     where
       rest : List (ℕ × A)
       rest = filter (λ other. test other.0) (enumerate_from (n + 1) xs)
+
       later : ((k : ℕ) → slice_get rest k ≡ Some item → (i : ℕ) × ((item.0 ≡ n + 1 + i) × ((slice_get xs i ≡ Some item.1) × ((test item.0 ≡ true) × (passing test (n + 1) i ≡ k))))) → (b : Bool) → test n ≡ b → (k : ℕ) → slice_get rest k ≡ Some item → (m : ℕ) → m ≡ cond b 1 0 + k → (i : ℕ) × ((item.0 ≡ n + i) × ((slice_get (y ∷ xs) i ≡ Some item.1) × ((test item.0 ≡ true) × (passing test n i ≡ m))))
       later further b h k e m is_m =
-        let r = further k e in
-        (suc r.0, ((r.1.0 ∙ (let g : n + 1 + r.0 ≡ n + suc r.0 = omega arith in g)), (r.1.1.0, (r.1.1.1.0, ((λ j. cond (h j) 1 0 + r.1.1.1.1 j) ∙ sym is_m)))))
+          let r = further k e in
+          (suc r.0, ((r.1.0 ∙ (let g : n + 1 + r.0 ≡ n + suc r.0 = omega arith in g)), (r.1.1.0, (r.1.1.1.0, ((λ j. cond (h j) 1 0 + r.1.1.1.1 j) ∙ sym is_m)))))
+
       by : (b : Bool) → test n ≡ b → (m : ℕ) → slice_get (cond b ((n, y) ∷ rest) rest) m ≡ Some item → ((k : ℕ) → slice_get rest k ≡ Some item → (i : ℕ) × ((item.0 ≡ n + 1 + i) × ((slice_get xs i ≡ Some item.1) × ((test item.0 ≡ true) × (passing test (n + 1) i ≡ k))))) → (i : ℕ) × ((item.0 ≡ n + i) × ((slice_get (y ∷ xs) i ≡ Some item.1) × ((test item.0 ≡ true) × (passing test n i ≡ m))))
       by true h zero e further =
-        let f : ◌≡◌ {A = ℕ × A} (n, y) item = cc in
-        (0, ((sym (ap (λ p. p.0) f) ∙ (let g : n ≡ n + 0 = omega arith in g)), ((ap (λ p. Some p.1) f), ((ap test (sym (ap (λ p. p.0) f)) ∙ h), refl))))
+          let f : ◌≡◌ {A = ℕ × A} (n, y) item = cc in
+          (0, ((sym (ap (λ p. p.0) f) ∙ (let g : n ≡ n + 0 = omega arith in g)), ((ap (λ p. Some p.1) f), ((ap test (sym (ap (λ p. p.0) f)) ∙ h), refl))))
       by true h (suc k) e further = later further true h k e (suc k) (let g : suc k ≡ 1 + k = omega arith in g)
       by false h m e further = later further false h m e m (let g : m ≡ 0 + m = omega arith in g)
 
@@ -86,7 +82,7 @@ module _ (file : EdifFile) where
   design_at n place e h =
       slice_get-map (λ item. cell_value (numbers_in_design file) (linked_cell file item.1)) (reached_cells file) (get_or (numbers_in_design file) n 0)
       ∙ ap (option_map (λ item. cell_value (numbers_in_design file) (linked_cell file item.1)))
-        (ap (slice_get (reached_cells file)) (number_is n h) ∙ chosen_at (is_reached file) 0 (all_cells file) n place e (ap (is_reached file) (let g : 0 + n ≡ n = omega arith in g) ∙ h))
+      (ap (slice_get (reached_cells file)) (number_is n h) ∙ chosen_at (is_reached file) 0 (all_cells file) n place e (ap (is_reached file) (let g : 0 + n ≡ n = omega arith in g) ∙ h))
 
   -- a cell of the design is a reached cell
   pub record ComesFrom (number : ℕ) (cell : HCell) : Type 0 where

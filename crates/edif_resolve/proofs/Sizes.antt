@@ -3,7 +3,7 @@ use Rattle.std.proofs.Common.{◌≡◌, ℕ, suc, zero, ◌+◌, ◌<◌, ◌�
 use Rattle.std.specs.Borrow.{Bor}
 use Rattle.std.proofs.lemmas.List.{get_or-map, length-map}
 use Rattle.std.specs.Prelude.{sum_by}
-use Rattle.std.specs.List.{AllByRecursion, cons_option, enumerate_from, filter_map, flat_map}
+use Rattle.std.specs.List.{AllByRecursion, cons_option, filter_map, flat_map}
 use Rattle.std.proofs.lemmas.List.Sums.{get_or-le-sum_by, sum_by-cons, sum_by-take-le}
 use Rattle.edif_library.specs.Sizes.{cell_size, edif_size, file_item_size, library_item_size, library_size, list_size}
 use Rattle.edif_library.specs.declared.cell.Cell.{Cell}
@@ -14,10 +14,10 @@ use Rattle.edif_library.specs.declared.library.Library.{Library}
 use Rattle.edif_library.specs.declared.library.LibraryItem.{LibraryItem}
 use Rattle.edif_library.specs.declared.library.LibraryItem.TheVariants as library_items
 use Rattle.edif_design.specs.Parts.{cell_in, cells_in, libraries_in, library_in}
-use Rattle.edif_design.specs.References.{CellPlace, all_cells, place_in}
+use Rattle.edif_design.specs.References.{all_cells, place_in}
 use Rattle.edif_design.specs.Tables.{place_of, places_from, seen}
 use Rattle.edif_design.specs.declared.tables.Place.{Place}
-use Rattle.edif_design.proofs.Small.{few_cells, few_libraries}
+use Rattle.edif_design.proofs.Small.{few_cells}
 
 -- what holds of each item of a list holds of the one at a place
 pub all_at : {A : Type 0} (P : A → Type 0) (xs : List A) (i : ℕ) (d : A) → AllByRecursion P xs → i < length xs → P (get_or xs i d)

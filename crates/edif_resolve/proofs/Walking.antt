@@ -4,7 +4,7 @@ use Rattle.std.specs.Prelude.{codes, option_map}
 use Rattle.std.specs.Option.{option_copied}
 use Rattle.std.proofs.lemmas.Bool.{false≢true}
 use Rattle.std.specs.Borrow.{Bor}
-use Rattle.std.specs.List.{filter_map, flat_map, list_any}
+use Rattle.std.specs.List.{flat_map}
 use Rattle.std.proofs.lemmas.List.{append-nil, length-append, length-map, get_or-map, map-append, take_more}
 use Rattle.std.proofs.lemmas.List.Elements.{filter_map-append}
 use Rattle.std.proofs.lemmas.List.Folds.{list_any-append}
@@ -26,11 +26,10 @@ use Rattle.edif_status.specs.declared.note.Note.{Note}
 use Rattle.edif_status.specs.declared.status.Status.{Status}
 use Rattle.edif_design.specs.CellRules.{cell_refusals, link_refusals}
 use Rattle.edif_design.specs.FileRules.{cells_before, design_count_refusals, design_refusals, file_item_refusals, library_cell_refusals, reached_refusals, refusals, second_library}
-use Rattle.edif_design.specs.Parts.{cells_in, designs, libraries_in, library_in, views}
+use Rattle.edif_design.specs.Parts.{cells_in, designs, libraries_in, library_in}
 use Rattle.edif_design.specs.Reach.{is_reached}
-use Rattle.edif_design.specs.References.{CellPlace, all_cells, file_cells, link_meant, number_meant, place_in, top_meant}
-use Rattle.edif_design.specs.Tables.{cell_ident, library_ident, linked_number, linked_refusal, seen}
-use Rattle.edif_design.specs.declared.links.Linked.TheVariants as linked
+use Rattle.edif_design.specs.References.{CellPlace, all_cells, file_cells, number_meant, place_in, top_meant}
+use Rattle.edif_design.specs.Tables.{cell_ident, library_ident, seen}
 use Rattle.edif_resolve.specs.Walk.{HasPassed, lacks_view}
 use Rattle.edif_resolve.specs.declared.file.Walk.{Walk}
 use Rattle.edif_resolve.proofs.Numbers.{meant_stands}
@@ -70,7 +69,7 @@ pub file_refused : (file scene : EdifFile) → file ≡ scene → (found : List 
 unfolding refusals
 file_refused file scene same found are count parts now is_count is_parts is_now =
     is_now ∙ lowest_both (design_count_refusals (designs file)) (in_order (file_item_refusals file) file.items) count parts (is_count ∙ ap (λ ds. lowest (design_count_refusals ds)) are)
-      (is_parts ∙ ap (λ f. lowest (in_order (file_item_refusals f) file.items)) (sym same))
+    (is_parts ∙ ap (λ f. lowest (in_order (file_item_refusals f) file.items)) (sym same))
 
 -- a turn of the loop over the cells of a library
 module _ (file : EdifFile) (library first : ℕ) (cells : List (Bor Cell)) (i : ℕ) (x : Bor Cell) (within : i < length cells) (is : x ≡ get_or cells i x) where
@@ -88,9 +87,9 @@ module _ (file : EdifFile) (library first : ℕ) (cells : List (Bor Cell)) (i : 
       let a : taken_ident ≡ is_in x.now.name.ident (map cell_ident (take i (seen cells))) = is_taken ∙ has_names x.now.name.ident in
       let n : i ≡ length (take i (seen cells)) = sym (taken (seen cells) i inside) in
       lowest_turn (library_cell_refusals file library first) (seen cells) i x.now inside best next now is_best
-        (is_next
-        ∙ ((λ j. lowest (broken (a j) E5 [] (codes "cell" ∷ (x.now.name.ident ∷ [])) ++ reached_refusals file (first + n j) (place_in library x.now)))
-        ∙ ap (λ cell. lowest (library_cell_refusals file library first (take i (seen cells)) cell)) at)) is_now
+      (is_next
+      ∙ ((λ j. lowest (broken (a j) E5 [] (codes "cell" ∷ (x.now.name.ident ∷ [])) ++ reached_refusals file (first + n j) (place_in library x.now)))
+      ∙ ap (λ cell. lowest (library_cell_refusals file library first (take i (seen cells)) cell)) at)) is_now
 
   pub cell_names_turn : (old new : List (List ℕ)) → ((other : List ℕ) → is_in other old ≡ is_in other (map cell_ident (take i (seen cells)))) → ((other : List ℕ) → is_in other new ≡ (same_bytes other x.now.name.ident || is_in other old))
       → (other : List ℕ) → is_in other new ≡ is_in other (map cell_ident (take (i + 1) (seen cells)))
@@ -181,19 +180,19 @@ module _ (file : EdifFile) (before : List FileItem) (walk : Walk) (passed : HasP
       let e : libraries_in (before ++ file_items.Library library ∷ []) ≡ libraries_in before ++ library ∷ [] = libraries_push (file_items.Library library) in
       let m : length (libraries_in before ++ library ∷ []) ≡ length (libraries_in before) + 1 = length-append (libraries_in before) (library ∷ []) in
       let f : length (flat_map cells_in (libraries_in before ++ library ∷ [])) ≡ length (flat_map cells_in (libraries_in before)) + length (cells_in library) =
-        ap length (flat_map-append cells_in (libraries_in before) (library ∷ []) ∙ ap (λ cs. flat_map cells_in (libraries_in before) ++ cs) (append-nil (cells_in library))) ∙ length-append (flat_map cells_in (libraries_in before)) (cells_in library) in
+      ap length (flat_map-append cells_in (libraries_in before) (library ∷ []) ∙ ap (λ cs. flat_map cells_in (libraries_in before) ++ cs) (append-nil (cells_in library))) ∙ length-append (flat_map cells_in (libraries_in before)) (cells_in library) in
       record {
         best_is = best_push (file_items.Library library) next best
-          (is_next
-          ∙ lowest_both (second_library (libraries_in before) library) (in_order (library_cell_refusals file (length (libraries_in before)) (cells_before before)) (cells_in library)) second parts
+            (is_next
+            ∙ lowest_both (second_library (libraries_in before) library) (in_order (library_cell_refusals file (length (libraries_in before)) (cells_before before)) (cells_in library)) second parts
             (is_second ∙ (λ j. lowest (broken (a j) E5 [] (codes "library" ∷ (library.name.ident ∷ [])))))
             (is_parts ∙ (λ j. lowest (in_order (library_cell_refusals file (passed.libraries_are j) (passed.cells_are j)) (is_own j))))) is_best;
         names_are = λ other.
-          has_names other
-          ∙ (ap (λ b. same_bytes other library.name.ident || b) (passed.names_are other)
-          ∙ (sym (or_comm (same_bytes other library.name.ident) (is_in other (map library_ident (libraries_in before))))
-          ∙ (sym (list_any-append (same_bytes other) (map library_ident (libraries_in before)) (library.name.ident ∷ []))
-          ∙ ap (is_in other) (sym (ap (map library_ident) e ∙ map-append library_ident (libraries_in before) (library ∷ []))))));
+            has_names other
+            ∙ (ap (λ b. same_bytes other library.name.ident || b) (passed.names_are other)
+            ∙ (sym (or_comm (same_bytes other library.name.ident) (is_in other (map library_ident (libraries_in before))))
+            ∙ (sym (list_any-append (same_bytes other) (map library_ident (libraries_in before)) (library.name.ident ∷ []))
+            ∙ ap (is_in other) (sym (ap (map library_ident) e ∙ map-append library_ident (libraries_in before) (library ∷ []))))));
         libraries_are = is_libraries ∙ (ap (λ n. n + 1) passed.libraries_are ∙ (sym m ∙ ap length (sym e)));
         cells_are = is_cells ∙ ((λ j. passed.cells_are j + length (is_own j)) ∙ (sym f ∙ ap (λ ls. length (flat_map cells_in ls)) (sym e)));
       }

@@ -1,14 +1,13 @@
 -- The names and the widths of ports of a cell that breaks no rule.
-use Rattle.std.proofs.Common.{◌≡◌, ℕ, zero, suc, ◌+◌, ◌<◌, ◌≤◌, ◌⊎◌, inl, inr, Bool, true, false, ◌||◌, List, [], ◌∷◌, ◌++◌, map, length, take, get_or, slice_get, Option, Some, None, refl, sym, ap, ◌∙◌, subst, arith, pos}
-use Rattle.std.specs.Prelude.{codes, ℤ, negsuc, nat_abs, int_lt, nat_lt, not, ◌-ℤ◌}
+use Rattle.std.proofs.Common.{◌≡◌, ℕ, zero, suc, ◌+◌, ◌<◌, ◌≤◌, ◌⊎◌, inl, inr, Bool, true, false, ◌||◌, List, [], ◌∷◌, ◌++◌, map, take, slice_get, Some, refl, sym, ap, ◌∙◌, arith, pos}
+use Rattle.std.specs.Prelude.{codes, ℤ, negsuc, nat_abs, not, ◌-ℤ◌}
 use Rattle.std.specs.List.{list_any}
-use Rattle.std.specs.Str.{bytes_eq}
 use Rattle.std.proofs.lemmas.Bool.{false≢true}
 use Rattle.std.proofs.lemmas.Bool.Decides.{nat_tests}
 use Rattle.std.proofs.lemmas.Option.{get_or_from_slice_get, slice_get_within}
 use Rattle.std.proofs.lemmas.Slice.Eq.{bytes_eq-Decides}
 use Rattle.nl_base.specs.Case.{same_bytes}
-use Rattle.nl_base.specs.Ranges.{Bounds, range_bits}
+use Rattle.nl_base.specs.Ranges.{range_bits}
 use Rattle.nl_base.specs.declared.rule.Refusal.{Refusal}
 use Rattle.nl_base.specs.declared.rule.Rule.{Rule}
 use Rattle.nl_base.specs.declared.rule.Rule.TheVariants.{E5, E12}
@@ -55,7 +54,7 @@ own_names {A = A} name xs differ i j x y is_x is_y same = elim (apart i j) [
   | inr rest ↦ elim rest [
     | inl e ↦ e
     | inr lt ↦ absurd (false≢true (sym (differ i x is_x) ∙ earlier j i y x lt is_y (sym same)))
-    ]
+  ]
 ]
   where
     earlier : (i j : ℕ) (x y : A) → i < j → slice_get xs i ≡ Some x → name x ≡ name y → is_in (name y) (map name (take j xs)) ≡ true

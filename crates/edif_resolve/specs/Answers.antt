@@ -1,6 +1,5 @@
 -- What `resolve` answers.
 use Rattle.std.specs.Prelude.{◌≡◌, ℕ, ◌<◌, List, [], Some, None, slice_get}
-use Rattle.net_hier.specs.Build.{IsFaultOf as IsBuildFault}
 use Rattle.net_hier.specs.Design.{Design}
 use Rattle.net_hier.specs.Units.{units}
 use Rattle.net_hier.specs.Valid.{IsHier, unit_limit}

@@ -80,12 +80,7 @@ fn fault_of(alloc: Global, cells: &[HCell], fault: BuildFault) -> ResolveError
 }
 
 // The design of cells of which none reaches itself, and whose units are within the limit.
-fn ordered(
-    alloc: Global,
-    cells: Seq<HCell>,
-    top: u32,
-    props: Seq<HProp>,
-) -> Result<Hier, NoMemory>
+fn ordered(alloc: Global, cells: Seq<HCell>, top: u32, props: Seq<HProp>) -> Result<Hier, NoMemory>
     requires fit { CellsFit cells top }
     requires no_recursion { (number : ℕ) → ¬ ReachesItself (cells_below cells) number }
     requires few_units { units cells ≤ unit_limit }
@@ -121,11 +116,7 @@ fn built(
 }
 
 // The design of a file that breaks none of the rules E1 to E12.
-fn design_of(
-    alloc: Global,
-    scene: &Scene<'_>,
-    found: &[&Design],
-) -> Result<Hier, ResolveError>
+fn design_of(alloc: Global, scene: &Scene<'_>, found: &[&Design]) -> Result<Hier, ResolveError>
     requires clean { refusals scene.now ≡ [] }
     requires small { edif_size scene.now ≤ count_limit }
     requires designs { seen found.now ≡ designs scene.now }

@@ -67,10 +67,7 @@ fn those_meant(alloc: Global, numbers: &[Option<u32>]) -> Result<Seq<u32>, NoMem
 }
 
 /// For each cell of a file the numbers of the cells that its instances are of.
-pub(crate) fn graph_of(
-    alloc: Global,
-    tables: &FileTables<'_>,
-) -> Result<Vec<Seq<u32>>, NoMemory>
+pub(crate) fn graph_of(alloc: Global, tables: &FileTables<'_>) -> Result<Vec<Seq<u32>>, NoMemory>
     ensures { IfOk result (λ graph. graph.items ≡ cells_below tables.now) }
 {
     let mut graph = Vec::new(alloc);

@@ -62,7 +62,14 @@ pub(crate) fn design_cells(
     let mut cells = Seq::empty(alloc);
     let places = scene.tables().places();
     for number in 0..places.len() as u32 {
-        add_cell(alloc, scene, numbers, &mut cells, number, &places[number as usize])?;
+        add_cell(
+            alloc,
+            scene,
+            numbers,
+            &mut cells,
+            number,
+            &places[number as usize],
+        )?;
     }
     Ok(cells)
 }
@@ -81,10 +88,7 @@ pub(crate) fn design_top(scene: &Scene<'_>, numbers: &[u32]) -> u32
 }
 
 /// The properties of the designs.
-pub(crate) fn designs_properties(
-    alloc: Global,
-    designs: &[&Design],
-) -> Result<Seq<HProp>, NoMemory>
+pub(crate) fn designs_properties(alloc: Global, designs: &[&Design]) -> Result<Seq<HProp>, NoMemory>
     ensures { IfOk result (λ props. props ≡ flat_map design_properties (seen designs.now)) }
 {
     let mut props = Seq::empty(alloc);

@@ -31,10 +31,7 @@ fn add_cell<'a>(cells: &mut Vec<&'a Cell>, item: &'a LibraryItem) -> Result<(), 
 }
 
 /// The cells of a library.
-pub(crate) fn cells_of<'a>(
-    alloc: Global,
-    library: &'a Library,
-) -> Result<Vec<&'a Cell>, NoMemory>
+pub(crate) fn cells_of<'a>(alloc: Global, library: &'a Library) -> Result<Vec<&'a Cell>, NoMemory>
     ensures { IfOk result (λ cells. seen cells.items ≡ cells_in library.now) }
 {
     let mut cells = Vec::new(alloc);

@@ -42,10 +42,7 @@ impl<'a> Model for Scene<'a> {
 }
 
 // The ports of each cell.
-fn faces_of<'a>(
-    alloc: Global,
-    tables: &FileTables<'a>,
-) -> Result<Vec<PortTable<'a>>, NoMemory>
+fn faces_of<'a>(alloc: Global, tables: &FileTables<'a>) -> Result<Vec<PortTable<'a>>, NoMemory>
     requires { edif_size tables.now ≤ count_limit }
     ensures { IfOk result (λ faces. faces.items ≡ map ports (file_cells tables.now)) }
 {

@@ -13,7 +13,8 @@ const HEAD: &[u8] = b"(edif a(edifVersion 2 0 0)(edifLevel 0)(keywordMap(keyword
 (cell t(cellType GENERIC)(view v(viewType NETLIST)(interface(port p(direction INPUT)))(contents";
 
 // From the end of that cell to the end of its library, with a cell that no instance is of, and that breaks a rule.
-const UNREACHED: &[u8] = b")))(cell u(cellType GENERIC)(view v(viewType NETLIST)(interface)(contents(instance i(viewRef v(cellRef x)))))))";
+const UNREACHED: &[u8] =
+    b")))(cell u(cellType GENERIC)(view v(viewType NETLIST)(interface)(contents(instance i(viewRef v(cellRef x)))))))";
 
 // What a refusal says: the rule, the cell and the names.
 fn said(alloc: Global, refusal: &Refusal) -> Result<Vec<u8>, NoMemory> {
@@ -65,22 +66,53 @@ fn is_said(alloc: Global, contents: &[u8], designs: &[u8], words: &[u8]) -> Resu
 fn rules_of_a_cell(rt: HostRuntime) -> Result<(), Fail> {
     let alloc = rt.alloc();
     let rows: [(&[u8], &[u8]); 13] = [
-        (b"(instance i(viewRef v(cellRef l)))(instance j(viewRef v(cellRef l)))(net n(joined(portRef p)(portRef p(instanceRef i))(portRef(member q 0)(instanceRef i))))", b"lt"),
-        (b"(instance i(viewRef v(cellRef l(libraryRef x))))", b"E2 t x"),
+        (
+            b"(instance i(viewRef v(cellRef l)))(instance j(viewRef v(cellRef l)))(net n(joined(portRef p)(portRef p(instanceRef i))(portRef(member q 0)(instanceRef i))))",
+            b"lt",
+        ),
+        (
+            b"(instance i(viewRef v(cellRef l(libraryRef x))))",
+            b"E2 t x",
+        ),
         (b"(instance i(viewRef v(cellRef x)))", b"E3 t x"),
         (b"(instance i(viewRef x(cellRef l)))", b"E4 t x"),
         (b"(net n(joined))(net n(joined))", b"E5 t net n"),
-        (b"(instance ab(viewRef v(cellRef l)))(instance aB(viewRef v(cellRef l)))(net n(joined(portRef p(instanceRef AB))))", b"E6 t AB"),
+        (
+            b"(instance ab(viewRef v(cellRef l)))(instance aB(viewRef v(cellRef l)))(net n(joined(portRef p(instanceRef AB))))",
+            b"E6 t AB",
+        ),
         (b"(net n(joined(portRef p(instanceRef x))))", b"E7 t n x"),
         (b"(net n(joined(portRef x)))", b"E8 t n x"),
-        (b"(instance i(viewRef v(cellRef l)))(net n(joined(portRef(member q 2)(instanceRef i))))", b"E9 t n i q 2"),
-        (b"(instance i(viewRef v(cellRef l)))(net n(joined(portRef q(instanceRef i))))", b"E10 t n i q"),
-        (b"(net n(joined(portRef p)))(net m(joined(portRef p)))", b"E11 t m p"),
-        (b"(instance(rename i \"x\")(viewRef v(cellRef l)))(instance(rename j \"x\")(viewRef v(cellRef l)))", b"E12 t instance x"),
-        (b"(instance i(viewRef v(cellRef l)))(instance j(viewRef v(cellRef t)))", b"E13 t j"),
+        (
+            b"(instance i(viewRef v(cellRef l)))(net n(joined(portRef(member q 2)(instanceRef i))))",
+            b"E9 t n i q 2",
+        ),
+        (
+            b"(instance i(viewRef v(cellRef l)))(net n(joined(portRef q(instanceRef i))))",
+            b"E10 t n i q",
+        ),
+        (
+            b"(net n(joined(portRef p)))(net m(joined(portRef p)))",
+            b"E11 t m p",
+        ),
+        (
+            b"(instance(rename i \"x\")(viewRef v(cellRef l)))(instance(rename j \"x\")(viewRef v(cellRef l)))",
+            b"E12 t instance x",
+        ),
+        (
+            b"(instance i(viewRef v(cellRef l)))(instance j(viewRef v(cellRef t)))",
+            b"E13 t j",
+        ),
     ];
     for (contents, words) in rows {
-        assert!(rt; is_said(alloc, contents, b"(design d(cellRef t(libraryRef w)))", words)?);
+        assert!(rt;
+            is_said(
+                alloc,
+                contents,
+                b"(design d(cellRef t(libraryRef w)))",
+                words
+            )?
+        );
     }
     Ok(())
 }
@@ -90,7 +122,10 @@ fn rules_of_designs(rt: HostRuntime) -> Result<(), Fail> {
     let alloc = rt.alloc();
     let rows: [(&[u8], &[u8]); 4] = [
         (b"", b"E1 "),
-        (b"(design d(cellRef t(libraryRef w)))(design e(cellRef t(libraryRef w)))", b"E1  e"),
+        (
+            b"(design d(cellRef t(libraryRef w)))(design e(cellRef t(libraryRef w)))",
+            b"E1  e",
+        ),
         (b"(design d(cellRef t(libraryRef x)))", b"E2  x"),
         (b"(design d(cellRef l(libraryRef w)))", b"l"),
     ];

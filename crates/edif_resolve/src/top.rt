@@ -31,10 +31,7 @@ fn add_design<'a>(found: &mut Vec<&'a Design>, item: &'a FileItem) -> Result<(),
 }
 
 /// The designs of a file.
-pub(crate) fn designs_of<'a>(
-    alloc: Global,
-    file: &'a EdifFile,
-) -> Result<Vec<&'a Design>, NoMemory>
+pub(crate) fn designs_of<'a>(alloc: Global, file: &'a EdifFile) -> Result<Vec<&'a Design>, NoMemory>
     ensures { IfOk result (λ found. seen found.items ≡ designs file.now) }
 {
     let mut found = Vec::new(alloc);

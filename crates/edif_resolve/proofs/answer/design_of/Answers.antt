@@ -1,4 +1,4 @@
-use Rattle.std.proofs.Common.{◌≡◌, ◌<◌, ◌≤◌, ◌∙◌, ap, sym, subst, length, arith}
+use Rattle.std.proofs.Common.{◌≡◌, ◌≤◌, ◌∙◌, ap, sym, subst, length, arith}
 use Rattle.std.specs.List.{flat_map}
 use Rattle.net_hier.specs.Valid.{CellsFit}
 use Rattle.edif_design.specs.Design.{counts_from, design_properties, edif_cells, edif_top, numbers_in_design}
@@ -22,11 +22,11 @@ built-requires c =
     let numbers : c.as_slice-2.result.now ≡ numbers_in_design c.args.scene.now = c.as_slice-2.ensures.value ∙ (c.in_ok-numbers.ensures ∙ ap (counts_from 0) c.marks.ensures) in
     let is_top : c.design_top-top.result ≡ edif_top c.args.scene.now = c.design_top-top.ensures ∙ top_is c.args.scene.now c.as_slice-2.result.now numbers in
     subst (λ cells. CellsFit cells c.design_top-top.result) (sym c.in_ok-cells.ensures)
-      (subst (CellsFit (edif_cells c.args.scene.now)) (sym is_top) (cells_fit c.args.scene.now c.requires.clean c.requires.small))
+    (subst (CellsFit (edif_cells c.args.scene.now)) (sym is_top) (cells_fit c.args.scene.now c.requires.clean c.requires.small))
 
 pub returns : goal.returns
 returns c =
     let numbers : c.as_slice-2.result.now ≡ numbers_in_design c.args.scene.now = c.as_slice-2.ensures.value ∙ (c.in_ok-numbers.ensures ∙ ap (counts_from 0) c.marks.ensures) in
     let is_top : c.design_top-top.result ≡ edif_top c.args.scene.now = c.design_top-top.ensures ∙ top_is c.args.scene.now c.as_slice-2.result.now numbers in
     answered c.args.scene.now c.requires.clean c.in_ok-cells.cells c.in_ok-cells.ensures c.design_top-top.result c.in_ok-props.props c.built.result is_top
-      (c.in_ok-props.ensures ∙ ap (flat_map design_properties) c.requires.designs) c.built.ensures
+    (c.in_ok-props.ensures ∙ ap (flat_map design_properties) c.requires.designs) c.built.ensures

@@ -1,4 +1,4 @@
-use Rattle.std.proofs.Common.{◌≡◌, refl, ap, ◌∙◌, sym, subst}
+use Rattle.std.proofs.Common.{subst}
 use Rattle.net_hier.specs.Build.{IsFaultOf}
 use Rattle.edif_resolve.proofs.Answering.{too_big_answered}
 use Rattle.edif_resolve.proofs.answer.fault_of.Goals as goal

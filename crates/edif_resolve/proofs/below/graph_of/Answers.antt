@@ -1,4 +1,4 @@
-use Rattle.std.proofs.Common.{◌≡◌, ℕ, ◌+◌, ◌<◌, ◌≤◌, ◌++◌, ◌∷◌, [], ◌∙◌, ap, sym, length, take, get_or, Option, Some, None, Bool, true, false, arith, slice_get}
+use Rattle.std.proofs.Common.{arith}
 use Rattle.edif_resolve.proofs.Numbers.{graph_done}
 use Rattle.edif_resolve.proofs.below.graph_of.Goals as goal
 

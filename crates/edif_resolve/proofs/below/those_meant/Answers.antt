@@ -1,4 +1,4 @@
-use Rattle.std.proofs.Common.{◌≡◌, ℕ, ◌+◌, ◌<◌, ◌≤◌, ◌++◌, ◌∷◌, [], ◌∙◌, ap, sym, length, take, get_or, Option, Some, None, Bool, true, false, arith, slice_get}
+use Rattle.std.proofs.Common.{◌++◌, ◌∙◌, ap, sym, get_or, None, arith}
 use Rattle.std.specs.Prelude.{option_to_list}
 use Rattle.edif_lookup.proofs.ListLaws.{filter_map_more}
 use Rattle.edif_resolve.proofs.below.those_meant.Goals as goal

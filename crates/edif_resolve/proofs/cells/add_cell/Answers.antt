@@ -1,4 +1,4 @@
-use Rattle.std.proofs.Common.{◌≡◌, ℕ, ◌+◌, ◌<◌, ◌≤◌, ◌++◌, ◌∷◌, [], ◌∙◌, ap, sym, length, map, take, get_or, Option, Some, None, Bool, true, false, cond, arith, slice_get, subst}
+use Rattle.std.proofs.Common.{◌≡◌, ◌++◌, ◌∷◌, [], ◌∙◌, ap, sym, slice_get}
 use Rattle.edif_design.specs.Design.{cell_value}
 use Rattle.edif_design.specs.Reach.{is_reached}
 use Rattle.edif_design.specs.References.{file_cells, linked_by, linked_cell, numbers_meant}
@@ -15,15 +15,15 @@ cell_of-requires-clause-own c = own_good c.args.scene.now c.requires.clean c.arg
 pub cell_of-requires-clause-inner : goal.cell_of-requires-clause-inner
 cell_of-requires-clause-inner c i number inner g h =
     inner_good c.args.scene.now c.requires.clean c.args.number (place_of c.args.place.now) c.requires.stands (sym c.is_reached.ensures ∙ c.if-not-is_reached.false) c.as_slice.result.now
-      (c.as_slice.ensures.value ∙ (c.in_ok-below.ensures ∙ ap (λ file. numbers_meant file (place_of c.args.place.now)) c.tables.ensures)) i number inner g
-      (ap (λ file. slice_get (file_cells file) number) (sym c.tables-2.ensures) ∙ h)
+    (c.as_slice.ensures.value ∙ (c.in_ok-below.ensures ∙ ap (λ file. numbers_meant file (place_of c.args.place.now)) c.tables.ensures)) i number inner g
+    (ap (λ file. slice_get (file_cells file) number) (sym c.tables-2.ensures) ∙ h)
 
 pub returns : goal.returns
 returns c =
     let below : c.as_slice.result.now ≡ numbers_meant c.args.scene.now (place_of c.args.place.now) =
-      c.as_slice.ensures.value ∙ (c.in_ok-below.ensures ∙ ap (λ file. numbers_meant file (place_of c.args.place.now)) c.tables.ensures) in
+    c.as_slice.ensures.value ∙ (c.in_ok-below.ensures ∙ ap (λ file. numbers_meant file (place_of c.args.place.now)) c.tables.ensures) in
     let value : c.in_ok-cell.cell ≡ cell_value c.args.numbers.now (linked_cell c.args.scene.now (place_of c.args.place.now)) =
-      c.in_ok-cell.ensures ∙ (λ j. cell_value c.args.numbers.now (linked_by (file_cells (c.tables-2.ensures j)) c.args.place.now.cell.now (below j))) in
+    c.in_ok-cell.ensures ∙ (λ j. cell_value c.args.numbers.now (linked_by (file_cells (c.tables-2.ensures j)) c.args.place.now.cell.now (below j))) in
     c.in_ok-push.ensures.added
     ∙ ap (λ cells. c.args.cells.now ++ cells)
-      (ap (λ v. v ∷ []) value ∙ one_added (is_reached c.args.scene.now c.args.number) (cell_value c.args.numbers.now (linked_cell c.args.scene.now (place_of c.args.place.now))) (sym c.is_reached.ensures ∙ c.if-not-is_reached.false))
+    (ap (λ v. v ∷ []) value ∙ one_added (is_reached c.args.scene.now c.args.number) (cell_value c.args.numbers.now (linked_cell c.args.scene.now (place_of c.args.place.now))) (sym c.is_reached.ensures ∙ c.if-not-is_reached.false))

@@ -1,4 +1,4 @@
-use Rattle.std.proofs.Common.{◌≡◌, ℕ, ◌+◌, ◌<◌, ◌≤◌, ◌++◌, ◌∷◌, [], ◌∙◌, ap, sym, length, map, take, get_or, Option, Some, None, Bool, true, false, cond, arith, slice_get, subst}
+use Rattle.std.proofs.Common.{◌≡◌, ◌≤◌, ◌∙◌, ap, sym, length, arith}
 use Rattle.std.proofs.lemmas.List.{length-map}
 use Rattle.edif_design.specs.References.{all_cells}
 use Rattle.edif_design.specs.Tables.{place_of}
@@ -19,7 +19,7 @@ add_cell-requires-clause-stands c =
 pub loop-number-preserved : goal.loop-number-preserved
 loop-number-preserved c =
     cells_more c.args.scene.now c.args.numbers.now c.places-places.result.now (c.places-places.ensures ∙ ap all_cells c.tables.ensures) c.loop-number.number c.index-places-number.result (omega arith) c.index-places-number.is
-      c.loop-number.cells c.add_cell.new.cells c.loop-number.invariant c.in_ok-add_cell.ensures
+    c.loop-number.cells c.add_cell.new.cells c.loop-number.invariant c.in_ok-add_cell.ensures
 
 pub returns : goal.returns
 returns c =

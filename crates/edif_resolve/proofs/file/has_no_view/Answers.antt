@@ -1,4 +1,3 @@
-use Rattle.std.proofs.Common.{◌≡◌, ℕ, ◌+◌, ◌<◌, ◌≤◌, ◌++◌, ◌∷◌, [], ◌∙◌, ap, sym, length, take, get_or, Option, Some, None, Bool, true, false, arith, slice_get}
 use Rattle.edif_resolve.proofs.Views.{without_view}
 use Rattle.edif_resolve.proofs.file.has_no_view.Goals as goal
 

@@ -1,4 +1,4 @@
-use Rattle.std.proofs.Common.{◌≡◌, ℕ, ◌+◌, ◌<◌, ◌≤◌, ◌++◌, ◌∷◌, [], ◌∙◌, ap, sym, length, take, get_or, Option, Some, None, Bool, true, false, arith, slice_get}
+use Rattle.std.proofs.Common.{◌<◌, ◌≤◌, length, take, arith}
 use Rattle.edif_design.specs.FileRules.{cells_before}
 use Rattle.edif_design.specs.Parts.{libraries_in}
 use Rattle.edif_resolve.proofs.Sizes.{cells_counted, libraries_before}

@@ -1,4 +1,4 @@
-use Rattle.std.proofs.Common.{◌≡◌, ℕ, ◌+◌, ◌<◌, ◌≤◌, ◌++◌, ◌∷◌, [], ◌∙◌, ap, sym, length, take, get_or, Option, Some, None, Bool, true, false, arith, slice_get, subst}
+use Rattle.std.proofs.Common.{◌++◌, ◌∷◌, [], sym, subst}
 use Rattle.edif_resolve.specs.Walk.{HasPassed}
 use Rattle.edif_resolve.proofs.Walking.{passed_note, passed_status}
 use Rattle.edif_resolve.proofs.file.pass.Goals as goal

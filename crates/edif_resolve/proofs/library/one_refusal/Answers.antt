@@ -1,4 +1,4 @@
-use Rattle.std.proofs.Common.{◌≡◌, ℕ, ◌+◌, ◌<◌, ◌≤◌, ◌++◌, ◌∷◌, [], ◌∙◌, ap, sym, length, take, get_or, Option, Some, None, Bool, true, false, arith, slice_get}
+use Rattle.std.proofs.Common.{◌∷◌, [], ◌∙◌, ap}
 use Rattle.std.specs.Prelude.{codes}
 use Rattle.nl_base.specs.declared.rule.Rule.TheVariants.{E5}
 use Rattle.edif_lookup.specs.Refusals.{broken, lowest}
@@ -8,4 +8,4 @@ use Rattle.edif_resolve.proofs.library.one_refusal.Goals as goal
 pub returns : goal.returns
 returns c =
     c.lower.ensures ∙ lowest_both _ _ c.in_ok-second.second c.in_ok-parts.parts
-      (c.in_ok-second.ensures ∙ ap (λ s. lowest (broken c.args.taken E5 [] (codes "cell" ∷ (s ∷ [])))) c.bytes.ensures.bytes) c.in_ok-parts.ensures
+    (c.in_ok-second.ensures ∙ ap (λ s. lowest (broken c.args.taken E5 [] (codes "cell" ∷ (s ∷ [])))) c.bytes.ensures.bytes) c.in_ok-parts.ensures

@@ -1,4 +1,3 @@
-use Rattle.std.proofs.Common.{◌≡◌, ℕ, ◌+◌, ◌<◌, ◌≤◌, ◌++◌, ◌∷◌, [], ◌∙◌, ap, sym, length, take, get_or, Option, Some, None, Bool, true, false, arith, slice_get}
 use Rattle.edif_design.specs.References.{place_in}
 use Rattle.edif_resolve.proofs.Walking.{unreached}
 use Rattle.edif_resolve.proofs.library.reached_refusal.Goals as goal

@@ -1,4 +1,4 @@
-use Rattle.std.proofs.Common.{◌≡◌, ℕ, ◌+◌, ◌<◌, ◌≤◌, ◌++◌, ◌∷◌, [], ◌∙◌, ap, sym, length, take, get_or, Option, Some, None, Bool, true, false, arith, slice_get}
+use Rattle.std.proofs.Common.{arith}
 use Rattle.edif_resolve.proofs.Numbers.{faces_done}
 use Rattle.edif_resolve.proofs.Sizes.{place_small}
 use Rattle.edif_resolve.proofs.scene.faces_of.Goals as goal

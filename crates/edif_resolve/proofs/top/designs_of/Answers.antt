@@ -1,4 +1,4 @@
-use Rattle.std.proofs.Common.{◌≡◌, ℕ, ◌+◌, ◌<◌, ◌≤◌, ◌++◌, ◌∷◌, [], ◌∙◌, ap, sym, length, take, get_or, Option, Some, None, Bool, true, false, arith, slice_get}
+use Rattle.std.proofs.Common.{arith}
 use Rattle.edif_design.specs.Parts.{design_in}
 use Rattle.edif_design.proofs.Turns.{gathered, in_items}
 use Rattle.edif_resolve.proofs.top.designs_of.Goals as goal

@@ -1,6 +1,4 @@
-use Rattle.std.proofs.Common.{◌≡◌, ℕ, ◌+◌, ◌<◌, ◌≤◌, ◌++◌, ◌∷◌, [], ◌∙◌, ap, sym, length, take, get_or, Option, Some, None, Bool, true, false, arith, slice_get, subst}
-use Rattle.edif_design.specs.Reach.{cells_below}
-use Rattle.edif_design.specs.References.{number_meant, top}
+use Rattle.std.proofs.Common.{◌<◌, ◌∙◌, ap, sym, length, subst}
 use Rattle.net_graph.specs.Graph.{IsInRange}
 use Rattle.net_graph.specs.Marks.{marks_of}
 use Rattle.edif_resolve.proofs.Numbers.{below_in_range, marks_none, marks_some, top_within}
