@@ -63,7 +63,7 @@ fn node(place: Place, bit: u32) -> Node
 {
     match place {
         Place::AtPort(number) => Node::Port { port: number, bit },
-        Place::AtNet(first) => Node::Net(first + bit),
+        Place::AtNet(first) => Node::Net(first as u32 + bit),
     }
 }
 
