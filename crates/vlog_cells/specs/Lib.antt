@@ -1,2 +1,4 @@
 pub mod Groups
-pub mod Parts
+pub mod Instances
+pub mod Nets
+pub mod Ports

@@ -6,4 +6,8 @@
 #![tactic(auto)]
 
 pub mod groups;
+pub mod instances;
+pub mod mentions;
+pub mod nets;
+pub mod ports;
 pub mod properties;

@@ -3,7 +3,7 @@ ghost use Rattle.std.specs.Prelude.{◌≡◌, ◌++◌, map, IfOk, OnOk};
 ghost use Rattle.vlog_design.specs.Design.{attr_props, attr_value, param_props, param_value};
 ghost use Rattle.vlog_values.specs.Spelling.{base_letter, based_spelling, literal_spelling};
 ghost use Rattle.vlog_values.specs.declared.expression.Const.TheVariants.{Lit};
-ghost use Rattle.vlog_cells.specs.Parts.{set_prop, sets_of};
+ghost use Rattle.vlog_cells.specs.Instances.{set_prop, sets_of};
 
 use itoa::Buffer;
 use net_hier::HProp;

@@ -1,5 +1,5 @@
 use Rattle.std.proofs.Common.{◌≡◌, ◌++◌, drop, map}
-use Rattle.vlog_cells.specs.Parts.{set_prop, sets_of}
+use Rattle.vlog_cells.specs.Instances.{set_prop, sets_of}
 use Rattle.vlog_cells.proofs.properties.add_sets.Given as goal
 
 abbrev pub invariant-loop-set : goal.invariant-loop-set
