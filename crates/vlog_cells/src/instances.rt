@@ -87,6 +87,7 @@ fn instance_props(
 }
 
 /// The instance, of the cell of this number.
+#[tactic(auto, unfolding(crate::specs::Instances::sets_under))]
 fn instance_of(
     alloc: Global,
     cell: u32,

@@ -22,7 +22,7 @@ fn mention_names<'a>(
     names: &'a [Text],
     found: &mut Groups<'a, Mention<'a>>,
 ) -> Result<(), NoMemory>
-    ensures added { OnOk result ((key : List ℕ) → said_of found.new key ≡ said_of found.old key ++ said_in_names (said mention) names.now key) }
+    ensures added { OnOk result ((key : List ℕ) → said_of found.new key ≡ said_of found.old key ++ said_in_names (said mention.entry) names.now key) }
 {
     for name in names {
         found.add(alloc, name.bytes(), mention)?;
