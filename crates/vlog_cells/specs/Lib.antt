@@ -2,3 +2,4 @@ pub mod Groups
 pub mod Instances
 pub mod Nets
 pub mod Ports
+pub mod StandIn

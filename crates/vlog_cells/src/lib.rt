@@ -5,9 +5,13 @@
 // are connected, assigned or tied to a supply, and its attributes as properties (IEEE 1364-2005, 3.8, 4, 6.1 and 12).
 #![tactic(auto)]
 
+pub mod cell;
 pub mod groups;
 pub mod instances;
+pub mod joins;
 pub mod mentions;
 pub mod nets;
 pub mod ports;
 pub mod properties;
+
+pub use cell::cell_of;
