@@ -13,7 +13,8 @@ use Rattle.vlog_design.specs.Names.{Name, Signal, Wire, decl_wires, has_name, im
 use Rattle.vlog_design.specs.declared.signals.Place.TheVariants.{AtPort, AtNet}
 use Rattle.vlog_values.specs.declared.declaration.NetDecl.{NetDecl}
 use Rattle.vlog_values.specs.declared.module.Module.{Module}
-use Rattle.vlog_cells.specs.Nets.{is_late, is_port, late_net, late_nets, names_port, wires_by, wires_in}
+use Rattle.vlog_rules.specs.Redeclared.{is_port}
+use Rattle.vlog_cells.specs.Nets.{is_late, late_net, late_nets, names_port, wires_by, wires_in}
 
 -- which names are those of ports
 

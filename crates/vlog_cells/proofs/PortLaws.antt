@@ -20,8 +20,10 @@ use Rattle.vlog_values.specs.declared.module.Header.TheVariants as headers
 use Rattle.vlog_values.specs.declared.module.ItemV.{ItemV}
 use Rattle.vlog_values.specs.declared.module.ItemV.TheVariants as items
 use Rattle.vlog_values.specs.declared.module.Module.{Module}
+use Rattle.vlog_cells.specs.Nets.{names_port}
 use Rattle.vlog_cells.specs.Ports.{Said, attrs_said, dir_said, port_by, port_said, range_in, said_by_port, said_in_header, said_in_item, said_in_module, said_in_names, said_of}
 use Rattle.vlog_cells.specs.declared.mentions.Mention.{Mention}
+use Rattle.vlog_cells.proofs.NetLaws.{port_is}
 use Rattle.vlog_cells.proofs.OnceLaws.{count_both, count_declared, count_name, count_of, count_ports, direction_single, net_single, once, or_right}
 
 -- attributes
@@ -43,21 +45,32 @@ names_attrs what key (n ∷ ns) few = by (bytes_eq key n) (names_attrs what key 
     by true next few = ap (λ l. attrs_said (what ∷ l)) (none_said what key ns (omega (arith, few))) ∙ append-nil what.attrs
     by false next few = next few
 
-item_attrs : (key : Name) (item : ItemV) → count_of Direction key (declared_in_item item) ≤ 1 → count_of NetDeclaration key (declared_in_item item) ≤ 1 → attrs_said (said_in_item key item) ≡ attrs_in_item key item
-item_attrs key (items.Port decl) one net = names_attrs _ key decl.names (omega (arith, one, count_declared Direction key direction_single decl.names))
-item_attrs key (items.Net decl) one net = names_attrs _ key decl.names (omega (arith, net, count_declared NetDeclaration key net_single decl.names))
-item_attrs key (items.Param decl) one net = refl
-item_attrs key (items.Assign statement) one net = refl
-item_attrs key (items.Instances statement) one net = refl
-item_attrs key (items.Defparam statement) one net = refl
+-- what is said of the ports alone
+said_all : (table : List Signal) (what : Said) (key : Name) (names : List Name) → names_port table key ≡ true → said_in_names what (filter (names_port table) names) key ≡ said_in_names what names key
+said_all table what key [] port = refl
+said_all table what key (n ∷ ns) port = by (said_all table what key ns port) (names_port table n) refl (bytes_eq key n) refl
+  where
+    by : said_in_names what (filter (names_port table) ns) key ≡ said_in_names what ns key → (p : Bool) → names_port table n ≡ p → (b : Bool) → bytes_eq key n ≡ b →
+        said_in_names what (cond p (n ∷ filter (names_port table) ns) (filter (names_port table) ns)) key ≡ (if bytes_eq key n then what ∷ [] else []) ++ said_in_names what ns key
+    by next true is b e = ap (λ l. (if bytes_eq key n then what ∷ [] else []) ++ l) next
+    by next false is true e = absurd (false≢true (sym is ∙ (ap (names_port table) (sym ((bytes_eq-Decides key n).0 e)) ∙ port)))
+    by next false is false e = next ∙ ap (λ b. (if b then what ∷ [] else []) ++ said_in_names what ns key) (sym e)
 
-items_attrs : (key : Name) (is : List ItemV) → count_of Direction key (flat_map declared_in_item is) ≤ 1 → count_of NetDeclaration key (flat_map declared_in_item is) ≤ 1 → attrs_said (flat_map (said_in_item key) is) ≡ flat_map (attrs_in_item key) is
-items_attrs key [] one net = refl
-items_attrs key (item ∷ is) one net =
+item_attrs : (table : List Signal) (key : Name) (item : ItemV) → names_port table key ≡ true → count_of Direction key (declared_in_item item) ≤ 1 → count_of NetDeclaration key (declared_in_item item) ≤ 1 → attrs_said (said_in_item table key item) ≡ attrs_in_item key item
+item_attrs table key (items.Port decl) port one net = names_attrs _ key decl.names (omega (arith, one, count_declared Direction key direction_single decl.names))
+item_attrs table key (items.Net decl) port one net = ap attrs_said (said_all table _ key decl.names port) ∙ names_attrs _ key decl.names (omega (arith, net, count_declared NetDeclaration key net_single decl.names))
+item_attrs table key (items.Param decl) port one net = refl
+item_attrs table key (items.Assign statement) port one net = refl
+item_attrs table key (items.Instances statement) port one net = refl
+item_attrs table key (items.Defparam statement) port one net = refl
+
+items_attrs : (table : List Signal) (key : Name) (is : List ItemV) → names_port table key ≡ true → count_of Direction key (flat_map declared_in_item is) ≤ 1 → count_of NetDeclaration key (flat_map declared_in_item is) ≤ 1 → attrs_said (flat_map (said_in_item table key) is) ≡ flat_map (attrs_in_item key) is
+items_attrs table key [] port one net = refl
+items_attrs table key (item ∷ is) port one net =
     let d = count_both Direction key (declared_in_item item) (flat_map declared_in_item is) in
     let n = count_both NetDeclaration key (declared_in_item item) (flat_map declared_in_item is) in
-    flat_map-append (λ one. one.attrs) (said_in_item key item) (flat_map (said_in_item key) is)
-    ∙ (λ j. item_attrs key item (omega (arith, one, d)) (omega (arith, net, n)) j ++ items_attrs key is (omega (arith, one, d)) (omega (arith, net, n)) j)
+    flat_map-append (λ one. one.attrs) (said_in_item table key item) (flat_map (said_in_item table key) is)
+    ∙ (λ j. item_attrs table key item port (omega (arith, one, d)) (omega (arith, net, n)) j ++ items_attrs table key is port (omega (arith, one, d)) (omega (arith, net, n)) j)
 
 decls_attrs : (key : Name) (decls : List PortDecl) → count_of Direction key (flat_map (λ decl. flat_map declared_port decl.names) decls) ≤ 1 → attrs_said (flat_map (port_said key) decls) ≡ flat_map (λ decl. attrs_if (has_name decl.names key) decl.attrs) decls
 decls_attrs key [] one = refl
@@ -70,13 +83,13 @@ header_attrs : (key : Name) (header : Header) → count_of Direction key (declar
 header_attrs key (headers.Names names) one = refl
 header_attrs key (headers.Decls decls) one = decls_attrs key decls one
 
-attrs_are : (m : Module) (key : Name) → declared_twice m ≡ [] → attrs_said (said_in_module key m) ≡ port_attrs m key
+attrs_are : (m : Module) (table : List Signal) (key : Name) → names_port table key ≡ true → declared_twice m ≡ [] → attrs_said (said_in_module table key m) ≡ port_attrs m key
 unfolding port_attrs
-attrs_are m key h =
+attrs_are m table key port h =
     let d = once m Direction key direction_single h in
     let n = once m NetDeclaration key net_single h in
-    flat_map-append (λ one. one.attrs) (said_in_header key m.header) (flat_map (said_in_item key) m.items)
-    ∙ (λ j. header_attrs key m.header (omega (arith, d)) j ++ items_attrs key m.items (omega (arith, d)) (omega (arith, n)) j)
+    flat_map-append (λ one. one.attrs) (said_in_header key m.header) (flat_map (said_in_item table key) m.items)
+    ∙ (λ j. header_attrs key m.header (omega (arith, d)) j ++ items_attrs table key m.items port (omega (arith, d)) (omega (arith, n)) j)
 
 -- directions
 
@@ -112,17 +125,17 @@ first_found key decl decls = by (has_name decl.names key)
     by true = refl
     by false = refl
 
-item_dir : (key : Name) (item : ItemV) (later : List Said) (decls : List PortDecl) → dir_said later ≡ found_dir key decls → dir_said (said_in_item key item ++ later) ≡ found_dir key (port_decl item ++ decls)
-item_dir key (items.Port decl) later decls h = names_dir decl.dir decl.attrs key decl.names later ∙ (ap (cond (has_name decl.names key) decl.dir) h ∙ first_found key decl decls)
-item_dir key (items.Net decl) later decls h = nets_dir decl.attrs key decl.names later ∙ h
-item_dir key (items.Param decl) later decls h = h
-item_dir key (items.Assign statement) later decls h = h
-item_dir key (items.Instances statement) later decls h = h
-item_dir key (items.Defparam statement) later decls h = h
+item_dir : (table : List Signal) (key : Name) (item : ItemV) (later : List Said) (decls : List PortDecl) → dir_said later ≡ found_dir key decls → dir_said (said_in_item table key item ++ later) ≡ found_dir key (port_decl item ++ decls)
+item_dir table key (items.Port decl) later decls h = names_dir decl.dir decl.attrs key decl.names later ∙ (ap (cond (has_name decl.names key) decl.dir) h ∙ first_found key decl decls)
+item_dir table key (items.Net decl) later decls h = nets_dir decl.attrs key (filter (names_port table) decl.names) later ∙ h
+item_dir table key (items.Param decl) later decls h = h
+item_dir table key (items.Assign statement) later decls h = h
+item_dir table key (items.Instances statement) later decls h = h
+item_dir table key (items.Defparam statement) later decls h = h
 
-items_dir : (key : Name) (is : List ItemV) → dir_said (flat_map (said_in_item key) is) ≡ found_dir key (flat_map port_decl is)
-items_dir key [] = refl
-items_dir key (item ∷ is) = item_dir key item (flat_map (said_in_item key) is) (flat_map port_decl is) (items_dir key is)
+items_dir : (table : List Signal) (key : Name) (is : List ItemV) → dir_said (flat_map (said_in_item table key) is) ≡ found_dir key (flat_map port_decl is)
+items_dir table key [] = refl
+items_dir table key (item ∷ is) = item_dir table key item (flat_map (said_in_item table key) is) (flat_map port_decl is) (items_dir table key is)
 
 decls_dir : (key : Name) (decls : List PortDecl) (later : List Said) (others : List PortDecl) → dir_said later ≡ found_dir key others → dir_said (flat_map (port_said key) decls ++ later) ≡ found_dir key (decls ++ others)
 decls_dir key [] later others h = h
@@ -131,13 +144,13 @@ decls_dir key (decl ∷ decls) later others h =
     ∙ (names_dir decl.dir decl.attrs key decl.names (flat_map (port_said key) decls ++ later)
     ∙ (ap (cond (has_name decl.names key) decl.dir) (decls_dir key decls later others h) ∙ first_found key decl (decls ++ others)))
 
-dir_is : (m : Module) (key : Name) → dir_said (said_in_module key m) ≡ port_dir m key
+dir_is : (m : Module) (table : List Signal) (key : Name) → dir_said (said_in_module table key m) ≡ port_dir m key
 unfolding port_dir port_decls
-dir_is m key = by m.header
+dir_is m table key = by m.header
   where
-    by : (header : Header) → dir_said (said_in_header key header ++ flat_map (said_in_item key) m.items) ≡ found_dir key (header_decls header ++ flat_map port_decl m.items)
-    by (headers.Names names) = items_dir key m.items
-    by (headers.Decls decls) = decls_dir key decls (flat_map (said_in_item key) m.items) (flat_map port_decl m.items) (items_dir key m.items)
+    by : (header : Header) → dir_said (said_in_header key header ++ flat_map (said_in_item table key) m.items) ≡ found_dir key (header_decls header ++ flat_map port_decl m.items)
+    by (headers.Names names) = items_dir table key m.items
+    by (headers.Decls decls) = decls_dir key decls (flat_map (said_in_item table key) m.items) (flat_map port_decl m.items) (items_dir table key m.items)
 
 -- ranges
 
@@ -165,13 +178,13 @@ map_here f g all [] same within = refl
 map_here f g all (n ∷ ns) same within =
     (λ j. same n (within n (ap (λ b. b || has_name ns n) ((bytes_eq-Decides n n).1 refl))) j ∷ map_here f g all ns same (λ x h. within x (or_right (bytes_eq x n) (has_name ns x) h)) j)
 
-pub ports_are : (m : Module) (table : List Signal) (found : List (Name × List Mention)) → table ≡ signals m → declared_twice m ≡ [] → ((key : Name) → said_of found key ≡ said_in_module key m) → map (port_by table found) (port_names m) ≡ module_ports m
+pub ports_are : (m : Module) (table : List Signal) (found : List (Name × List Mention)) → table ≡ signals m → declared_twice m ≡ [] → ((key : Name) → said_of found key ≡ said_in_module table key m) → map (port_by table found) (port_names m) ≡ module_ports m
 unfolding module_ports
 ports_are m table found whole twice known =
     map_here (port_by table found) _ (port_names m) (port_names m)
     (λ name here.
       let r : range_in table name ≡ port_range m name = ap (λ t. range_in t name) whole ∙ range_is m name here in
-      let d : dir_said (said_of found name) ≡ port_dir m name = ap dir_said (known name) ∙ dir_is m name in
-      let a : attrs_said (said_of found name) ≡ port_attrs m name = ap attrs_said (known name) ∙ attrs_are m name twice in
+      let d : dir_said (said_of found name) ≡ port_dir m name = ap dir_said (known name) ∙ dir_is m table name in
+      let a : attrs_said (said_of found name) ≡ port_attrs m name = ap attrs_said (known name) ∙ attrs_are m table name (ap (λ t. names_port t name) whole ∙ (port_is m name ∙ here)) twice in
       (λ j. record { name = name; range = r j; dir = d j; props = attr_props (a j) }))
     (λ x h. h)

@@ -73,6 +73,27 @@ said_turn names i d x what key now new start name within is named before more =
     ∙ (append_assoc (map said (under now key)) (here (get_or names i d)) (said_in_names (said what) (drop (suc i) names) key)
     ∙ (ap (λ l. map said (under now key) ++ said_in_names (said what) l key) (sym (drop-cons names i d within)) ∙ before))
 
+kept_more : (p : Name → Bool) (what : Said) (key : Name) (x : Name) (xs : List Name) → said_in_names what (filter p (x ∷ [])) key ++ said_in_names what (filter p xs) key ≡ said_in_names what (filter p (x ∷ xs)) key
+kept_more p what key x xs = by (p x)
+  where
+    by : (b : Bool) → said_in_names what (cond b (x ∷ []) []) key ++ said_in_names what (filter p xs) key ≡ said_in_names what (cond b (x ∷ filter p xs) (filter p xs)) key
+    by true = ap (λ l. l ++ said_in_names what (filter p xs) key) (append-nil (if bytes_eq key x then what ∷ [] else []))
+    by false = refl
+
+pub kept_turn : (p : Name → Bool) (what : Said) (names : List Name) (i : ℕ) (d x : Name) (key : Name) (now new : List (Name × List Mention)) (start : List Said) (name : Name) → i < length names → x ≡ get_or names i d → name ≡ x →
+    said_of now key ++ said_in_names what (filter p (drop i names)) key ≡ start → said_of new key ≡ said_of now key ++ said_in_names what (filter p (name ∷ [])) key → said_of new key ++ said_in_names what (filter p (drop (i + 1) names)) key ≡ start
+kept_turn p what names i d x key now new start name within is named before more =
+    let made : said_of new key ≡ said_of now key ++ said_in_names what (filter p (get_or names i d ∷ [])) key = more ∙ ap (λ n. said_of now key ++ said_in_names what (filter p (n ∷ [])) key) (named ∙ is) in
+    (λ j. made j ++ said_in_names what (filter p (drop (add-one i j) names)) key)
+    ∙ (append_assoc (said_of now key) (said_in_names what (filter p (get_or names i d ∷ [])) key) (said_in_names what (filter p (drop (suc i) names)) key)
+    ∙ (ap (λ l. said_of now key ++ l) (kept_more p what key (get_or names i d) (drop (suc i) names) ∙ ap (λ l. said_in_names what (filter p l) key) (sym (drop-cons names i d within))) ∙ before))
+
+pub port_noted : (port : Bool) (what : Mention) (key name : Name) (now new : List (Name × List Mention)) → true ≡ port → under new key ≡ under now key ++ (if bytes_eq key name then what ∷ [] else []) → said_of new key ≡ said_of now key ++ said_in_names (said what) (cond port (name ∷ []) []) key
+unfolding said_of
+port_noted true what key name now new is more =
+    ap (map said) more ∙ (said_more (bytes_eq key name) (under now key) what ∙ ap (λ l. map said (under now key) ++ l) (sym (append-nil (if bytes_eq key name then said what ∷ [] else []))))
+port_noted false what key name now new is more = absurd cc
+
 pub no_said : (found : List (Name × List Mention)) → found ≡ [] → (key : Name) → said_of found key ≡ []
 unfolding said_of under
 no_said found e key = ap (λ f. said_of f key) e

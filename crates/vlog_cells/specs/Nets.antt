@@ -5,17 +5,13 @@ use Rattle.net_hier.specs.declared.cells.HNet.{HNet}
 use Rattle.vlog_design.specs.Names.{Name, Signal, Wire, signal_named}
 use Rattle.vlog_design.specs.declared.signals.Place.{Place}
 use Rattle.vlog_design.specs.declared.signals.Place.TheVariants.{AtPort, AtNet}
+use Rattle.vlog_rules.specs.Redeclared.{is_port}
 use Rattle.vlog_values.specs.declared.declaration.NetDecl.{NetDecl}
 use Rattle.vlog_cells.specs.declared.nets.WireOf.{WireOf}
 
 -- the net that the code keeps
 abbrev pub wire_of : WireOf → Wire
 wire_of wire = record { name = wire.name.now; range = wire.range; attrs = wire.attrs.now }
-
--- the place of a port
-abbrev pub is_port : Place → Bool
-is_port (AtPort number) = true
-is_port (AtNet first) = false
 
 -- the name is that of a port
 unfoldable pub names_port : List Signal → Name → Bool

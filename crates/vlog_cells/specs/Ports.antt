@@ -1,5 +1,5 @@
 -- What the declarations of a module say of its ports, and the ports by it.
-use Rattle.std.specs.Prelude.{ℕ, List, [], ◌∷◌, ◌++◌, map, flat_map, bytes_eq, Option, Some, None, if◌then◌else◌}
+use Rattle.std.specs.Prelude.{ℕ, List, [], ◌∷◌, ◌++◌, map, filter, flat_map, bytes_eq, Option, Some, None, if◌then◌else◌}
 
 use Rattle.std.specs.Option.{option_and_then}
 use Rattle.nl_base.specs.Ranges.{Bounds}
@@ -9,6 +9,7 @@ use Rattle.net_hier.specs.declared.cells.HPort.{HPort}
 use Rattle.vlog_design.specs.Design.{attr_props}
 use Rattle.vlog_design.specs.Names.{Name, Signal, signal_named}
 use Rattle.vlog_values.specs.declared.expression.Attr.{Attr}
+use Rattle.vlog_values.specs.declared.declaration.NetDecl.{NetDecl}
 use Rattle.vlog_values.specs.declared.declaration.PortDecl.{PortDecl}
 use Rattle.vlog_values.specs.declared.module.Header.{Header}
 use Rattle.vlog_values.specs.declared.module.Header.TheVariants.{Names, Decls}
@@ -16,6 +17,7 @@ use Rattle.vlog_values.specs.declared.module.ItemV.{ItemV}
 use Rattle.vlog_values.specs.declared.module.ItemV.TheVariants.{Port, Net, Param, Assign, Instances, Defparam}
 use Rattle.vlog_values.specs.declared.module.Module.{Module}
 use Rattle.vlog_cells.specs.Groups.{under}
+use Rattle.vlog_cells.specs.Nets.{names_port}
 use Rattle.vlog_cells.specs.declared.mentions.Mention.{Mention}
 
 -- what a declaration says of a name: its direction, where it gives one, and its attributes
@@ -48,18 +50,22 @@ abbrev pub said_in_header : Name → Header → List Said
 said_in_header key (Names names) = []
 said_in_header key (Decls decls) = flat_map (port_said key) decls
 
--- what an item says of a name
-abbrev pub said_in_item : Name → ItemV → List Said
-said_in_item key (Port decl) = said_by_port decl key
-said_in_item key (Net decl) = said_in_names (record { dir = None; attrs = decl.attrs }) decl.names key
-said_in_item key (Param decl) = []
-said_in_item key (Assign statement) = []
-said_in_item key (Instances statement) = []
-said_in_item key (Defparam statement) = []
+-- what a declaration of nets says of a port of the table
+abbrev pub said_by_net : List Signal → NetDecl → Name → List Said
+said_by_net table decl key = said_in_names (record { dir = None; attrs = decl.attrs }) (filter (names_port table) decl.names) key
 
--- what a module says of a name, in the order of the text
-abbrev pub said_in_module : Name → Module → List Said
-said_in_module key m = said_in_header key m.header ++ flat_map (said_in_item key) m.items
+-- what an item says of a port of the table
+abbrev pub said_in_item : List Signal → Name → ItemV → List Said
+said_in_item table key (Port decl) = said_by_port decl key
+said_in_item table key (Net decl) = said_by_net table decl key
+said_in_item table key (Param decl) = []
+said_in_item table key (Assign statement) = []
+said_in_item table key (Instances statement) = []
+said_in_item table key (Defparam statement) = []
+
+-- what a module says of a port of the table, in the order of the text
+abbrev pub said_in_module : List Signal → Name → Module → List Said
+said_in_module table key m = said_in_header key m.header ++ flat_map (said_in_item table key) m.items
 
 -- the first direction that is said
 abbrev pub dir_said : List Said → Dir

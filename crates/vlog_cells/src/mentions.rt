@@ -1,12 +1,15 @@
 // What the declarations of a module say of its ports.
-ghost use Rattle.std.specs.Prelude.{◌≡◌, ◌++◌, List, ℕ, flat_map, IfOk, OnOk};
+ghost use Rattle.std.specs.Prelude.{◌≡◌, ◌++◌, ◌∷◌, [], List, ℕ, filter, flat_map, IfOk, OnOk};
 
-ghost use Rattle.vlog_cells.specs.Ports.{port_said, said, said_by_port, said_in_header, said_in_item, said_in_module, said_in_names, said_of};
+ghost use Rattle.vlog_cells.specs.Ports.{port_said, said, said_by_net, said_by_port, said_in_header, said_in_item, said_in_module, said_in_names, said_of};
+ghost use Rattle.vlog_cells.specs.Nets.{names_port};
 
 use crate::groups::Groups;
+use crate::nets::names_port;
 use nl_base::{Dir, NoMemory, Text};
 use std::alloc::Global;
-use vlog_values::{Attr, Header, ItemV, Module, PortDecl};
+use vlog_design::table::Table;
+use vlog_values::{Attr, Header, ItemV, Module, NetDecl, PortDecl};
 
 /// What one declaration says of a name: its direction, where it gives one, and its attributes.
 #[derive(Clone, Copy)]
@@ -77,13 +80,50 @@ fn mention_header<'a>(
     }
 }
 
-/// Adds what an item says.
+/// Adds what a declaration says of this name, where it is that of a port.
+fn mention_port_net<'a>(
+    alloc: Global,
+    table: &Table,
+    mention: Mention<'a>,
+    name: &'a [u8],
+    found: &mut Groups<'a, Mention<'a>>,
+) -> Result<(), NoMemory>
+    ensures added { OnOk result ((key : List ℕ) → said_of found.new key ≡ said_of found.old key ++ said_in_names (said mention.entry) (filter (names_port table.now) (name.now ∷ [])) key) }
+{
+    if !names_port(table, name) {
+        return Ok(());
+    }
+    found.add(alloc, name, mention)?;
+    Ok(())
+}
+
+/// Adds what a declaration of nets says of ports.
+fn mention_net<'a>(
+    alloc: Global,
+    table: &Table,
+    decl: &'a NetDecl,
+    found: &mut Groups<'a, Mention<'a>>,
+) -> Result<(), NoMemory>
+    ensures added { OnOk result ((key : List ℕ) → said_of found.new key ≡ said_of found.old key ++ said_by_net table.now decl.now key) }
+{
+    let mention = Mention {
+        dir: None,
+        attrs: decl.attrs.items(),
+    };
+    for name in decl.names.items() {
+        mention_port_net(alloc, table, mention, name.bytes(), found)?;
+    }
+    Ok(())
+}
+
+/// Adds what an item says of ports.
 fn mention_item<'a>(
     alloc: Global,
+    table: &Table,
     item: &'a ItemV,
     found: &mut Groups<'a, Mention<'a>>,
 ) -> Result<(), NoMemory>
-    ensures added { OnOk result ((key : List ℕ) → said_of found.new key ≡ said_of found.old key ++ said_in_item key item.now) }
+    ensures added { OnOk result ((key : List ℕ) → said_of found.new key ≡ said_of found.old key ++ said_in_item table.now key item.now) }
 {
     match item {
         ItemV::Port(decl) => {
@@ -91,11 +131,7 @@ fn mention_item<'a>(
             Ok(())
         }
         ItemV::Net(decl) => {
-            let mention = Mention {
-                dir: None,
-                attrs: decl.attrs.items(),
-            };
-            mention_names(alloc, mention, decl.names.items(), found)?;
+            mention_net(alloc, table, decl, found)?;
             Ok(())
         }
         ItemV::Param(_) => Ok(()),
@@ -105,29 +141,31 @@ fn mention_item<'a>(
     }
 }
 
-/// Adds what items say.
+/// Adds what items say of ports.
 fn mention_items<'a>(
     alloc: Global,
+    table: &Table,
     items: &'a [ItemV],
     found: &mut Groups<'a, Mention<'a>>,
 ) -> Result<(), NoMemory>
-    ensures added { OnOk result ((key : List ℕ) → said_of found.new key ≡ said_of found.old key ++ flat_map (said_in_item key) items.now) }
+    ensures added { OnOk result ((key : List ℕ) → said_of found.new key ≡ said_of found.old key ++ flat_map (said_in_item table.now key) items.now) }
 {
     for item in items {
-        mention_item(alloc, item, found)?;
+        mention_item(alloc, table, item, found)?;
     }
     Ok(())
 }
 
-/// What the declarations of a module say of each port and net, in the order of the text.
+/// What the declarations of a module say of each port of the table, in the order of the text.
 pub fn mentions_in<'a>(
     alloc: Global,
     m: &'a Module,
+    table: &Table,
 ) -> Result<Groups<'a, Mention<'a>>, NoMemory>
-    ensures { IfOk result (λ found. (key : List ℕ) → said_of found key ≡ said_in_module key m.now) }
+    ensures { IfOk result (λ found. (key : List ℕ) → said_of found key ≡ said_in_module table.now key m.now) }
 {
     let mut found = Groups::empty(alloc);
     mention_header(alloc, &m.header, &mut found)?;
-    mention_items(alloc, m.items.items(), &mut found)?;
+    mention_items(alloc, table, m.items.items(), &mut found)?;
     Ok(found)
 }

@@ -81,7 +81,7 @@ fn add_wire(alloc: Global, wire: &WireOf, made: &mut Seq<HNet>) -> Result<(), No
 
 /// Whether the name is that of a port.
 #[tactic(auto, unfolding(crate::specs::Nets::names_port))]
-fn names_port(table: &Table, name: &[u8]) -> bool
+pub fn names_port(table: &Table, name: &[u8]) -> bool
     ensures { result ≡ names_port table.now name.now }
 {
     match table.find(name) {

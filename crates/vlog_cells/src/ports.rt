@@ -133,7 +133,7 @@ pub fn ports_made(alloc: Global, m: &Module, table: &Table) -> Result<Seq<HPort>
     requires once { declared_twice m.now ≡ [] }
     ensures { IfOk result (λ made. made ≡ module_ports m.now) }
 {
-    let found = mentions_in(alloc, m)?;
+    let found = mentions_in(alloc, m, table)?;
     let mut made = Seq::empty(alloc);
     add_header(alloc, table, &found, &m.header, &mut made)?;
     Ok(made)

@@ -7,5 +7,5 @@ pub returns : goal.returns
 returns c = λ key.
     let m = c.args.m.now in
     c.in_ok-mention_items.ensures.added key
-    ∙ (ap (λ l. l ++ flat_map (said_in_item key) c.items.result.now) (c.in_ok-mention_header.ensures.added key ∙ ap (λ l. l ++ said_in_header key m.header) (no_said c.empty-found.result c.empty-found.ensures key))
-    ∙ ap (λ items. said_in_header key m.header ++ flat_map (said_in_item key) items) c.items.ensures)
+    ∙ (ap (λ l. l ++ flat_map (said_in_item c.args.table.now key) c.items.result.now) (c.in_ok-mention_header.ensures.added key ∙ ap (λ l. l ++ said_in_header key m.header) (no_said c.empty-found.result c.empty-found.ensures key))
+    ∙ ap (λ items. said_in_header key m.header ++ flat_map (said_in_item c.args.table.now key) items) c.items.ensures)
