@@ -183,8 +183,8 @@ unfolding module_ports
 ports_are m table found whole twice known =
     map_here (port_by table found) _ (port_names m) (port_names m)
     (λ name here.
-      let r : range_in table name ≡ port_range m name = ap (λ t. range_in t name) whole ∙ range_is m name here in
-      let d : dir_said (said_of found name) ≡ port_dir m name = ap dir_said (known name) ∙ dir_is m table name in
-      let a : attrs_said (said_of found name) ≡ port_attrs m name = ap attrs_said (known name) ∙ attrs_are m table name (ap (λ t. names_port t name) whole ∙ (port_is m name ∙ here)) twice in
-      (λ j. record { name = name; range = r j; dir = d j; props = attr_props (a j) }))
+    let r : range_in table name ≡ port_range m name = ap (λ t. range_in t name) whole ∙ range_is m name here in
+    let d : dir_said (said_of found name) ≡ port_dir m name = ap dir_said (known name) ∙ dir_is m table name in
+    let a : attrs_said (said_of found name) ≡ port_attrs m name = ap attrs_said (known name) ∙ attrs_are m table name (ap (λ t. names_port t name) whole ∙ (port_is m name ∙ here)) twice in
+    (λ j. record { name = name; range = r j; dir = d j; props = attr_props (a j) }))
     (λ x h. h)

@@ -1,6 +1,5 @@
 -- What the declarations of a module say of its ports, and the ports by it.
 use Rattle.std.specs.Prelude.{ℕ, List, [], ◌∷◌, ◌++◌, map, filter, flat_map, bytes_eq, Option, Some, None, if◌then◌else◌}
-
 use Rattle.std.specs.Option.{option_and_then}
 use Rattle.nl_base.specs.Ranges.{Bounds}
 use Rattle.nl_base.specs.declared.value.Dir.{Dir}

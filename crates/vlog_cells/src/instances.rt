@@ -162,11 +162,7 @@ fn add_items(
 }
 
 /// The instances of a module. The names are those of the modules of the design.
-pub fn instances_made(
-    alloc: Global,
-    names: &Names,
-    m: &Module,
-) -> Result<Seq<HInst>, NoMemory>
+pub fn instances_made(alloc: Global, names: &Names, m: &Module) -> Result<Seq<HInst>, NoMemory>
     requires few { length names.now < 2 ^ 32 }
     ensures { IfOk result (λ made. (modules : List Module) → names.now ≡ map (λ m. m.name) modules → made ≡ module_instances modules m.now) }
 {

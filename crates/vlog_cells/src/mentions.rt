@@ -1,6 +1,5 @@
 // What the declarations of a module say of its ports.
 ghost use Rattle.std.specs.Prelude.{◌≡◌, ◌++◌, ◌∷◌, [], List, ℕ, filter, flat_map, IfOk, OnOk};
-
 ghost use Rattle.vlog_cells.specs.Ports.{port_said, said, said_by_net, said_by_port, said_in_header, said_in_item, said_in_module, said_in_names, said_of};
 ghost use Rattle.vlog_cells.specs.Nets.{names_port};
 

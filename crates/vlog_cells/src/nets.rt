@@ -33,12 +33,7 @@ fn bit_count(range: Option<Range>) -> u32
 }
 
 /// The name of the net that a bit is: `name`, or `name[index]` where there is a range.
-fn net_name(
-    alloc: Global,
-    name: &[u8],
-    range: Option<Range>,
-    bit: u32,
-) -> Result<Text, NoMemory>
+fn net_name(alloc: Global, name: &[u8], range: Option<Range>, bit: u32) -> Result<Text, NoMemory>
     requires { bit < width_of range }
     ensures { IfOk result (λ text. text ≡ net_name name.now range bit) }
 {

@@ -1,6 +1,5 @@
 // The ports of a cell.
 ghost use Rattle.std.specs.Prelude.{◌≡◌, ◌++◌, [], flat_map, map, IfOk, OnOk};
-
 ghost use Rattle.vlog_design.specs.Design.{attr_props, module_ports};
 ghost use Rattle.vlog_design.specs.Names.{header_names, signals};
 ghost use Rattle.vlog_design.specs.Rules.{declared_twice};
