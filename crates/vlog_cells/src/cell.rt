@@ -27,7 +27,7 @@ fn cell_instances(
     scope: &Scope,
 ) -> Result<Seq<HInst>, NoMemory>
     requires named { names.now ≡ map (λ m. m.name) (modules_in scopes.now) }
-    requires few { length scopes.now < 2 ^ 32 }
+    requires few { length (modules_in scopes.now) < 2 ^ 32 }
     ensures { IfOk result (λ made. made ≡ module_instances (modules_in scopes.now) scope.now.module.now) }
 {
     let made = instances_made(alloc, names, scope.module)?;
@@ -60,7 +60,7 @@ pub fn cell_of(
     scope: &Scope,
 ) -> Result<HCell, NoMemory>
     requires named { names.now ≡ map (λ m. m.name) (modules_in scopes.now) }
-    requires few { length scopes.now < 2 ^ 32 }
+    requires few { length (modules_in scopes.now) < 2 ^ 32 }
     requires small { module_size scope.now.module.now ≤ 268435456 }
     requires valid { IsModule scope.now.module.now }
     requires once { declared_twice scope.now.module.now ≡ [] }
