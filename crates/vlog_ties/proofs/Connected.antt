@@ -1,5 +1,5 @@
 -- The connections of an instance, found in the table of the module below.
-use Rattle.std.proofs.Common.{◌≡◌, ℕ, zero, suc, ◌+◌, ◌||◌, not, Bool, true, false, cond, List, [], ◌∷◌, ◌++◌, Option, None, Some, bytes_eq, find, flat_map, length, map, option_map, slice_get, drop, get_or, ◌<◌, ◌≤◌, refl, sym, ap, ◌∙◌, arith, add-one, drop-cons, drop_of_length-le}
+use Rattle.std.proofs.Common.{◌≡◌, ℕ, suc, ◌+◌, ◌||◌, not, Bool, true, false, cond, List, [], ◌∷◌, ◌++◌, Option, None, Some, bytes_eq, find, flat_map, length, map, option_map, drop, get_or, ◌<◌, ◌≤◌, refl, sym, ap, ◌∙◌, arith, add-one, drop-cons, drop_of_length-le}
 use Rattle.std.specs.List.{position_or_len}
 use Rattle.std.specs.Option.{option_map_or}
 use Rattle.std.proofs.lemmas.Slice.Eq.{bytes_eq-Decides}
@@ -8,7 +8,7 @@ use Rattle.net_hier.specs.Cells.{width_of}
 use Rattle.vlog_design.specs.Design.{Connection, connection_named, connections, connections_in_order}
 use Rattle.vlog_design.specs.Names.{Name, Signal, Wire, has_name, net_signals, port_names, port_range, port_signals, signal_named, signals, wires}
 use Rattle.vlog_design.specs.declared.signals.Place.TheVariants.{AtPort, AtNet}
-use Rattle.vlog_ties.specs.Ties.{Tied, connection_by_name, connection_by_place, connection_to, connections_among, connections_from, instance_ties, instances_ties, pin_of}
+use Rattle.vlog_ties.specs.Ties.{connection_by_name, connection_by_place, connection_to, connections_among, connections_from, instance_ties, instances_ties, pin_of}
 use Rattle.vlog_values.specs.declared.expression.Expr.{Expr}
 use Rattle.vlog_values.specs.declared.module.Module.{Module}
 use Rattle.vlog_values.specs.declared.statement.Conns.{Conns}

@@ -3,20 +3,17 @@ use Rattle.std.proofs.Common.{◌≡◌, ℕ, ◌+◌, List, [], ◌∷◌, ◌+
 use Rattle.std.specs.Option.{option_map_or}
 use Rattle.std.proofs.lemmas.List.Concat.{flat_map-append}
 use Rattle.std.proofs.lemmas.List.Folds.{flat_map-map}
-use Rattle.net_hier.specs.declared.nodes.Join.{Join}
 use Rattle.net_hier.specs.declared.nodes.Node.{Node}
-use Rattle.vlog_design.specs.Design.{Connection, Pairing, connections, instance_count, item_joins, item_pairings, joins_from, module_joins, pairing_of_assign, pairing_of_connection, pairings, pairings_from, pairings_of_instances, slot_joins, supply_joins, supply_node}
-use Rattle.vlog_design.specs.Names.{Name, Signal, signal_named, signals}
+use Rattle.vlog_design.specs.Design.{Connection, connections, instance_count, item_joins, item_pairings, joins_from, module_joins, pairing_of_assign, pairing_of_connection, pairings, pairings_from, pairings_of_instances, supply_joins, supply_node}
+use Rattle.vlog_design.specs.Names.{Name, Signal, signals}
 use Rattle.vlog_design.specs.Reach.{module_named}
-use Rattle.vlog_values.specs.declared.declaration.NetKind.{NetKind}
-use Rattle.vlog_values.specs.declared.declaration.NetKind.TheVariants.{Wire, Tri, Supply0, Supply1}
 use Rattle.vlog_values.specs.declared.module.ItemV.{ItemV}
 use Rattle.vlog_values.specs.declared.module.ItemV.TheVariants as items
 use Rattle.vlog_values.specs.declared.module.Module.{Module}
 use Rattle.vlog_values.specs.declared.statement.Assignment.{Assignment}
 use Rattle.vlog_values.specs.declared.statement.Instances.{Instances}
 use Rattle.vlog_values.specs.declared.statement.VInst.{VInst}
-use Rattle.vlog_ties.specs.Ties.{Tied, Assign, Supply, all_tied, instances_ties, item_ties, module_ties, pairing_joins, pin_of, tie_joins, tie_pairings, tied, tied_joins, tied_pairings, ties_from}
+use Rattle.vlog_ties.specs.Ties.{Assign, Supply, all_tied, instances_ties, item_ties, module_ties, pairing_joins, pin_of, tie_joins, tie_pairings, tied, tied_joins, tied_pairings, ties_from}
 use Rattle.vlog_ties.specs.declared.tie.Tie.{Tie}
 
 -- one for each

@@ -1,5 +1,5 @@
 -- What is tied in a module that a text can have.
-use Rattle.std.proofs.Common.{◌≡◌, ℕ, zero, suc, ◌+◌, ◌≤◌, All, Bool, true, false, List, [], ◌∷◌, ◌++◌, Option, None, Some, flat_map, length, map, sum_by, ap, refl, subst, sym, ◌∙◌, arith, if◌then◌else◌}
+use Rattle.std.proofs.Common.{◌≡◌, ℕ, ◌+◌, ◌≤◌, All, Bool, true, false, List, [], ◌∷◌, Option, None, Some, flat_map, map, ap, subst, sym, ◌∙◌, arith, if◌then◌else◌}
 use Rattle.std.specs.Prelude.{⊤, IfSome}
 use Rattle.std.specs.List.{AllByRecursion}
 use Rattle.std.specs.Option.{option_map_or}
@@ -15,7 +15,6 @@ use Rattle.vlog_design.specs.Reach.{module_named}
 use Rattle.vlog_values.specs.Sizes.{assignment_size, expr_size, item_size, list_size, module_size}
 use Rattle.vlog_values.specs.Values.{IsAssignment, IsConns, IsExpr, IsInstance, IsItem, IsModule, IsNamedConn, is_left}
 use Rattle.vlog_values.specs.declared.expression.Expr.{Expr}
-use Rattle.vlog_values.specs.declared.literal.Literal.{Literal}
 use Rattle.vlog_values.specs.declared.module.ItemV.{ItemV}
 use Rattle.vlog_values.specs.declared.module.ItemV.TheVariants as items
 use Rattle.vlog_values.specs.declared.module.Module.{Module}
@@ -117,7 +116,7 @@ items_valid modules number [] good small = tt
 items_valid modules number (item ∷ list) good small =
     let sum = sum_by-cons item_size item list in
     every_append IsTied (item_ties modules number item) (ties_from modules (number + instance_count item) list) (item_valid modules number item good.0 (omega (arith, sum, small)))
-        (items_valid modules (number + instance_count item) list good.1 (omega (arith, sum, small)))
+    (items_valid modules (number + instance_count item) list good.1 (omega (arith, sum, small)))
 
 -- what is tied in a module
 pub ties_valid : (modules : List Module) (m : Module) → IsModule m → module_size m ≤ 268435456 → AllByRecursion IsTied (module_ties modules m)

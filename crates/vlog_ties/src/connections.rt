@@ -3,7 +3,6 @@ ghost use Rattle.std.specs.Prelude.{◌≡◌, ◌++◌, ◌+◌, ◌≤◌, fla
 ghost use Rattle.net_hier.specs.Cells.{width_of};
 ghost use Rattle.vlog_ties.specs.Ties.{all_tied, connection_by_name, connection_by_place, connection_to, connections_among, connections_from, instance_ties, instances_ties, pin_of};
 
-
 use crate::tie::Tie;
 use nl_base::{NoMemory, Range};
 use vlog_design::signals::{Place, Slot};
@@ -140,7 +139,13 @@ fn push_instance<'a>(
 ) -> Result<(), NoMemory>
     ensures added { OnOk result (all_tied out.new.items ≡ all_tied out.old.items ++ instance_ties below.now.module.now number instance.now) }
 {
-    push_conns(&below.table, instance.name.bytes(), number, &instance.conns, out)
+    push_conns(
+        &below.table,
+        instance.name.bytes(),
+        number,
+        &instance.conns,
+        out,
+    )
 }
 
 /// Adds what instances tie, by the number of the first and the scope of their module.

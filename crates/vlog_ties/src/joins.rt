@@ -20,8 +20,8 @@ use vlog_design::joins::push_joins;
 use vlog_design::names::Names;
 use vlog_design::signals::{Place, Slot};
 use vlog_design::table::Table;
-use vlog_rules::passes::Scope;
 use vlog_design::widths::range_width;
+use vlog_rules::passes::Scope;
 use vlog_values::Expr;
 
 /// Adds the bits of a pin, from the left.
@@ -89,12 +89,7 @@ fn push_assign(
 }
 
 /// Adds the joins of what is tied.
-fn push_tie(
-    alloc: Global,
-    table: &Table,
-    tie: &Tie,
-    out: &mut Vec<Join>,
-) -> Result<(), NoMemory>
+fn push_tie(alloc: Global, table: &Table, tie: &Tie, out: &mut Vec<Join>) -> Result<(), NoMemory>
     requires digits { All HasDigits (tie_literals tie.now) }
     requires numbers { All (λ signal. HasNumbers signal.slot) table.now }
     ensures added { OnOk result (out.new.items ≡ out.old.items ++ tie_joins table.now tie.now) }

@@ -6,7 +6,6 @@ ghost use Rattle.vlog_design.specs.Reach.{module_named};
 ghost use Rattle.vlog_values.specs.Sizes.{module_size};
 ghost use Rattle.vlog_ties.specs.Ties.{Assign, Supply, all_tied, item_ties, module_ties, modules_in, tie_joins, tie_pairings, ties_from};
 
-
 use crate::connections::push_instances;
 use crate::tie::Tie;
 use net_hier::Node;
