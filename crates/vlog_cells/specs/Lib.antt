@@ -2,4 +2,3 @@ pub mod Groups
 pub mod Instances
 pub mod Nets
 pub mod Ports
-pub mod StandIn

@@ -6,10 +6,9 @@ ghost use Rattle.vlog_design.specs.Numbers.{HasNumbers};
 ghost use Rattle.vlog_design.specs.Rules.{declared_twice};
 ghost use Rattle.vlog_values.specs.Sizes.{module_size};
 ghost use Rattle.vlog_values.specs.Values.{IsModule};
-ghost use Rattle.vlog_cells.specs.StandIn.{modules_in};
+ghost use Rattle.vlog_ties.specs.Ties.{modules_in};
 
 use crate::instances::instances_made;
-use crate::joins::joins_of;
 use crate::nets::nets_made;
 use crate::ports::ports_made;
 use crate::properties::attrs_made;
@@ -18,6 +17,7 @@ use nl_base::{NoMemory, Seq, Text};
 use std::alloc::Global;
 use vlog_design::names::Names;
 use vlog_rules::passes::Scope;
+use vlog_ties::joins::joins_of;
 
 /// The instances of a cell.
 fn cell_instances(

@@ -8,7 +8,6 @@
 pub mod cell;
 pub mod groups;
 pub mod instances;
-pub mod joins;
 pub mod mentions;
 pub mod nets;
 pub mod ports;
