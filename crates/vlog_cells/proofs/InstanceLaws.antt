@@ -1,9 +1,8 @@
 -- The instances of a module by the values that `defparam` gives them.
-use Rattle.std.proofs.Common.{◌≡◌, ℕ, ◌+◌, Bool, not, cond, List, [], ◌∷◌, ◌++◌, bytes_eq, flat_map, map, refl, sym, ap, ◌∙◌}
+use Rattle.std.proofs.Common.{◌≡◌, ◌+◌, not, cond, List, [], ◌∷◌, ◌++◌, bytes_eq, flat_map, map, refl, ap, ◌∙◌}
 use Rattle.std.specs.Borrow.{Bor}
 use Rattle.std.specs.List.{position_or_len}
-use Rattle.net_hier.specs.declared.cells.HInst.{HInst}
-use Rattle.vlog_design.specs.Design.{attr_props, def_sets, module_instances, param_props, statement_instances}
+use Rattle.vlog_design.specs.Design.{def_sets, module_instances, statement_instances}
 use Rattle.vlog_design.specs.Names.{Name, instance_statement, instance_statements}
 use Rattle.vlog_design.specs.Reach.{module_number}
 use Rattle.vlog_values.specs.declared.module.Module.{Module}

@@ -1,5 +1,5 @@
 -- The nets of a module by the table of its names.
-use Rattle.std.proofs.Common.{◌≡◌, ℕ, zero, suc, ◌+◌, ◌<◌, ◌≤◌, Bool, true, false, not, ◌||◌, cond, List, [], ◌∷◌, ◌++◌, Option, None, Some, bytes_eq, filter, find, flat_map, length, map, option_map, refl, sym, ap, ◌∙◌, append-nil, length-append, arith, if◌then◌else◌}
+use Rattle.std.proofs.Common.{◌≡◌, ℕ, ◌+◌, ◌<◌, ◌≤◌, Bool, true, false, not, ◌||◌, cond, List, [], ◌∷◌, ◌++◌, Option, None, Some, bytes_eq, filter, find, flat_map, length, map, option_map, refl, sym, ap, ◌∙◌, length-append, arith, if◌then◌else◌}
 use Rattle.std.specs.Prelude.{nat_le}
 use Rattle.std.specs.Option.{option_map_or}
 use Rattle.std.proofs.lemmas.Bool.Decides.{nat_tests}
@@ -14,7 +14,7 @@ use Rattle.vlog_design.specs.declared.signals.Place.TheVariants.{AtPort, AtNet}
 use Rattle.vlog_values.specs.declared.declaration.NetDecl.{NetDecl}
 use Rattle.vlog_values.specs.declared.module.Module.{Module}
 use Rattle.vlog_rules.specs.Redeclared.{is_port}
-use Rattle.vlog_cells.specs.Nets.{is_late, late_net, late_nets, names_port, wires_by, wires_in}
+use Rattle.vlog_cells.specs.Nets.{late_nets, names_port, wires_in}
 
 -- which names are those of ports
 

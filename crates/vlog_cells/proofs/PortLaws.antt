@@ -1,13 +1,11 @@
 -- The ports of a module by what is said of them.
-use Rattle.std.proofs.Common.{◌≡◌, ℕ, zero, suc, ◌+◌, ◌≤◌, Bool, true, false, ◌||◌, cond, List, [], ◌∷◌, ◌++◌, Option, None, Some, bytes_eq, filter, find, flat_map, length, map, option_map, refl, sym, ap, ◌∙◌, append-nil, append_assoc, arith, if◌then◌else◌}
+use Rattle.std.proofs.Common.{◌≡◌, ℕ, ◌+◌, ◌≤◌, Bool, true, false, ◌||◌, cond, List, [], ◌∷◌, ◌++◌, None, Some, bytes_eq, filter, find, flat_map, length, map, option_map, refl, sym, ap, ◌∙◌, append-nil, append_assoc, arith, if◌then◌else◌}
 use Rattle.std.specs.Option.{option_and_then, option_map_or}
 use Rattle.std.proofs.lemmas.Bool.{false≢true}
 use Rattle.std.proofs.lemmas.Grind.{flat_map-append}
 use Rattle.std.proofs.lemmas.Slice.Eq.{bytes_eq-Decides}
-use Rattle.nl_base.specs.Ranges.{Bounds}
 use Rattle.nl_base.specs.declared.value.Dir.{Dir}
 use Rattle.nl_base.specs.declared.value.Dir.TheVariants.{Inout}
-use Rattle.net_hier.specs.declared.cells.HPort.{HPort}
 use Rattle.vlog_design.specs.Design.{attr_props, attrs_if, attrs_in_header, attrs_in_item, module_ports, port_attrs, port_dir}
 use Rattle.vlog_design.specs.Names.{Name, Signal, declared_in_header, declared_in_item, declared_port, has_name, header_decls, net_signals, port_decl, port_decls, port_names, port_range, port_signals, signal_named, signals, wires}
 use Rattle.vlog_design.specs.Rules.{declared_twice}
@@ -21,7 +19,7 @@ use Rattle.vlog_values.specs.declared.module.ItemV.{ItemV}
 use Rattle.vlog_values.specs.declared.module.ItemV.TheVariants as items
 use Rattle.vlog_values.specs.declared.module.Module.{Module}
 use Rattle.vlog_cells.specs.Nets.{names_port}
-use Rattle.vlog_cells.specs.Ports.{Said, attrs_said, dir_said, port_by, port_said, range_in, said_by_port, said_in_header, said_in_item, said_in_module, said_in_names, said_of}
+use Rattle.vlog_cells.specs.Ports.{Said, attrs_said, dir_said, port_by, port_said, range_in, said_in_header, said_in_item, said_in_module, said_in_names, said_of}
 use Rattle.vlog_cells.specs.declared.mentions.Mention.{Mention}
 use Rattle.vlog_cells.proofs.NetLaws.{port_is}
 use Rattle.vlog_cells.proofs.OnceLaws.{count_both, count_declared, count_name, count_of, count_ports, direction_single, net_single, once, or_right}

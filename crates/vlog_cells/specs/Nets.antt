@@ -1,5 +1,5 @@
 -- The nets of a module by the table of its names.
-use Rattle.std.specs.Prelude.{ℕ, Bool, true, false, not, nat_le, List, [], ◌∷◌, map, filter, flat_map, if◌then◌else◌}
+use Rattle.std.specs.Prelude.{ℕ, Bool, false, not, nat_le, List, [], ◌∷◌, map, filter, flat_map, if◌then◌else◌}
 use Rattle.std.specs.Option.{option_map_or}
 use Rattle.net_hier.specs.declared.cells.HNet.{HNet}
 use Rattle.vlog_design.specs.Names.{Name, Signal, Wire, signal_named}

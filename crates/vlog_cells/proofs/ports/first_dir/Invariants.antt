@@ -1,4 +1,4 @@
-use Rattle.std.proofs.Common.{◌≡◌, ◌++◌, drop, map}
+use Rattle.std.proofs.Common.{◌≡◌, drop, map}
 use Rattle.vlog_cells.specs.Ports.{dir_said, said}
 use Rattle.vlog_cells.proofs.ports.first_dir.Given as goal
 
