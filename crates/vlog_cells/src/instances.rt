@@ -1,5 +1,5 @@
 // The instances of a cell.
-ghost use Rattle.std.specs.Prelude.{◌≡◌, ◌<◌, ◌^◌, ◌++◌, List, ℕ, bytes_eq, filter, flat_map, length, map, IfOk, OnOk};
+ghost use Rattle.std.specs.Prelude.{◌≡◌, ◌<◌, ◌^◌, ◌++◌, List, ℕ, bytes_eq, flat_map, length, map, IfOk, OnOk};
 ghost use Rattle.std.specs.List.{position_or_len};
 ghost use Rattle.vlog_design.specs.Design.{def_sets, module_instances};
 ghost use Rattle.vlog_design.specs.Names.{defparam_statement, instance_statement};
