@@ -49,7 +49,7 @@ of_module : (such : Pairing → Bool) (modules : List Module) (m : Module) →
     first_of (map (λ (p : Pairing). p.names) (filter such (pairings modules m))) ≡ option_map tied_names (find (is_such such (signals m)) (module_ties modules m))
 of_module such modules m = ap (λ ps. first_of (map (λ (p : Pairing). p.names) (filter such ps))) (sym (module_paired modules m)) ∙ such_first such (signals m) (module_ties modules m)
 
-objects_first : (rule : TieRule) (modules : List Module) (m : Module) →
+pub objects_first : (rule : TieRule) (modules : List Module) (m : Module) →
     first_of (broken_objects rule modules m) ≡ option_map tied_names (find (is_such (is_broken rule) (signals m)) (module_ties modules m))
 unfolding unequal_widths unsized
 objects_first EqualWidths modules m = of_module is_unequal modules m
