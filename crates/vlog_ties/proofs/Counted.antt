@@ -17,7 +17,7 @@ use Rattle.vlog_design.proofs.Capped.{sum_left}
 use Rattle.vlog_values.specs.Sizes.{module_size}
 use Rattle.vlog_values.specs.Values.{IsModule}
 use Rattle.vlog_values.specs.declared.module.Module.{Module}
-use Rattle.vlog_ties.specs.Ties.{Tied, Pin, Assign, Supply, all_tied, broken_objects, is_broken, is_such, is_unequal, is_unsized, module_ties, tied, tied_count, tied_joins, tied_names}
+use Rattle.vlog_ties.specs.Ties.{Tied, Pin, Assign, Supply, all_tied, broken_objects, is_broken, any_pairing, is_unequal, is_unsized, module_ties, tied, tied_count, tied_joins, tied_names}
 use Rattle.vlog_ties.specs.declared.tie.Tie.{Tie}
 use Rattle.vlog_ties.specs.declared.rules.TieRule.{TieRule}
 use Rattle.vlog_ties.specs.declared.rules.TieRule.TheVariants.{EqualWidths, SizedLiterals}
@@ -32,18 +32,18 @@ not_found : {A B : Type 0} (f : A → B) (o : Option A) → option_map f o ≡ N
 not_found f None h = refl
 not_found f (Some x) h = cc
 
-none_such : {A : Type 0} (p : A → Bool) (xs : List A) → find p xs ≡ None → AllByRecursion (λ x. p x ≡ false) xs
-none_such p [] h = tt
-none_such p (x ∷ xs) h = by (p x) refl (none_such p xs) h
+none_found : {A : Type 0} (p : A → Bool) (xs : List A) → find p xs ≡ None → AllByRecursion (λ x. p x ≡ false) xs
+none_found p [] h = tt
+none_found p (x ∷ xs) h = by (p x) refl (none_found p xs) h
   where
     by : (b : Bool) → p x ≡ b → (find p xs ≡ None → AllByRecursion (λ y. p y ≡ false) xs) → cond b (Some x) (find p xs) ≡ None → AllByRecursion (λ y. p y ≡ false) (x ∷ xs)
     by true e next k = absurd cc
     by false e next k = (e, next k)
 
-none_broken : (rule : TieRule) (modules : List Module) (m : Module) → broken_objects rule modules m ≡ [] → AllByRecursion (λ t. is_such (is_broken rule) (signals m) t ≡ false) (module_ties modules m)
+none_broken : (rule : TieRule) (modules : List Module) (m : Module) → broken_objects rule modules m ≡ [] → AllByRecursion (λ t. any_pairing (is_broken rule) (signals m) t ≡ false) (module_ties modules m)
 none_broken rule modules m e =
-    let found = find (is_such (is_broken rule) (signals m)) (module_ties modules m) in
-    none_such (is_such (is_broken rule) (signals m)) (module_ties modules m) (not_found tied_names found (sym (objects_first rule modules m) ∙ ap first_of e))
+    let found = find (any_pairing (is_broken rule) (signals m)) (module_ties modules m) in
+    none_found (any_pairing (is_broken rule) (signals m)) (module_ties modules m) (not_found tied_names found (sym (objects_first rule modules m) ∙ ap first_of e))
 
 one_width : (left right : ℕ) (loose : Bool) → (not (nat_eq left right) && not loose) ≡ false → loose ≡ false → left ≡ right
 one_width left right loose h k = by (nat_eq left right) refl (ap (λ b. not (nat_eq left right) && not b) (sym k) ∙ h)
@@ -63,7 +63,7 @@ slot_counted constant None = refl
 slot_counted constant (Some slot) = length-map (range_with_len 0 (width_of slot.range)) _ ∙ length-range 0 (width_of slot.range)
 
 module _ (names : List Signal) where
-  tie_counted : (t : Tied) → IsTied t → is_such is_unequal names t ≡ false → is_such is_unsized names t ≡ false → length (tied_joins names t) ≡ tied_count names t
+  tie_counted : (t : Tied) → IsTied t → any_pairing is_unequal names t ≡ false → any_pairing is_unsized names t ≡ false → length (tied_joins names t) ≡ tied_count names t
   tie_counted (Pin instance number port port_number size value) good even sized =
       let same = one_width size (width names value) (has_loose value) even sized in
       joins_counted _ (bits names value) (length-map (range_with_len 0 size) _ ∙ (length-range 0 size ∙ (same ∙ sym (bits_width names value)))) (every_there _ (range_with_len 0 size)) ∙ bits_live names value
@@ -72,7 +72,7 @@ module _ (names : List Signal) where
       joins_counted (bits names left) (bits names right) (bits_width names left ∙ (same ∙ sym (bits_width names right))) (left_every names left good.assignable) ∙ bits_live names right
   tie_counted (Supply name constant) good even sized = slot_counted constant (signal_named names name)
 
-  ties_counted : (ts : List Tied) → AllByRecursion IsTied ts → AllByRecursion (λ t. is_such is_unequal names t ≡ false) ts → AllByRecursion (λ t. is_such is_unsized names t ≡ false) ts →
+  ties_counted : (ts : List Tied) → AllByRecursion IsTied ts → AllByRecursion (λ t. any_pairing is_unequal names t ≡ false) ts → AllByRecursion (λ t. any_pairing is_unsized names t ≡ false) ts →
       length (flat_map (tied_joins names) ts) ≡ sum_by (tied_count names) ts
   ties_counted [] good even sized = refl
   ties_counted (t ∷ ts) good even sized =

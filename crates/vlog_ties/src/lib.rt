@@ -9,8 +9,8 @@
 
 pub mod connections;
 pub mod counts;
+pub mod expressions;
 pub mod joins;
-pub mod loose;
 pub mod rules;
 pub mod tie;
 pub mod ties;
