@@ -14,43 +14,43 @@ use Rattle.vlog_values.specs.declared.expression.Expr.{Expr}
 use Rattle.vlog_values.specs.declared.module.Module.{Module}
 use Rattle.nl_base.specs.declared.rule.Refusal.{Refusal}
 use Rattle.nl_base.specs.declared.rule.Rule.{Rule}
-use Rattle.vlog_ties.specs.Ties.{Tied, Pin, Assign, Supply, broken_objects, is_broken, is_such, is_unequal, is_unsized, module_ties, modules_in, pairing_of_pin, rule_number, tied_names, tied_pairings}
+use Rattle.vlog_ties.specs.Ties.{Tied, Pin, Assign, Supply, broken_objects, is_broken, any_pairing, is_unequal, is_unsized, module_ties, modules_in, pairing_of_pin, rule_number, tied_names, tied_pairings}
 use Rattle.vlog_ties.specs.declared.rules.TieRule.{TieRule}
 use Rattle.vlog_ties.specs.declared.rules.TieRule.TheVariants.{EqualWidths, SizedLiterals}
 use Rattle.vlog_ties.proofs.ModuleLaws.{module_paired}
 
--- the first pairing, where it is such, is that of the first tie
-such_first : (such : Pairing → Bool) (names : List Signal) (ts : List Tied) →
-    first_of (map (λ (p : Pairing). p.names) (filter such (flat_map (tied_pairings names) ts))) ≡ option_map tied_names (find (is_such such names) ts)
-such_first such names [] = refl
-such_first such names (Pin instance number port port_number size value ∷ ts) = by (is_such such names (Pin instance number port port_number size value)) (such_first such names ts)
+-- the first pairing of which a condition holds is that of the first tie of which it holds
+pairing_first : (condition : Pairing → Bool) (names : List Signal) (ts : List Tied) →
+    first_of (map (λ (p : Pairing). p.names) (filter condition (flat_map (tied_pairings names) ts))) ≡ option_map tied_names (find (any_pairing condition names) ts)
+pairing_first condition names [] = refl
+pairing_first condition names (Pin instance number port port_number size value ∷ ts) = by (any_pairing condition names (Pin instance number port port_number size value)) (pairing_first condition names ts)
   where
     rest : List Pairing
-    rest = filter such (flat_map (tied_pairings names) ts)
+    rest = filter condition (flat_map (tied_pairings names) ts)
 
-    by : (b : Bool) → first_of (map (λ (p : Pairing). p.names) rest) ≡ option_map tied_names (find (is_such such names) ts)
+    by : (b : Bool) → first_of (map (λ (p : Pairing). p.names) rest) ≡ option_map tied_names (find (any_pairing condition names) ts)
         → first_of (map (λ (p : Pairing). p.names) (cond b (pairing_of_pin names instance number port port_number size value ∷ rest) rest))
-        ≡ option_map tied_names (cond b (Some (Pin instance number port port_number size value)) (find (is_such such names) ts))
+        ≡ option_map tied_names (cond b (Some (Pin instance number port port_number size value)) (find (any_pairing condition names) ts))
     by true h = refl
     by false h = h
-such_first such names (Assign left right ∷ ts) = by (is_such such names (Assign left right)) (such_first such names ts)
+pairing_first condition names (Assign left right ∷ ts) = by (any_pairing condition names (Assign left right)) (pairing_first condition names ts)
   where
     rest : List Pairing
-    rest = filter such (flat_map (tied_pairings names) ts)
+    rest = filter condition (flat_map (tied_pairings names) ts)
 
-    by : (b : Bool) → first_of (map (λ (p : Pairing). p.names) rest) ≡ option_map tied_names (find (is_such such names) ts)
+    by : (b : Bool) → first_of (map (λ (p : Pairing). p.names) rest) ≡ option_map tied_names (find (any_pairing condition names) ts)
         → first_of (map (λ (p : Pairing). p.names) (cond b (pairing_of_assign names left right ∷ rest) rest))
-        ≡ option_map tied_names (cond b (Some (Assign left right)) (find (is_such such names) ts))
+        ≡ option_map tied_names (cond b (Some (Assign left right)) (find (any_pairing condition names) ts))
     by true h = refl
     by false h = h
-such_first such names (Supply name constant ∷ ts) = such_first such names ts
+pairing_first condition names (Supply name constant ∷ ts) = pairing_first condition names ts
 
-of_module : (such : Pairing → Bool) (modules : List Module) (m : Module) →
-    first_of (map (λ (p : Pairing). p.names) (filter such (pairings modules m))) ≡ option_map tied_names (find (is_such such (signals m)) (module_ties modules m))
-of_module such modules m = ap (λ ps. first_of (map (λ (p : Pairing). p.names) (filter such ps))) (sym (module_paired modules m)) ∙ such_first such (signals m) (module_ties modules m)
+of_module : (condition : Pairing → Bool) (modules : List Module) (m : Module) →
+    first_of (map (λ (p : Pairing). p.names) (filter condition (pairings modules m))) ≡ option_map tied_names (find (any_pairing condition (signals m)) (module_ties modules m))
+of_module condition modules m = ap (λ ps. first_of (map (λ (p : Pairing). p.names) (filter condition ps))) (sym (module_paired modules m)) ∙ pairing_first condition (signals m) (module_ties modules m)
 
-objects_first : (rule : TieRule) (modules : List Module) (m : Module) →
-    first_of (broken_objects rule modules m) ≡ option_map tied_names (find (is_such (is_broken rule) (signals m)) (module_ties modules m))
+pub objects_first : (rule : TieRule) (modules : List Module) (m : Module) →
+    first_of (broken_objects rule modules m) ≡ option_map tied_names (find (any_pairing (is_broken rule) (signals m)) (module_ties modules m))
 unfolding unequal_widths unsized
 objects_first EqualWidths modules m = of_module is_unequal modules m
 objects_first SizedLiterals modules m = of_module is_unsized modules m
@@ -60,13 +60,13 @@ twice number cell None = refl
 twice number cell (Some t) = refl
 
 -- the first object of a module that breaks the rule, by the first tie that was found
-pub broken_first : (rule : TieRule) (modules : List Module) (m : Module) (table : List Signal) (ts : List Tied) (found : Option Tied) → table ≡ signals m → ts ≡ module_ties modules m → found ≡ find (is_such (is_broken rule) table) ts →
+pub broken_first : (rule : TieRule) (modules : List Module) (m : Module) (table : List Signal) (ts : List Tied) (found : Option Tied) → table ≡ signals m → ts ≡ module_ties modules m → found ≡ find (any_pairing (is_broken rule) table) ts →
     first_of (map (refused (rule_number rule) m.name) (broken_objects rule modules m)) ≡ option_map (λ t. refused (rule_number rule) m.name (tied_names t)) found
 broken_first rule modules m table ts found e f g =
     first_map (refused (rule_number rule) m.name) (broken_objects rule modules m)
     ∙ (ap (option_map (refused (rule_number rule) m.name)) (objects_first rule modules m)
-    ∙ (twice (rule_number rule) m.name (find (is_such (is_broken rule) (signals m)) (module_ties modules m))
-    ∙ ap (option_map (λ t. refused (rule_number rule) m.name (tied_names t))) (ap (λ names. find (is_such (is_broken rule) names) (module_ties modules m)) (sym e) ∙ (ap (find (is_such (is_broken rule) table)) (sym f) ∙ sym g))))
+    ∙ (twice (rule_number rule) m.name (find (any_pairing (is_broken rule) (signals m)) (module_ties modules m))
+    ∙ ap (option_map (λ t. refused (rule_number rule) m.name (tied_names t))) (ap (λ names. find (any_pairing (is_broken rule) names) (module_ties modules m)) (sym e) ∙ (ap (find (any_pairing (is_broken rule) table)) (sym f) ∙ sym g))))
 
 -- one module after the other
 

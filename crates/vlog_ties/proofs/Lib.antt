@@ -1,5 +1,7 @@
 pub mod Broken
 pub mod Connected
+pub mod Counted
+pub mod Live
 pub mod ModuleLaws
 pub mod Narrow
 pub mod Places

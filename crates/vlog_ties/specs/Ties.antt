@@ -177,11 +177,11 @@ is_unequal pairing = not (nat_eq pairing.left_width pairing.right_width) && not 
 abbrev pub is_unsized : Pairing → Bool
 is_unsized pairing = pairing.is_loose
 
--- the two sides are such, where there are two
-abbrev pub is_such : (Pairing → Bool) → List Signal → Tied → Bool
-is_such such names (Pin instance number port port_number size value) = such (pairing_of_pin names instance number port port_number size value)
-is_such such names (Assign left right) = such (pairing_of_assign names left right)
-is_such such names (Supply name constant) = false
+-- the condition holds of the two sides, where there are two
+abbrev pub any_pairing : (Pairing → Bool) → List Signal → Tied → Bool
+any_pairing condition names (Pin instance number port port_number size value) = condition (pairing_of_pin names instance number port port_number size value)
+any_pairing condition names (Assign left right) = condition (pairing_of_assign names left right)
+any_pairing condition names (Supply name constant) = false
 
 -- the pairings that break the rule
 abbrev pub is_broken : TieRule → Pairing → Bool

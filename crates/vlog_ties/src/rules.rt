@@ -6,9 +6,9 @@ ghost use Rattle.nl_base.specs.declared.rule.Rule.TheVariants.{G8, G13};
 ghost use Rattle.vlog_design.specs.Rules.{first_of, in_modules, refused, unequal_widths, unsized};
 ghost use Rattle.vlog_values.specs.Sizes.{module_size};
 ghost use Rattle.vlog_values.specs.Values.{IsModule};
-ghost use Rattle.vlog_ties.specs.Ties.{HasNarrowLeft, all_tied, broken_objects, is_broken, is_such, is_unequal, is_unsized, modules_in, rule_number, tied, tied_names};
+ghost use Rattle.vlog_ties.specs.Ties.{HasNarrowLeft, all_tied, broken_objects, is_broken, any_pairing, is_unequal, is_unsized, modules_in, rule_number, tied, tied_names};
 
-use crate::loose::{first_use, has_loose};
+use crate::expressions::{first_use, has_loose};
 use crate::tie::Tie;
 use crate::ties::ties_of;
 use nl_base::{NoMemory, Refusal, Rule};
@@ -40,7 +40,7 @@ fn rule_number(rule: TieRule) -> Rule
 /// Whether the two sides have two widths, and no unsized literal stands in them.
 fn is_unequal(table: &Table, tie: &Tie) -> bool
     requires { HasNarrowLeft table.now (tied tie.now) }
-    ensures { result ≡ is_such is_unequal table.now (tied tie.now) }
+    ensures { result ≡ any_pairing is_unequal table.now (tied tie.now) }
 {
     match *tie {
         Tie::Pin { width, value, .. } => {
@@ -56,7 +56,7 @@ fn is_unequal(table: &Table, tie: &Tie) -> bool
 
 /// Whether an unsized literal stands in one of the two sides.
 fn is_unsized(table: &Table, tie: &Tie) -> bool
-    ensures { result ≡ is_such is_unsized table.now (tied tie.now) }
+    ensures { result ≡ any_pairing is_unsized table.now (tied tie.now) }
 {
     match *tie {
         Tie::Pin { value, .. } => has_loose(value),
@@ -68,7 +68,7 @@ fn is_unsized(table: &Table, tie: &Tie) -> bool
 /// Whether a tie breaks the rule.
 fn is_broken(rule: TieRule, table: &Table, tie: &Tie) -> bool
     requires { HasNarrowLeft table.now (tied tie.now) }
-    ensures { result ≡ is_such (is_broken rule) table.now (tied tie.now) }
+    ensures { result ≡ any_pairing (is_broken rule) table.now (tied tie.now) }
 {
     match rule {
         TieRule::EqualWidths => is_unequal(table, tie),
@@ -79,7 +79,7 @@ fn is_broken(rule: TieRule, table: &Table, tie: &Tie) -> bool
 /// The first of the ties that breaks the rule.
 fn first_broken<'a>(rule: TieRule, table: &Table, ties: &[Tie<'a>]) -> Option<Tie<'a>>
     requires { All (λ tie. HasNarrowLeft table.now (tied tie)) ties.now }
-    ensures { option_map tied result ≡ find (is_such (is_broken rule) table.now) (all_tied ties.now) }
+    ensures { option_map tied result ≡ find (any_pairing (is_broken rule) table.now) (all_tied ties.now) }
 {
     for tie in ties {
         if is_broken(rule, table, tie) {

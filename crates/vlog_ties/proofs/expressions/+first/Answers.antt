@@ -4,7 +4,7 @@ use Rattle.vlog_design.specs.Rules.{first_of}
 use Rattle.vlog_design.proofs.ExprLemmas.{uses-Cat, uses-Lit, uses-Loose, uses-LooseNumber, uses-Ref, uses-Rep}
 use Rattle.vlog_rules.proofs.RuleLaws.{first_behind, first_there}
 use Rattle.vlog_ties.proofs.Broken.{names_in, names_left}
-use Rattle.vlog_ties.proofs.loose.+first.Goals as goal
+use Rattle.vlog_ties.proofs.expressions.+first.Goals as goal
 
 pub first_use-returns-in-Ref : goal.first_use-returns-in-Ref
 first_use-returns-in-Ref t c = rw (c.in-Ref.is, uses-Ref, ← c.bytes.ensures) refl

@@ -2,7 +2,7 @@ use Rattle.std.proofs.Common.{refl, sym, ◌∙◌}
 use Rattle.vlog_design.specs.Exprs.{has_loose}
 use Rattle.vlog_design.proofs.ExprLemmas.{has_loose-Cat, has_loose-Lit, has_loose-Loose, has_loose-LooseNumber, has_loose-Ref, has_loose-Rep}
 use Rattle.vlog_ties.proofs.Broken.{any_map}
-use Rattle.vlog_ties.proofs.loose.+loose.Goals as goal
+use Rattle.vlog_ties.proofs.expressions.+loose.Goals as goal
 
 pub has_loose-returns-in-Ref : goal.has_loose-returns-in-Ref
 has_loose-returns-in-Ref t c = rw (c.in-Ref.is, has_loose-Ref) refl

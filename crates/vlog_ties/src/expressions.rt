@@ -1,4 +1,4 @@
-// Names and unsized literals in expressions.
+// The unsized literals and the names in expressions.
 ghost use Rattle.std.specs.Prelude.{◌≡◌, flat_map, map, option_copied};
 ghost use Rattle.std.specs.List.{list_any};
 ghost use Rattle.vlog_design.specs.Exprs.{has_loose};
