@@ -1,0 +1,9 @@
+pub mod Below
+pub mod Clean
+pub mod Differing
+pub mod Firsts
+pub mod Grouping
+pub mod ListLaws
+pub mod Lookup
+pub mod Reaching
+pub mod TableLaws

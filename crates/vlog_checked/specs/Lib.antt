@@ -1,0 +1,4 @@
+pub mod Clean
+pub mod Groups
+pub mod Looks
+pub mod Tabled

@@ -1,0 +1,153 @@
+// The rules on modules with the tables of their names.
+ghost use Rattle.std.specs.Prelude.{◌≡◌, ◌≤◌, ◌<◌, length, map, IfOk};
+ghost use Rattle.std.specs.List.{AllByRecursion};
+ghost use Rattle.vlog_checked.specs.Groups.{connection_refusals, design_refusals, name_refusals, table_refusals, width_refusals};
+ghost use Rattle.vlog_checked.specs.Tabled.{CanHaveTables};
+ghost use Rattle.vlog_design.specs.Rules.{first_of};
+ghost use Rattle.vlog_design.specs.Tables.{modules_of};
+ghost use Rattle.vlog_scopes.specs.Distinct.{AreDeclaredOnce};
+ghost use Rattle.vlog_ties.specs.Ties.{modules_in};
+ghost use Rattle.vlog_values.specs.Sizes.{module_size};
+
+use nl_base::{NoMemory, Refusal};
+use std::alloc::Global;
+use vlog_design::names::Names;
+use vlog_rules::connections::{ExtraConnections, PortsTwice, UnknownPorts};
+use vlog_rules::library::Library;
+use vlog_rules::module_rules::{BadSelects, TooWide, UnknownInstances, UnknownNames};
+use vlog_rules::modules::ParamsTwice;
+use vlog_rules::passes::{EachStatement, Scope, first_in_modules, first_in_scopes};
+use vlog_rules::statements::EachInstance;
+use vlog_scopes::recursion::first_recursion;
+use vlog_scopes::redeclared::Redeclared;
+use vlog_scopes::scopes::scope_of;
+use vlog_ties::rules::{unequal_width, unsized_literal};
+use vlog_values::Module;
+
+/// The modules with the tables of their names, in their order.
+pub(crate) fn scopes_of<'a>(
+    alloc: Global,
+    modules: &[&'a Module],
+) -> Result<Vec<Scope<'a>>, NoMemory>
+    requires once { AreDeclaredOnce (modules_of modules.now) }
+    requires small { AllByRecursion (λ m. module_size m ≤ 268435456) (modules_of modules.now) }
+    ensures { IfOk result (λ scopes. modules_in scopes.items ≡ modules_of modules.now) }
+{
+    let mut scopes = Vec::new(alloc);
+    for m in modules {
+        scopes.push(scope_of(alloc, *m)?)?;
+    }
+    Ok(scopes)
+}
+
+/// The first name, select or width that breaks a rule.
+fn first_in_names(
+    alloc: Global,
+    names: &Names,
+    scopes: &[Scope],
+) -> Result<Option<Refusal>, NoMemory>
+    requires named { names.now ≡ map (λ m. m.name) (modules_in scopes.now) }
+    requires kept { CanHaveTables (modules_in scopes.now) }
+    ensures { IfOk result (λ found. found ≡ first_of (name_refusals (modules_in scopes.now))) }
+{
+    if let Some(refusal) = first_in_scopes(alloc, &UnknownNames, scopes)? {
+        return Ok(Some(refusal));
+    }
+    if let Some(refusal) = first_in_scopes(alloc, &BadSelects, scopes)? {
+        return Ok(Some(refusal));
+    }
+    unequal_width(alloc, names, scopes)
+}
+
+/// The first connection that breaks a rule.
+fn first_in_connections(alloc: Global, library: &Library) -> Result<Option<Refusal>, NoMemory>
+    ensures { IfOk result (λ found. found ≡ first_of (connection_refusals (modules_of library.now.modules.items))) }
+{
+    let unknown = EachStatement {
+        rule: EachInstance {
+            rule: UnknownPorts { library },
+        },
+    };
+    if let Some(refusal) = first_in_modules(alloc, &unknown, &library.modules)? {
+        return Ok(Some(refusal));
+    }
+    let twice = EachStatement {
+        rule: EachInstance { rule: PortsTwice },
+    };
+    if let Some(refusal) = first_in_modules(alloc, &twice, &library.modules)? {
+        return Ok(Some(refusal));
+    }
+    let extra = EachStatement {
+        rule: EachInstance {
+            rule: ExtraConnections { library },
+        },
+    };
+    first_in_modules(alloc, &extra, &library.modules)
+}
+
+/// The first port, net, literal or parameter that breaks a rule.
+fn first_in_widths(
+    alloc: Global,
+    names: &Names,
+    modules: &[&Module],
+    scopes: &[Scope],
+) -> Result<Option<Refusal>, NoMemory>
+    requires named { names.now ≡ map (λ m. m.name) (modules_in scopes.now) }
+    requires same { modules_of modules.now ≡ modules_in scopes.now }
+    requires kept { CanHaveTables (modules_in scopes.now) }
+    ensures { IfOk result (λ found. found ≡ first_of (width_refusals (modules_in scopes.now))) }
+{
+    if let Some(refusal) = first_in_scopes(alloc, &TooWide, scopes)? {
+        return Ok(Some(refusal));
+    }
+    if let Some(refusal) = unsized_literal(alloc, names, scopes)? {
+        return Ok(Some(refusal));
+    }
+    let twice = EachStatement { rule: ParamsTwice };
+    if let Some(refusal) = first_in_modules(alloc, &twice, modules)? {
+        return Ok(Some(refusal));
+    }
+    first_in_scopes(alloc, &Redeclared, scopes)
+}
+
+/// The first instance through which a module reaches itself, or else the first value that is given to an instance that is not there.
+fn first_in_instances(
+    alloc: Global,
+    names: &Names,
+    modules: &[&Module],
+    top: u32,
+) -> Result<Option<Refusal>, NoMemory>
+    requires named { names.now ≡ map (λ m. m.name) (modules_of modules.now) }
+    requires kept { CanHaveTables (modules_of modules.now) }
+    requires within { top < length modules.now }
+    ensures { IfOk result (λ found. found ≡ first_of (design_refusals (modules_of modules.now))) }
+{
+    if let Some(refusal) = first_recursion(alloc, names, modules, top)? {
+        return Ok(Some(refusal));
+    }
+    first_in_modules(alloc, &UnknownInstances, modules)
+}
+
+/// The first object of modules that breaks a rule on what their names stand for.
+pub(crate) fn first_in_tables(
+    alloc: Global,
+    library: &Library,
+    scopes: &[Scope],
+    top: u32,
+) -> Result<Option<Refusal>, NoMemory>
+    requires same { modules_in scopes.now ≡ modules_of library.now.modules.items }
+    requires kept { CanHaveTables (modules_of library.now.modules.items) }
+    requires within { top < length library.now.modules.items }
+    ensures { IfOk result (λ found. found ≡ first_of (table_refusals (modules_of library.now.modules.items))) }
+{
+    if let Some(refusal) = first_in_names(alloc, &library.names, scopes)? {
+        return Ok(Some(refusal));
+    }
+    if let Some(refusal) = first_in_connections(alloc, library)? {
+        return Ok(Some(refusal));
+    }
+    if let Some(refusal) = first_in_widths(alloc, &library.names, &library.modules, scopes)? {
+        return Ok(Some(refusal));
+    }
+    first_in_instances(alloc, &library.names, &library.modules, top)
+}
