@@ -1,0 +1,2 @@
+// The design of a Verilog file that breaks no rule.
+#![tactic(auto)]
