@@ -1,3 +1,5 @@
-pub mod ListLaws
+pub mod Below
+pub mod Clean
 pub mod Differing
+pub mod ListLaws
 pub mod Lookup
