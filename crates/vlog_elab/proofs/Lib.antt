@@ -3,3 +3,4 @@ pub mod Clean
 pub mod Differing
 pub mod ListLaws
 pub mod Lookup
+pub mod Reaching
