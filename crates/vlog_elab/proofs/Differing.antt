@@ -53,7 +53,7 @@ module _ {A : Type 0} (clash : A → A → Bool) where
   no_clash_rest : (x : A) (xs : List A) → NoClash clash (x ∷ xs) → NoClash clash xs
   no_clash_rest x xs h i j y z lt e g = h (suc i) (suc j) y z (omega arith) e g
 
-  kept_get : (test : A → Bool) (xs : List A) (n : ℕ) (y : A) → slice_get (filter test xs) n ≡ Some y → (i : ℕ) × ((slice_get xs i ≡ Some y) × (test y ≡ true))
+  pub kept_get : (test : A → Bool) (xs : List A) (n : ℕ) (y : A) → slice_get (filter test xs) n ≡ Some y → (i : ℕ) × ((slice_get xs i ≡ Some y) × (test y ≡ true))
   kept_get test [] n y e = absurd (cc)
   kept_get test (x ∷ xs) n y e = by (test x) refl n e (λ m g. kept_get test xs m y g)
     where

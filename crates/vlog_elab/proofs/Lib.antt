@@ -3,4 +3,5 @@ pub mod Clean
 pub mod Differing
 pub mod ListLaws
 pub mod Lookup
+pub mod OwnNames
 pub mod Reaching
