@@ -3,5 +3,7 @@ pub mod Clean
 pub mod Differing
 pub mod ListLaws
 pub mod Lookup
+pub mod Nodes
 pub mod OwnNames
 pub mod Reaching
+pub mod Signals
