@@ -1,6 +1,7 @@
 pub mod Below
 pub mod Clean
 pub mod Differing
+pub mod Joins
 pub mod ListLaws
 pub mod Lookup
 pub mod Nodes

@@ -66,7 +66,7 @@ flat_from f (x ∷ xs) n y e = elim (of_two (f x) (flat_map f xs) n y e) [
   | inr b ↦ (let r = flat_from f xs b.0 y b.1 in record { place = suc r.place; item = r.item; is_item = r.is_item; inner = r.inner; is_inner = r.is_inner })
 ]
 
-in_left : {A : Type 0} (xs ys : List A) (i : ℕ) (x : A) → slice_get xs i ≡ Some x → slice_get (xs ++ ys) i ≡ Some x
+pub in_left : {A : Type 0} (xs ys : List A) (i : ℕ) (x : A) → slice_get xs i ≡ Some x → slice_get (xs ++ ys) i ≡ Some x
 in_left [] ys i x e = absurd (cc)
 in_left (y ∷ xs) ys zero x e = e
 in_left (y ∷ xs) ys (suc i) x e = in_left xs ys i x e
