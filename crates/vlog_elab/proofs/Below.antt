@@ -1,16 +1,14 @@
 -- The numbers below a module.
-use Rattle.std.proofs.Common.{◌≡◌, ℕ, zero, suc, ◌+◌, ◌<◌, ◌≤◌, Bool, true, false, cond, List, [], ◌∷◌, ◌++◌, map, find, flat_map, length, slice_get, bytes_eq, nat_lt, not, Option, Some, None, refl, sym, ap, ◌∙◌, subst, arith}
+use Rattle.std.proofs.Common.{◌≡◌, ℕ, zero, suc, ◌+◌, ◌<◌, Bool, true, false, cond, List, [], ◌∷◌, ◌++◌, map, find, flat_map, length, slice_get, bytes_eq, nat_lt, not, Option, Some, None, refl, sym, ap, ◌∙◌, arith}
 use Rattle.std.specs.Prelude.{option_to_list, option_map}
-use Rattle.std.specs.List.{AllByRecursion, position_or_len}
-use Rattle.std.proofs.lemmas.Bool.{false≢true, ltb-true}
+use Rattle.std.specs.List.{position_or_len}
+use Rattle.std.proofs.lemmas.Bool.{ltb-true}
 use Rattle.std.proofs.lemmas.Grind.{flat_map-append}
-use Rattle.std.proofs.lemmas.List.{length-map, map-append}
-use Rattle.std.proofs.lemmas.Option.{slice_get-map, slice_get_within}
-use Rattle.std.proofs.lemmas.Slice.Eq.{bytes_eq-Decides}
+use Rattle.std.proofs.lemmas.List.{map-append}
+use Rattle.std.proofs.lemmas.Option.{slice_get-map}
 use Rattle.net_graph.specs.Graph.{IsAbove}
 use Rattle.net_hier.specs.Design.{below_of, cells_below}
 use Rattle.net_hier.specs.Valid.{Each}
-use Rattle.net_hier.specs.declared.cells.HCell.{HCell}
 use Rattle.net_hier.specs.declared.cells.HInst.{HInst}
 use Rattle.vlog_design.specs.Design.{attr_props, defparam_props, module_cell, param_props, module_instances, statement_instances}
 use Rattle.vlog_design.specs.Names.{Name, instance_statements}
@@ -19,7 +17,7 @@ use Rattle.vlog_values.specs.declared.module.Module.{Module}
 use Rattle.vlog_values.specs.declared.statement.Instances.{Instances}
 use Rattle.vlog_values.specs.declared.statement.VInst.{VInst}
 use Rattle.vlog_elab.proofs.ListLaws.{InList, flat_from, flat_to, map_get}
-use Rattle.vlog_elab.proofs.Lookup.{named_place, named_there}
+use Rattle.vlog_elab.proofs.Lookup.{named_place}
 
 -- the statement stands in the module, and this instance in the statement
 pub record IsInstanceOf (m : Module) (statement : Instances) (instance : VInst) : Type 0 where

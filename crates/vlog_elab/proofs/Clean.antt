@@ -1,5 +1,5 @@
 -- A file without refusals breaks no rule.
-use Rattle.std.proofs.Common.{◌≡◌, List, [], ◌∷◌, ◌++◌, map, flat_map, slice_get, Some, refl, sym, ap, ◌∙◌}
+use Rattle.std.proofs.Common.{◌≡◌, List, [], ◌++◌, map}
 use Rattle.nl_base.specs.declared.rule.Refusal.{Refusal}
 use Rattle.nl_base.specs.declared.rule.Rule.{Rule}
 use Rattle.nl_base.specs.declared.rule.Rule.TheVariants.{G3, G4, G5, G6, G7, G8, G9, G10, G11, G12, G13, G14, G15, G16, G17}
@@ -9,7 +9,7 @@ use Rattle.vlog_design.specs.Reach.{reached}
 use Rattle.vlog_design.specs.Rules.{Objects, bad_selects, declared_twice, in_modules, modules_twice, no_top, other_ranges, params_twice, ports_twice, recursions, refusals, refused, too_many_connections, too_wide, unequal_widths, unknown_instances, unknown_modules, unknown_names, unknown_ports, unsized, without_direction}
 use Rattle.vlog_values.specs.declared.module.Module.{Module}
 use Rattle.vlog_values.specs.declared.module.VlogFile.{VlogFile}
-use Rattle.vlog_elab.specs.Clean.{IsClean, IsCleanModule}
+use Rattle.vlog_elab.specs.Clean.{IsClean}
 use Rattle.vlog_elab.proofs.ListLaws.{back_none, flat_none, front_none, map_none}
 
 -- no module has an object that breaks the rule

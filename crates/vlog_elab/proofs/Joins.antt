@@ -1,7 +1,7 @@
 -- The joins of a module join nodes of its cell.
-use Rattle.std.proofs.Common.{◌≡◌, ℕ, zero, suc, ◌+◌, ◌<◌, ◌≤◌, Bool, true, false, ◌||◌, cond, List, [], ◌∷◌, ◌++◌, map, find, flat_map, zip, length, slice_get, bytes_eq, Option, Some, None, refl, sym, ap, ◌∙◌, subst, arith, length-append}
-use Rattle.std.specs.Prelude.{IfSome, option_map}
-use Rattle.std.specs.List.{list_any, position_or_len, range_with_len}
+use Rattle.std.proofs.Common.{◌≡◌, ℕ, zero, suc, ◌+◌, ◌<◌, Bool, true, false, ◌||◌, cond, List, [], ◌∷◌, ◌++◌, map, find, flat_map, length, slice_get, bytes_eq, Option, Some, None, refl, sym, ap, ◌∙◌, subst, arith}
+use Rattle.std.specs.Prelude.{option_map}
+use Rattle.std.specs.List.{list_any, range_with_len}
 use Rattle.std.specs.Option.{option_map_or}
 use Rattle.std.proofs.lemmas.Bool.{false≢true}
 use Rattle.std.proofs.lemmas.Grind.{flat_map-append}
@@ -17,7 +17,7 @@ use Rattle.net_hier.specs.declared.nodes.Node.{Node}
 use Rattle.net_hier.specs.declared.nodes.Node.TheVariants as nodes
 use Rattle.vlog_design.specs.Design.{Connection, Pairing, attr_props, connection_named, connections, connections_in_order, defparam_props, instance_count, item_joins, item_pairings, join_of, joins_between, joins_from, module_cell, module_instances, module_joins, pairing_of_assign, pairing_of_connection, pairings_of_instances, param_props, port_number, slot_joins, statement_instances, supply_joins, supply_node}
 use Rattle.vlog_design.specs.Exprs.{node_at}
-use Rattle.vlog_design.specs.Names.{Name, Signal, has_name, instance_statement, instance_statements, port_names, port_range, signal_named, signals}
+use Rattle.vlog_design.specs.Names.{Name, has_name, instance_statement, instance_statements, port_names, port_range, signal_named, signals}
 use Rattle.vlog_design.specs.Reach.{module_named, module_number}
 use Rattle.vlog_design.specs.declared.signals.Slot.{Slot}
 use Rattle.vlog_values.specs.declared.declaration.NetKind.{NetKind}
@@ -161,7 +161,7 @@ module _ (ms : List Module) (m : Module) where
   abbrev pub StandFrom : ℕ → List HInst → Type 0
   StandFrom number those = (i : ℕ) (instance : HInst) → slice_get those i ≡ Some instance → slice_get (module_instances ms m) (number + i) ≡ Some instance
 
-  abbrev of_item : ItemV → List HInst
+  abbrev pub of_item : ItemV → List HInst
   of_item item = flat_map (statement_instances ms m) (instance_statement item)
 
   append_nothing : {A : Type 0} (xs : List A) → xs ++ [] ≡ xs
@@ -219,7 +219,7 @@ module _ (ms : List Module) (m : Module) where
   item_joins_good number (items.Defparam statement) stand = pairings_joins (item_pairings ms (signals m) number (items.Defparam statement)) (item_good number (items.Defparam statement) stand)
 
   -- an item has as many instances as are counted
-  count_is : (item : ItemV) → length (of_item item) ≡ instance_count item
+  pub count_is : (item : ItemV) → length (of_item item) ≡ instance_count item
   count_is (items.Instances statement) = ap length (append_nothing (statement_instances ms m statement)) ∙ length-map statement.insts _
   count_is (items.Port decl) = refl
   count_is (items.Net decl) = refl
@@ -235,7 +235,7 @@ module _ (ms : List Module) (m : Module) where
       (all_joins_good (number + instance_count item) those (λ i instance e. ap (slice_get (module_instances ms m)) (let g : number + instance_count item + i ≡ number + (length (of_item item) + i) = omega (arith, count_is item) in g)
       ∙ stand (length (of_item item) + i) instance (in_right (of_item item) (flat_map of_item those) i instance e)))
 
-  items_instances : (those : List ItemV) → flat_map of_item those ≡ flat_map (statement_instances ms m) (flat_map instance_statement those)
+  pub items_instances : (those : List ItemV) → flat_map of_item those ≡ flat_map (statement_instances ms m) (flat_map instance_statement those)
   items_instances [] = refl
   items_instances (item ∷ those) = ap (λ xs. of_item item ++ xs) (items_instances those) ∙ sym (flat_map-append (statement_instances ms m) (instance_statement item) (flat_map instance_statement those))
 

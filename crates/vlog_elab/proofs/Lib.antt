@@ -1,6 +1,7 @@
 pub mod Below
 pub mod Clean
 pub mod Differing
+pub mod Fitting
 pub mod Joins
 pub mod ListLaws
 pub mod Lookup

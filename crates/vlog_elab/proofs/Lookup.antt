@@ -1,16 +1,14 @@
 -- Modules by their names.
-use Rattle.std.proofs.Common.{◌≡◌, ℕ, zero, suc, ◌+◌, ◌<◌, ◌≤◌, ◌⊎◌, inl, inr, Bool, true, false, cond, ◌||◌, not, List, [], ◌∷◌, ◌++◌, map, filter, find, flat_map, length, slice_get, bytes_eq, nat_lt, Option, Some, None, refl, sym, ap, ◌∙◌, subst, arith}
-use Rattle.std.specs.Prelude.{position}
-use Rattle.std.specs.List.{AllByRecursion, position_or_len}
+use Rattle.std.proofs.Common.{◌≡◌, ℕ, zero, suc, ◌+◌, ◌<◌, ◌≤◌, Bool, true, false, cond, not, List, [], ◌∷◌, find, length, slice_get, bytes_eq, nat_lt, Some, None, refl, sym, ap, ◌∙◌, arith}
+use Rattle.std.specs.List.{position_or_len}
 use Rattle.std.proofs.lemmas.Bool.{false≢true}
 use Rattle.std.proofs.lemmas.Bool.Decides.{nat_tests}
 use Rattle.std.proofs.lemmas.Option.{slice_get_within}
 use Rattle.std.proofs.lemmas.Slice.Eq.{bytes_eq-Decides}
-use Rattle.net_hier.specs.Valid.{Each, HaveOwnNames}
+use Rattle.net_hier.specs.Valid.{HaveOwnNames}
 use Rattle.vlog_design.specs.Names.{Name}
 use Rattle.vlog_design.specs.Reach.{marked, module_named, module_number, module_place}
 use Rattle.vlog_values.specs.declared.module.Module.{Module}
-use Rattle.vlog_elab.proofs.ListLaws.{map_get}
 
 module _ {A : Type 0} (test : A → Bool) where
   -- what is found stands at the place that is found

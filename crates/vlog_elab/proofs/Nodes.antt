@@ -1,22 +1,19 @@
 -- The bits of expressions are nodes of the cell.
-use Rattle.std.proofs.Common.{◌≡◌, ℕ, zero, suc, ◌+◌, ◌-◌, ◌<◌, ◌≤◌, Bool, true, false, cond, List, [], ◌∷◌, ◌++◌, map, find, flat_map, length, slice_get, bytes_eq, nat_le, Option, Some, None, refl, sym, ap, ◌∙◌, subst, arith}
+use Rattle.std.proofs.Common.{◌≡◌, ℕ, zero, suc, ◌+◌, ◌-◌, ◌<◌, ◌≤◌, Bool, true, false, cond, List, [], ◌∷◌, map, find, flat_map, bytes_eq, nat_le, Option, Some, None, refl, subst, arith}
 use Rattle.std.specs.Prelude.{IfSome, option_map}
 use Rattle.std.specs.List.{range_with_len}
 use Rattle.std.specs.Option.{option_map_or}
-use Rattle.std.proofs.lemmas.Bool.{false≢true}
 use Rattle.std.proofs.lemmas.Bool.Decides.{nat_tests}
 use Rattle.nl_base.specs.Ranges.{Bounds}
 use Rattle.net_hier.specs.Cells.{width_of}
 use Rattle.net_hier.specs.Valid.{Each, IsNode}
 use Rattle.net_hier.specs.declared.cells.HCell.{HCell}
 use Rattle.net_hier.specs.declared.nodes.Node.{Node}
-use Rattle.net_hier.specs.declared.nodes.Node.TheVariants as nodes
 use Rattle.vlog_values.specs.Bits.{literal_bits}
 use Rattle.vlog_design.specs.Design.{module_cell}
 use Rattle.vlog_design.specs.Exprs.{bits, constant_bit, node_at, repeated, signal_bits, span_bits, times}
 use Rattle.vlog_design.specs.Names.{Name, Signal, signal_named, signals}
-use Rattle.vlog_design.specs.Ranges.{position_of, selected, span_at, span_between}
-use Rattle.vlog_design.specs.declared.signals.Place.{Place}
+use Rattle.vlog_design.specs.Ranges.{position_of, selected, span_between}
 use Rattle.vlog_design.specs.declared.signals.Slot.{Slot}
 use Rattle.vlog_design.specs.declared.signals.Span.{Span}
 use Rattle.vlog_design.proofs.ExprLemmas.{bits-Cat, bits-Lit, bits-Loose, bits-LooseNumber, bits-Ref, bits-Rep}

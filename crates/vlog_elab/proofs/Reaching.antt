@@ -1,7 +1,6 @@
 -- The reached modules of a file that breaks no rule: each is reached among them, and none reaches itself.
-use Rattle.std.proofs.Common.{◌≡◌, ℕ, zero, suc, ◌+◌, ◌<◌, ◌≤◌, Bool, true, false, List, [], ◌∷◌, ◌++◌, map, find, flat_map, length, get_or, slice_get, bytes_eq, cond, Option, Some, None, refl, sym, ap, ◌∙◌, subst, arith}
+use Rattle.std.proofs.Common.{◌≡◌, ℕ, zero, suc, ◌<◌, Bool, true, false, List, [], ◌∷◌, ◌++◌, map, find, flat_map, length, slice_get, bytes_eq, cond, Option, Some, None, refl, sym, ap, ◌∙◌, subst, arith}
 use Rattle.std.specs.Prelude.{is_none, option_map}
-use Rattle.std.specs.List.{AllByRecursion}
 use Rattle.std.specs.Option.{option_map_or}
 use Rattle.std.proofs.lemmas.Bool.{false≢true}
 use Rattle.std.proofs.lemmas.List.{length-map}
@@ -14,7 +13,7 @@ use Rattle.net_graph.proofs.WalkLaws.{linked_along, linked_by, linked_itself}
 use Rattle.net_graph.proofs.WorkLaws.{above_has, has_above, marked_by_reach}
 use Rattle.net_hier.specs.Valid.{Each, HaveOwnNames}
 use Rattle.vlog_design.specs.Names.{Name, instance_statement, instance_statements}
-use Rattle.vlog_design.specs.Reach.{marked, module_named, module_number, modules_below, numbers_below, reached, reaches}
+use Rattle.vlog_design.specs.Reach.{module_named, module_number, modules_below, numbers_below, reached, reaches}
 use Rattle.vlog_design.specs.Rules.{recursions, refused, statement_names, unknown_modules, unknown_module_in, first_instance}
 use Rattle.vlog_values.specs.Values.{AreInstances, IsItem, IsModule, IsVlogValue}
 use Rattle.vlog_values.specs.declared.module.ItemV.{ItemV}
@@ -23,7 +22,7 @@ use Rattle.vlog_values.specs.declared.module.Module.{Module}
 use Rattle.vlog_values.specs.declared.module.VlogFile.{VlogFile}
 use Rattle.vlog_values.specs.declared.statement.Instances.{Instances}
 use Rattle.vlog_values.specs.declared.statement.VInst.{VInst}
-use Rattle.vlog_elab.specs.Clean.{IsClean, IsCleanModule}
+use Rattle.vlog_elab.specs.Clean.{IsClean}
 use Rattle.vlog_elab.proofs.Below.{IsBelow, IsInstanceOf, KnowsModules, above, from_above}
 use Rattle.vlog_elab.proofs.Differing.{no_clash, own_names_of}
 use Rattle.vlog_elab.proofs.ListLaws.{InList, all_get, flat_from, flat_none, flat_to, map_none}

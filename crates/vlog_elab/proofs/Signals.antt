@@ -1,19 +1,16 @@
 -- The ports and nets of a module: their bits, their numbers, and what they are in the cell.
-use Rattle.std.proofs.Common.{◌≡◌, ℕ, zero, suc, ◌+◌, ◌-◌, ◌<◌, ◌≤◌, ◌^◌, Bool, true, false, List, [], ◌∷◌, ◌++◌, map, flat_map, filter, length, slice_get, sum_by, nat_lt, All, Option, Some, None, refl, sym, ap, ◌∙◌, subst, arith, length-append}
+use Rattle.std.proofs.Common.{◌≡◌, ℕ, zero, suc, ◌+◌, ◌-◌, ◌<◌, ◌≤◌, ◌^◌, false, List, [], ◌∷◌, map, flat_map, filter, length, slice_get, sum_by, nat_lt, All, Some, refl, sym, ap, ◌∙◌, subst, arith, length-append}
 use Rattle.std.specs.Prelude.{option_map, min}
 use Rattle.std.specs.List.{range_with_len}
-use Rattle.std.proofs.lemmas.Bool.{false≢true}
 use Rattle.std.proofs.lemmas.Bool.Decides.{nat_tests}
 use Rattle.std.proofs.lemmas.List.{length-map}
 use Rattle.std.proofs.lemmas.List.Elements.{All-from_recursion}
 use Rattle.std.proofs.lemmas.List.Sums.{sum_by-append, sum_by-cons}
 use Rattle.std.proofs.lemmas.Option.{slice_get-map}
-use Rattle.nl_base.specs.Ranges.{Bounds, range_bits}
 use Rattle.net_hier.specs.Cells.{IsPortBit, width_of}
-use Rattle.net_hier.specs.Units.{cell_units, port_bits, units}
-use Rattle.net_hier.specs.Valid.{Each, IsNode, unit_limit}
+use Rattle.net_hier.specs.Units.{cell_units, units}
+use Rattle.net_hier.specs.Valid.{Each, IsNode}
 use Rattle.net_hier.specs.declared.cells.HCell.{HCell}
-use Rattle.net_hier.specs.declared.cells.HNet.{HNet}
 use Rattle.net_hier.specs.declared.cells.HPort.{HPort}
 use Rattle.vlog_design.specs.Design.{attr_props, module_cell, module_joins, module_nets, module_ports, net_name, port_attrs, port_dir, wire_nets}
 use Rattle.vlog_design.specs.Exprs.{node_at}
@@ -23,7 +20,7 @@ use Rattle.vlog_design.specs.Rules.{too_wide}
 use Rattle.vlog_design.specs.declared.signals.Place.TheVariants.{AtPort, AtNet}
 use Rattle.vlog_design.specs.declared.signals.Slot.{Slot}
 use Rattle.vlog_values.specs.declared.module.Module.{Module}
-use Rattle.vlog_elab.proofs.ListLaws.{all_of, each_both, filter_none, map_none, sum_part}
+use Rattle.vlog_elab.proofs.ListLaws.{all_of, each_both, filter_none, map_none}
 
 -- the width of a port or net
 abbrev pub signal_width : Signal → ℕ
@@ -51,7 +48,7 @@ net_sum first (wire ∷ those) =
     ∙ (ap (λ n. width_of wire.range + n) (net_sum (first + width_of wire.range) those) ∙ sym (sum_by-cons (λ (w : Wire). width_of w.range) wire those))
 
 module _ (m : Module) where
-  abbrev port_of : Name → HPort
+  abbrev pub port_of : Name → HPort
   port_of name = record { name = name; range = port_range m name; dir = port_dir m name; props = attr_props (port_attrs m name) }
 
   port_sum : (number : ℕ) (names : List Name) → sum_by signal_width (port_signals m number names) ≡ sum_by (λ (port : HPort). width_of port.range) (map port_of names)
