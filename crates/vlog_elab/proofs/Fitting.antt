@@ -117,9 +117,12 @@ module _ (file : VlogFile) (top : Name) (value : IsVlogValue file) (clean : IsCl
   pub graph_same : cells_below cells ≡ modules_below those
   graph_same = graph_is those (all_known file top value clean)
 
-  cells_few : length cells ≤ 268435456
+  pub those_few : length those ≤ 268435456
   unfolding reached vlog_size
-  cells_few = omega (arith, cells_long those, marked_few (marks_of (modules_below file.modules) (module_number file.modules top)) file.modules, small)
+  those_few = omega (arith, marked_few (marks_of (modules_below file.modules) (module_number file.modules top)) file.modules, small)
+
+  cells_few : length cells ≤ 268435456
+  cells_few = omega (arith, cells_long those, those_few)
 
   pub those_small : Each (λ m. module_size m ≤ 268435456) those
   those_small i m e = let r : IsFrom file top value clean m = reached_from file top value clean i m e in omega (arith, module_small file r.place m r.is_there, small)

@@ -1,3 +1,4 @@
+pub mod Answering
 pub mod Below
 pub mod Clean
 pub mod Differing

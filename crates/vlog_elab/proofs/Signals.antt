@@ -20,11 +20,8 @@ use Rattle.vlog_design.specs.Rules.{too_wide}
 use Rattle.vlog_design.specs.declared.signals.Place.TheVariants.{AtPort, AtNet}
 use Rattle.vlog_design.specs.declared.signals.Slot.{Slot}
 use Rattle.vlog_values.specs.declared.module.Module.{Module}
+use Rattle.vlog_elab.specs.Units.{module_units, signal_width}
 use Rattle.vlog_elab.proofs.ListLaws.{all_of, each_both, filter_none, map_none}
-
--- the width of a port or net
-abbrev pub signal_width : Signal → ℕ
-signal_width signal = width_of signal.slot.range
 
 -- ---- sums
 
@@ -76,14 +73,14 @@ module _ (m : Module) where
   cell_sum ms = ap (λ n. n + length (module_joins ms m)) (sym table_sum)
 
 -- the units of the cells, summed over the modules
-pub units_sum : (ms some : List Module) → sum_by cell_units (map (module_cell ms) some) ≡ sum_by (λ m. sum_by signal_width (signals m) + length (module_joins ms m)) some
+pub units_sum : (ms some : List Module) → sum_by cell_units (map (module_cell ms) some) ≡ sum_by (module_units ms) some
 units_sum ms [] = refl
 units_sum ms (m ∷ some) =
     sum_by-cons cell_units (module_cell ms m) (map (module_cell ms) some)
-    ∙ ((λ j. cell_sum m ms j + units_sum ms some j) ∙ sym (sum_by-cons (λ (m : Module). sum_by signal_width (signals m) + length (module_joins ms m)) m some))
+    ∙ ((λ j. cell_sum m ms j + units_sum ms some j) ∙ sym (sum_by-cons (module_units ms) m some))
 
 -- the units of a design, as the code counts them
-pub units_are : (ms : List Module) → units (map (module_cell ms) ms) ≡ min (2 ^ 64 - 1) (sum_by (λ m. sum_by signal_width (signals m) + length (module_joins ms m)) ms)
+pub units_are : (ms : List Module) → units (map (module_cell ms) ms) ≡ min (2 ^ 64 - 1) (sum_by (module_units ms) ms)
 units_are ms = ap (min (2 ^ 64 - 1)) (units_sum ms ms)
 
 -- ---- numbers
