@@ -1,15 +1,14 @@
 -- From the design of modules to the design of a file.
-use Rattle.std.proofs.Common.{◌≡◌, ℕ, zero, suc, ◌+◌, ◌-◌, ◌<◌, ◌≤◌, ◌^◌, List, [], ◌∷◌, ◌++◌, All, Option, Some, None, Result, Ok, Err, length, map, min, sum_by, take, get_or, slice_get, refl, sym, ap, ◌∙◌, subst, arith}
+use Rattle.std.proofs.Common.{◌≡◌, ℕ, zero, suc, ◌+◌, ◌-◌, ◌<◌, ◌≤◌, ◌^◌, List, [], ◌∷◌, ◌++◌, All, Some, None, Result, Ok, Err, length, map, min, sum_by, take, get_or, slice_get, refl, sym, ap, ◌∙◌, subst, arith}
 use Rattle.std.specs.Prelude.{MatchResult, option_map}
-use Rattle.std.specs.Borrow.{Bor}
 use Rattle.std.specs.Option.{option_map_or}
-use Rattle.std.proofs.lemmas.List.{length-map, map-append, take_more}
+use Rattle.std.proofs.lemmas.List.{map-append, take_more}
 use Rattle.std.proofs.lemmas.List.Sums.{sum_by_more, sum_by_push}
 use Rattle.std.proofs.lemmas.Option.{slice_get-get_or, slice_get-map}
 use Rattle.net_graph.specs.Graph.{IsFirstRecursion, ReachesItself}
 use Rattle.net_hier.specs.Design.{Design, cells_below}
 use Rattle.net_hier.specs.Units.{units}
-use Rattle.net_hier.specs.Valid.{CellsFit, Each, unit_limit}
+use Rattle.net_hier.specs.Valid.{CellsFit, unit_limit}
 use Rattle.net_hier.specs.declared.cells.HCell.{HCell}
 use Rattle.vlog_design.specs.Design.{module_cell, module_joins, vlog_design}
 use Rattle.vlog_design.specs.Names.{Name, Signal, signals}
@@ -22,14 +21,14 @@ use Rattle.vlog_values.specs.Sizes.{vlog_size}
 use Rattle.vlog_values.specs.Values.{IsVlogValue}
 use Rattle.vlog_values.specs.declared.module.Module.{Module}
 use Rattle.vlog_values.specs.declared.module.VlogFile.{VlogFile}
-use Rattle.vlog_elab.specs.Answers.{IsDesignFrom, IsDesignOf, IsFaultFrom, IsFaultOf, IsTooBigFor, IsTooBigFrom}
+use Rattle.vlog_elab.specs.Answers.{IsDesignFrom, IsDesignOf, IsFaultFrom, IsFaultOf}
 use Rattle.vlog_elab.specs.Clean.{IsClean}
 use Rattle.vlog_elab.specs.Ready.{AreReady, IsReady}
 use Rattle.vlog_elab.specs.Units.{cells_from, module_units, signal_width}
 use Rattle.vlog_elab.specs.declared.answer.ResolveError.{ResolveError}
 use Rattle.vlog_elab.specs.declared.answer.ResolveError.TheVariants.{Refused, TooBig, NoMemory}
 use Rattle.vlog_elab.proofs.Clean.{clean_file}
-use Rattle.vlog_elab.proofs.Fitting.{design_fits, none_back, numbers_fit, those_few, those_fit, those_small}
+use Rattle.vlog_elab.proofs.Fitting.{none_back, numbers_fit, those_few, those_fit, those_small}
 use Rattle.vlog_elab.proofs.Reaching.{all_known, known_statements, those_values}
 use Rattle.vlog_elab.proofs.Signals.{units_are}
 
@@ -149,3 +148,20 @@ module _ (file : VlogFile) (top : Name) (value : IsVlogValue file) (small : vlog
       → MatchResult result (IsDesignOf file top) (IsFaultOf file top)
   answered (Ok design) h = design_answered design h
   answered (Err fault) h = fault_answered fault h
+
+  -- the same of modules that are the reached ones
+  module _ (ms : List Module) (are : ms ≡ reached file top) where
+    pub ready_for : (names : List Name) → names ≡ map (λ m. m.name) (reached file top) → AreReady names ms
+    ready_for names named = subst (AreReady names) (sym are) (ready names named)
+
+    pub fit_for : (number : ℕ) → number ≡ module_number (reached file top) top → CellsFit (cells_from ms) number
+    fit_for number is = subst (λ those. CellsFit (cells_from those) number) (sym are) (subst (CellsFit (cells_from (reached file top))) (sym is) (those_fit file top value clean small))
+
+    pub free_for : (number : ℕ) → ¬ ReachesItself (cells_below (cells_from ms)) number
+    free_for = subst (λ those. (number : ℕ) → ¬ ReachesItself (cells_below (cells_from those)) number) (sym are) (none_back file top value clean small)
+
+    pub answered_for : (number : ℕ) → number ≡ module_number (reached file top) top → (result : Result Design ResolveError) → MatchResult result (IsDesignFrom (cells_from ms) number) (IsFaultFrom (cells_from ms))
+        → MatchResult result (IsDesignOf file top) (IsFaultOf file top)
+    answered_for number is result h =
+        answered result (subst (λ those. MatchResult result (IsDesignFrom (cells_from those) (module_number (reached file top) top)) (IsFaultFrom (cells_from those))) are
+        (subst (λ n. MatchResult result (IsDesignFrom (cells_from ms) n) (IsFaultFrom (cells_from ms))) is h))

@@ -60,12 +60,7 @@ fn built(alloc: Global, cells: Seq<HCell>, top: u32) -> Result<Hier, NoMemory>
 }
 
 // The design of modules whose cells fit and of which none reaches itself.
-fn design_of(
-    alloc: Global,
-    names: &Names,
-    scopes: &[Scope],
-    top: u32,
-) -> Result<Hier, ResolveError>
+fn design_of(alloc: Global, names: &Names, scopes: &[Scope], top: u32) -> Result<Hier, ResolveError>
     requires ready { AreReady names.now (modules_in scopes.now) }
     requires fit { CellsFit (cells_from (modules_in scopes.now)) top }
     requires no_recursion { (number : ℕ) → ¬ ReachesItself (cells_below (cells_from (modules_in scopes.now))) number }

@@ -1,4 +1,4 @@
-use Rattle.std.proofs.Common.{◌≡◌, ◌∙◌, ◌-◌, ◌^◌, ◌<◌, ◌≤◌, length, arith}
+use Rattle.std.proofs.Common.{◌∙◌, ◌-◌, ◌^◌, arith}
 use Rattle.vlog_elab.proofs.Answering.{bits_done, bits_more}
 use Rattle.vlog_elab.proofs.units.table_bits.Goals as goal
 
