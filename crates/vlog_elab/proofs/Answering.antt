@@ -1,0 +1,167 @@
+-- From the design of modules to the design of a file.
+use Rattle.std.proofs.Common.{◌≡◌, ℕ, zero, suc, ◌+◌, ◌-◌, ◌<◌, ◌≤◌, ◌^◌, List, [], ◌∷◌, ◌++◌, All, Some, None, Result, Ok, Err, length, map, min, sum_by, take, get_or, slice_get, refl, sym, ap, ◌∙◌, subst, arith}
+use Rattle.std.specs.Prelude.{MatchResult, option_map}
+use Rattle.std.specs.Option.{option_map_or}
+use Rattle.std.proofs.lemmas.List.{map-append, take_more}
+use Rattle.std.proofs.lemmas.List.Sums.{sum_by_more, sum_by_push}
+use Rattle.std.proofs.lemmas.Option.{slice_get-get_or, slice_get-map}
+use Rattle.net_graph.specs.Graph.{IsFirstRecursion, ReachesItself}
+use Rattle.net_hier.specs.Design.{Design, cells_below}
+use Rattle.net_hier.specs.Units.{units}
+use Rattle.net_hier.specs.Valid.{CellsFit, unit_limit}
+use Rattle.net_hier.specs.declared.cells.HCell.{HCell}
+use Rattle.vlog_design.specs.Design.{module_cell, module_joins, vlog_design}
+use Rattle.vlog_design.specs.Names.{Name, Signal, signals}
+use Rattle.vlog_design.specs.Numbers.{HasNumbers}
+use Rattle.vlog_design.specs.Reach.{module_number, reached}
+use Rattle.vlog_design.specs.Rules.{first_G, first_of, refusals}
+use Rattle.vlog_rules.specs.declared.passes.Scope.{Scope}
+use Rattle.vlog_ties.specs.Ties.{modules_in}
+use Rattle.vlog_values.specs.Sizes.{vlog_size}
+use Rattle.vlog_values.specs.Values.{IsVlogValue}
+use Rattle.vlog_values.specs.declared.module.Module.{Module}
+use Rattle.vlog_values.specs.declared.module.VlogFile.{VlogFile}
+use Rattle.vlog_elab.specs.Answers.{IsDesignFrom, IsDesignOf, IsFaultFrom, IsFaultOf}
+use Rattle.vlog_elab.specs.Clean.{IsClean}
+use Rattle.vlog_elab.specs.Ready.{AreReady, IsReady}
+use Rattle.vlog_elab.specs.Units.{cells_from, module_units, signal_width}
+use Rattle.vlog_elab.specs.declared.answer.ResolveError.{ResolveError}
+use Rattle.vlog_elab.specs.declared.answer.ResolveError.TheVariants.{Refused, TooBig, NoMemory}
+use Rattle.vlog_elab.proofs.Clean.{clean_file}
+use Rattle.vlog_elab.proofs.Fitting.{none_back, numbers_fit, those_few, those_fit, those_small}
+use Rattle.vlog_elab.proofs.Reaching.{all_known, known_statements, those_values}
+use Rattle.vlog_elab.proofs.Signals.{units_are}
+
+pub first_reaches : (graph : List (List ℕ)) (n i : ℕ) → IsFirstRecursion graph n i → ReachesItself graph n
+first_reaches graph n i first = record {
+  below = first.closing.inner;
+  first = record { numbers = first.closing.numbers; are_below = first.closing.are_below; place = i; is_there = first.closing.is_there };
+  back = first.closing.closes;
+}
+
+-- ---- counting
+
+-- the bits of one more port or net
+pub bits_more : (table : List Signal) (i : ℕ) (limit bits more : ℕ) → i < length table → bits ≡ min limit (sum_by signal_width (take i table)) → more ≡ option_map_or signal_width (slice_get table i) 0
+    → min (bits + more) limit ≡ min limit (sum_by signal_width (take (i + 1) table))
+bits_more table i limit bits more lt are is = by table lt are is
+  where
+    by : (table : List Signal) → i < length table → bits ≡ min limit (sum_by signal_width (take i table)) → more ≡ option_map_or signal_width (slice_get table i) 0 → min (bits + more) limit ≡ min limit (sum_by signal_width (take (i + 1) table))
+    by [] lt are is = absurd (omega arith)
+    by (d ∷ rest) lt are is =
+        let e : more ≡ signal_width (get_or (d ∷ rest) i d) = is ∙ ap (λ o. option_map_or signal_width o 0) (slice_get-get_or (d ∷ rest) i d lt) in
+        let f : sum_by signal_width (take (i + 1) (d ∷ rest)) ≡ sum_by signal_width (take i (d ∷ rest)) + signal_width (get_or (d ∷ rest) i d) = sum_by_more signal_width (d ∷ rest) i d lt in
+        grind arith
+
+scopes_more : (scopes : List Scope) (i : ℕ) (x : Scope) → i < length scopes → x ≡ get_or scopes i x → modules_in (take (i + 1) scopes) ≡ modules_in (take i scopes) ++ x.module.now ∷ []
+scopes_more scopes i x lt is =
+    ap modules_in (take_more scopes i x lt ∙ ap (λ s. take i scopes ++ s ∷ []) (sym is)) ∙ map-append (λ (scope : Scope). scope.module.now) (take i scopes) (x ∷ [])
+
+-- the units of one more module
+pub units_more : (scopes : List Scope) (i : ℕ) (x : Scope) (limit count more : ℕ) → i < length scopes → x ≡ get_or scopes i x → count ≡ min limit (sum_by (module_units (modules_in scopes)) (modules_in (take i scopes)))
+    → more ≡ min limit (module_units (modules_in scopes) x.module.now) → min (count + more) limit ≡ min limit (sum_by (module_units (modules_in scopes)) (modules_in (take (i + 1) scopes)))
+units_more scopes i x limit count more lt is are is_more =
+    let e : sum_by (module_units (modules_in scopes)) (modules_in (take (i + 1) scopes)) ≡ sum_by (module_units (modules_in scopes)) (modules_in (take i scopes)) + module_units (modules_in scopes) x.module.now =
+    ap (sum_by (module_units (modules_in scopes))) (scopes_more scopes i x lt is) ∙ sum_by_push (module_units (modules_in scopes)) (modules_in (take i scopes)) x.module.now in
+    grind arith
+
+pub all_taken : {A : Type 0} (xs : List A) (i : ℕ) → length xs ≤ i → take i xs ≡ xs
+all_taken [] zero h = refl
+all_taken [] (suc i) h = refl
+all_taken (x ∷ xs) zero h = absurd (omega arith)
+all_taken (x ∷ xs) (suc i) h = ap (λ ys. x ∷ ys) (all_taken xs i (omega arith))
+
+-- the bits of all ports and nets
+pub bits_done : (table : List Signal) (i limit bits : ℕ) → length table ≤ i → bits ≡ min limit (sum_by signal_width (take i table)) → bits ≡ min limit (sum_by signal_width table)
+bits_done table i limit bits le are = are ∙ ap (λ those. min limit (sum_by signal_width those)) (all_taken table i le)
+
+-- the units of one module
+pub module_done : (ms : List Module) (m : Module) (table : List Signal) (limit bits joins : ℕ) → table ≡ signals m → bits ≡ min limit (sum_by signal_width table) → joins ≡ min limit (length (module_joins ms m)) → min (bits + joins) limit ≡ min limit (module_units ms m)
+module_done ms m table limit bits joins whole are joined = let e : sum_by signal_width table ≡ sum_by signal_width (signals m) = ap (sum_by signal_width) whole in grind arith
+
+-- the units of all modules are those of their cells
+pub units_done : (scopes : List Scope) (i count : ℕ) → length scopes ≤ i → count ≡ min (2 ^ 64 - 1) (sum_by (module_units (modules_in scopes)) (modules_in (take i scopes))) → count ≡ units (cells_from (modules_in scopes))
+units_done scopes i count le is =
+    is ∙ (ap (λ those. min (2 ^ 64 - 1) (sum_by (module_units (modules_in scopes)) (modules_in those))) (all_taken scopes i le) ∙ sym (units_are (modules_in scopes)))
+
+-- ---- cells
+
+-- the cell of one more module
+pub cells_more : (scopes : List Scope) (i : ℕ) (x : Scope) (old new : List HCell) (cell : HCell) → i < length scopes → x ≡ get_or scopes i x → old ≡ map (module_cell (modules_in scopes)) (modules_in (take i scopes))
+    → cell ≡ module_cell (modules_in scopes) x.module.now → new ≡ old ++ cell ∷ [] → new ≡ map (module_cell (modules_in scopes)) (modules_in (take (i + 1) scopes))
+cells_more scopes i x old new cell lt is are made is_new =
+    is_new ∙ ((λ j. are j ++ made j ∷ [])
+    ∙ (sym (map-append (module_cell (modules_in scopes)) (modules_in (take i scopes)) (x.module.now ∷ [])) ∙ ap (map (module_cell (modules_in scopes))) (sym (scopes_more scopes i x lt is))))
+
+pub cells_done : (scopes : List Scope) (i : ℕ) (cells : List HCell) → length scopes ≤ i → cells ≡ map (module_cell (modules_in scopes)) (modules_in (take i scopes)) → cells ≡ cells_from (modules_in scopes)
+cells_done scopes i cells le is = is ∙ ap (λ those. map (module_cell (modules_in scopes)) (modules_in those)) (all_taken scopes i le)
+
+-- the module of a scope stands under its number
+pub scope_there : (scopes : List Scope) (i : ℕ) (x : Scope) → i < length scopes → x ≡ get_or scopes i x → slice_get (modules_in scopes) i ≡ Some x.module.now
+scope_there scopes i x lt is =
+    slice_get-map (λ (scope : Scope). scope.module.now) scopes i ∙ ap (option_map (λ (scope : Scope). scope.module.now)) (slice_get-get_or scopes i x lt ∙ ap Some (sym is))
+
+pub ready_there : (names : List Name) (scopes : List Scope) (i : ℕ) (x : Scope) → AreReady names (modules_in scopes) → i < length scopes → x ≡ get_or scopes i x → IsReady (modules_in scopes) x.module.now
+ready_there names scopes i x ready lt is = ready.each i x.module.now (scope_there scopes i x lt is)
+
+pub numbers_there : (names : List Name) (scopes : List Scope) (i : ℕ) (x : Scope) → AreReady names (modules_in scopes) → i < length scopes → x ≡ get_or scopes i x → units (cells_from (modules_in scopes)) ≤ unit_limit
+    → All (λ signal. HasNumbers signal.slot) (signals x.module.now)
+numbers_there names scopes i x ready lt is few = numbers_fit (modules_in scopes) i x.module.now (scope_there scopes i x lt is) (ready_there names scopes i x ready lt is).narrow few
+
+-- ---- the file
+
+-- what a file that has no refusals gives
+module _ (file : VlogFile) (top : Name) (value : IsVlogValue file) (small : vlog_size file ≤ 268435456) (none : refusals file top ≡ []) where
+  abbrev clean : IsClean file top
+  clean = clean_file file top none
+
+  pub ready : (names : List Name) → names ≡ map (λ m. m.name) (reached file top) → AreReady names (reached file top)
+  ready names are = record {
+    named = are;
+    few = those_few file top value clean small;
+    each = λ i m e. (let c = clean.each i m e in record {
+      value = those_values file top value clean i m e;
+      small = those_small file top value clean small i m e;
+      known = known_statements (reached file top) m (all_known file top value clean i m e);
+      once = c.declared_once;
+      equal = c.equal_widths;
+      sized = c.sized;
+      narrow = c.narrow;
+    });
+  }
+
+  pub first_none : first_G file top ≡ None
+  unfolding first_G
+  first_none = ap first_of none
+
+  design_answered : (design : Design) → IsDesignFrom (cells_from (reached file top)) (module_number (reached file top) top) design → IsDesignOf file top design
+  unfolding vlog_design
+  design_answered design from = record { no_refusal = first_none; same_cells = from.same_cells; same_top = from.same_top; same_props = from.same_props; is_hier = from.is_hier }
+
+  fault_answered : (fault : ResolveError) → IsFaultFrom (cells_from (reached file top)) fault → IsFaultOf file top fault
+  unfolding vlog_design
+  fault_answered (Refused refusal) h = absurd h
+  fault_answered (TooBig count) h = record { no_refusal = first_none; is_count = h.is_count; passes = h.passes }
+  fault_answered NoMemory h = h
+
+  pub answered : (result : Result Design ResolveError) → MatchResult result (IsDesignFrom (cells_from (reached file top)) (module_number (reached file top) top)) (IsFaultFrom (cells_from (reached file top)))
+      → MatchResult result (IsDesignOf file top) (IsFaultOf file top)
+  answered (Ok design) h = design_answered design h
+  answered (Err fault) h = fault_answered fault h
+
+  -- the same of modules that are the reached ones
+  module _ (ms : List Module) (are : ms ≡ reached file top) where
+    pub ready_for : (names : List Name) → names ≡ map (λ m. m.name) (reached file top) → AreReady names ms
+    ready_for names named = subst (AreReady names) (sym are) (ready names named)
+
+    pub fit_for : (number : ℕ) → number ≡ module_number (reached file top) top → CellsFit (cells_from ms) number
+    fit_for number is = subst (λ those. CellsFit (cells_from those) number) (sym are) (subst (CellsFit (cells_from (reached file top))) (sym is) (those_fit file top value clean small))
+
+    pub free_for : (number : ℕ) → ¬ ReachesItself (cells_below (cells_from ms)) number
+    free_for = subst (λ those. (number : ℕ) → ¬ ReachesItself (cells_below (cells_from those)) number) (sym are) (none_back file top value clean small)
+
+    pub answered_for : (number : ℕ) → number ≡ module_number (reached file top) top → (result : Result Design ResolveError) → MatchResult result (IsDesignFrom (cells_from ms) number) (IsFaultFrom (cells_from ms))
+        → MatchResult result (IsDesignOf file top) (IsFaultOf file top)
+    answered_for number is result h =
+        answered result (subst (λ those. MatchResult result (IsDesignFrom (cells_from those) (module_number (reached file top) top)) (IsFaultFrom (cells_from those))) are
+        (subst (λ n. MatchResult result (IsDesignFrom (cells_from ms) n) (IsFaultFrom (cells_from ms))) is h))

@@ -1,0 +1,4 @@
+pub mod Answers
+pub mod Clean
+pub mod Ready
+pub mod Units

@@ -1,0 +1,19 @@
+-- The units of modules, by their tables and joins.
+use Rattle.std.specs.Prelude.{ℕ, ◌+◌, List, length, map, sum_by}
+use Rattle.net_hier.specs.Cells.{width_of}
+use Rattle.net_hier.specs.declared.cells.HCell.{HCell}
+use Rattle.vlog_design.specs.Design.{module_cell, module_joins}
+use Rattle.vlog_design.specs.Names.{Signal, signals}
+use Rattle.vlog_values.specs.declared.module.Module.{Module}
+
+-- the width of a port or net
+abbrev pub signal_width : Signal → ℕ
+signal_width signal = width_of signal.slot.range
+
+-- the bits of the ports and nets of a module, and its joins
+abbrev pub module_units : List Module → Module → ℕ
+module_units modules m = sum_by signal_width (signals m) + length (module_joins modules m)
+
+-- the cells of the modules
+abbrev pub cells_from : List Module → List HCell
+cells_from modules = map (module_cell modules) modules

@@ -1,0 +1,92 @@
+// The design of a file, or why it has none.
+ghost use Rattle.std.specs.Prelude.{ℕ, ◌≡◌, ◌≤◌, IfOk, MatchResult};
+ghost use Rattle.net_graph.specs.Graph.{ReachesItself};
+ghost use Rattle.net_hier.specs.Design.{cells_below};
+ghost use Rattle.net_hier.specs.Units.{units};
+ghost use Rattle.net_hier.specs.Valid.{CellsFit, count_limit, unit_limit};
+ghost use Rattle.vlog_elab.specs.Answers.{IsDesignFrom, IsDesignOf, IsFaultFrom, IsFaultOf};
+ghost use Rattle.vlog_elab.specs.Ready.{AreReady};
+ghost use Rattle.vlog_elab.specs.Units.{cells_from};
+ghost use Rattle.vlog_elab.specs.declared.answer.ResolveError.TheVariants.{NoMemory};
+ghost use Rattle.vlog_ties.specs.Ties.{modules_in};
+ghost use Rattle.vlog_values.specs.Sizes.{vlog_size};
+ghost use Rattle.vlog_values.specs.Values.{IsVlogValue};
+
+use crate::cells::cells_of;
+use crate::units::units_of;
+use net_hier::build::{BuildFault, UNIT_LIMIT};
+use net_hier::{HCell, Hier};
+use nl_base::{NoMemory, Refusal, Seq, Text};
+use std::alloc::Global;
+use vlog_checked::{Looked, examined};
+use vlog_design::names::Names;
+use vlog_rules::passes::Scope;
+use vlog_values::VlogFile;
+
+/// Why a file has no design.
+#[derive(Drop)]
+pub enum ResolveError {
+    /// The first object, in file order, that breaks the lowest broken rule.
+    Refused(Refusal),
+    /// No rule is broken, and the units, this many or 2^64-1 where there are more, pass 33,554,432.
+    TooBig(u64),
+    /// Memory ran out.
+    NoMemory,
+}
+
+impl From<NoMemory> for ResolveError {
+    ghost from_gives = { λ _ e. e ≡ NoMemory };
+
+    fn from(_: NoMemory) -> Self {
+        ResolveError::NoMemory
+    }
+}
+
+// The design of cells of which none reaches itself, and whose units are within the limit.
+fn built(alloc: Global, cells: Seq<HCell>, top: u32) -> Result<Hier, NoMemory>
+    requires fit { CellsFit cells top }
+    requires no_recursion { (number : ℕ) → ¬ ReachesItself (cells_below cells) number }
+    requires few_units { units cells ≤ unit_limit }
+    ensures { IfOk result (IsDesignFrom cells top) }
+{
+    match Hier::build(alloc, cells, top, Seq::empty(alloc)) {
+        Ok(hier) => Ok(hier),
+        Err(fault) => match fault {
+            BuildFault::Recursion { .. } => unreachable!(),
+            BuildFault::TooBig(_) => unreachable!(),
+            BuildFault::NoMemory => Err(NoMemory),
+        },
+    }
+}
+
+// The design of modules whose cells fit and of which none reaches itself.
+fn design_of(alloc: Global, names: &Names, scopes: &[Scope], top: u32) -> Result<Hier, ResolveError>
+    requires ready { AreReady names.now (modules_in scopes.now) }
+    requires fit { CellsFit (cells_from (modules_in scopes.now)) top }
+    requires no_recursion { (number : ℕ) → ¬ ReachesItself (cells_below (cells_from (modules_in scopes.now))) number }
+    ensures { MatchResult result (IsDesignFrom (cells_from (modules_in scopes.now)) top) (IsFaultFrom (cells_from (modules_in scopes.now))) }
+{
+    let count = units_of(alloc, names, scopes)?;
+    if count > UNIT_LIMIT {
+        return Err(ResolveError::TooBig(count));
+    }
+    let cells = cells_of(alloc, names, scopes)?;
+    let hier = built(alloc, cells, top)?;
+    Ok(hier)
+}
+
+/// The design of a file of at most 268,435,456 items under the module of this name.
+///
+/// # Errors
+/// `Refused`: the file breaks a rule; it is the first object, in file order, that breaks the lowest broken rule. `TooBig`: no rule is
+/// broken, and the units pass 33,554,432. `NoMemory`: memory ran out.
+pub fn elaborate(alloc: Global, file: &VlogFile, top: &Text) -> Result<Hier, ResolveError>
+    requires value { IsVlogValue file.now }
+    requires small { vlog_size file.now ≤ count_limit }
+    ensures { MatchResult result (IsDesignOf file.now top.now) (IsFaultOf file.now top.now) }
+{
+    match examined(alloc, file, top.bytes())? {
+        Looked::Refused(refusal) => Err(ResolveError::Refused(refusal)),
+        Looked::Clean(clean) => design_of(alloc, &clean.names, &clean.scopes, clean.top),
+    }
+}
