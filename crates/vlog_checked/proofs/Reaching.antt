@@ -73,17 +73,6 @@ unfolding unknown_modules
 statements_known modules m e i statement is =
     some_there (module_named modules statement.module) (first_instance statement ++ statement.module ∷ []) (flat_none (unknown_module_in modules) (instance_statements m) e i statement is)
 
--- and back
-pub known_statements : (modules : List Module) (m : Module) → KnowsModules modules m → unknown_modules modules m ≡ []
-unfolding unknown_modules
-known_statements modules m known = go (instance_statements m) known
-  where
-    go : (statements : List Instances) → Each (λ statement. (b : Module) × (module_named modules statement.module ≡ Some b)) statements → flat_map (unknown_module_in modules) statements ≡ []
-    go [] known = refl
-    go (statement ∷ statements) known =
-        let k = known 0 statement refl in
-        (λ j. cond (is_none (k.1 j)) ((first_instance statement ++ statement.module ∷ []) ∷ []) [] ++ go statements (λ i s e. known (suc i) s e) j)
-
 -- ---- one list of modules
 
 module _ (ms : List Module) where

@@ -22,14 +22,14 @@ use Rattle.vlog_values.specs.Values.{IsVlogValue}
 use Rattle.vlog_values.specs.declared.module.Module.{Module}
 use Rattle.vlog_values.specs.declared.module.VlogFile.{VlogFile}
 use Rattle.vlog_elab.specs.Answers.{IsDesignFrom, IsDesignOf, IsFaultFrom, IsFaultOf}
-use Rattle.vlog_elab.specs.Clean.{IsClean}
+use Rattle.vlog_checked.specs.Clean.{IsClean}
 use Rattle.vlog_elab.specs.Ready.{AreReady, IsReady}
 use Rattle.vlog_elab.specs.Units.{cells_from, module_units, signal_width}
 use Rattle.vlog_elab.specs.declared.answer.ResolveError.{ResolveError}
 use Rattle.vlog_elab.specs.declared.answer.ResolveError.TheVariants.{Refused, TooBig, NoMemory}
-use Rattle.vlog_elab.proofs.Clean.{clean_file}
+use Rattle.vlog_checked.proofs.Clean.{clean_file}
 use Rattle.vlog_elab.proofs.Fitting.{none_back, numbers_fit, those_few, those_fit, those_small}
-use Rattle.vlog_elab.proofs.Reaching.{all_known, known_statements, those_values}
+use Rattle.vlog_checked.proofs.Reaching.{those_values}
 use Rattle.vlog_elab.proofs.Signals.{units_are}
 
 pub first_reaches : (graph : List (List ℕ)) (n i : ℕ) → IsFirstRecursion graph n i → ReachesItself graph n
@@ -122,7 +122,6 @@ module _ (file : VlogFile) (top : Name) (value : IsVlogValue file) (small : vlog
     each = λ i m e. (let c = clean.each i m e in record {
       value = those_values file top value clean i m e;
       small = those_small file top value clean small i m e;
-      known = known_statements (reached file top) m (all_known file top value clean i m e);
       once = c.declared_once;
       equal = c.equal_widths;
       sized = c.sized;

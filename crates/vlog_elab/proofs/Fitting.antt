@@ -24,13 +24,13 @@ use Rattle.vlog_values.specs.declared.module.ItemV.{ItemV}
 use Rattle.vlog_values.specs.declared.module.ItemV.TheVariants as items
 use Rattle.vlog_values.specs.declared.module.Module.{Module}
 use Rattle.vlog_values.specs.declared.module.VlogFile.{VlogFile}
-use Rattle.vlog_elab.specs.Clean.{IsClean}
-use Rattle.vlog_elab.proofs.Below.{KnowsModules, graph_is}
+use Rattle.vlog_checked.specs.Clean.{IsClean}
+use Rattle.vlog_checked.proofs.Below.{KnowsModules, graph_is}
 use Rattle.vlog_elab.proofs.Joins.{count_is, items_instances, joins_are, of_item}
-use Rattle.vlog_elab.proofs.ListLaws.{each_flat, each_map, in_left, map_get, sum_part}
-use Rattle.vlog_elab.proofs.Lookup.{marked_few, named_there}
+use Rattle.vlog_checked.proofs.ListLaws.{each_flat, each_map, in_left, map_get, sum_part}
+use Rattle.vlog_checked.proofs.Lookup.{marked_few, named_there}
 use Rattle.vlog_elab.proofs.OwnNames.{own_instance_names, own_port_names}
-use Rattle.vlog_elab.proofs.Reaching.{IsFrom, all_known, each_reached, none_reaches_itself, reached_from, top_there}
+use Rattle.vlog_checked.proofs.Reaching.{IsFrom, all_known, each_reached, none_reaches_itself, reached_from, top_within}
 use Rattle.vlog_elab.proofs.Signals.{all_narrow, cell_sum, have_numbers, port_of, table_sum}
 
 -- ---- few parts
@@ -125,7 +125,7 @@ module _ (file : VlogFile) (top : Name) (value : IsVlogValue file) (clean : IsCl
   cells_few = omega (arith, cells_long those, those_few)
 
   pub those_small : Each (λ m. module_size m ≤ 268435456) those
-  those_small i m e = let r : IsFrom file top value clean m = reached_from file top value clean i m e in omega (arith, module_small file r.place m r.is_there, small)
+  those_small i m e = let r : IsFrom file top clean.has_top clean.once m = reached_from file top clean.has_top clean.once i m e in omega (arith, module_small file r.place m r.is_there, small)
 
   pub few_parts : HasFewParts cells
   unfolding module_cell
@@ -146,7 +146,7 @@ module _ (file : VlogFile) (top : Name) (value : IsVlogValue file) (clean : IsCl
   pub those_fit : CellsFit cells (module_number those top)
   those_fit = record {
     few_parts = few_parts;
-    has_top = subst (λ n. module_number those top < n) (sym (cells_long those)) (let t = top_there file top value clean in slice_get_within those (module_number those top) t.0 t.1);
+    has_top = subst (λ n. module_number those top < n) (sym (cells_long those)) (top_within file top clean.has_top clean.once);
     good_cells = good_cells;
     reached = λ number lt.
         subst (λ graph. IsReached graph (module_number those top) number) (sym graph_same) (each_reached file top value clean number (subst (λ n. number < n) (cells_long those) lt));

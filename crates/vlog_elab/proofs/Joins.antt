@@ -31,8 +31,8 @@ use Rattle.vlog_values.specs.declared.statement.Conns.TheVariants as conns
 use Rattle.vlog_values.specs.declared.statement.Instances.{Instances}
 use Rattle.vlog_values.specs.declared.statement.NamedConn.{NamedConn}
 use Rattle.vlog_values.specs.declared.statement.VInst.{VInst}
-use Rattle.vlog_elab.proofs.ListLaws.{each_both, each_flat, each_map, in_left, in_right}
-use Rattle.vlog_elab.proofs.Lookup.{found_there, named_there}
+use Rattle.vlog_checked.proofs.ListLaws.{each_both, each_flat, each_map, in_left, in_right}
+use Rattle.vlog_checked.proofs.Lookup.{found_there, named_there}
 use Rattle.vlog_elab.proofs.Nodes.{IsBitOfCell, expr_nodes, named_slot, run_within}
 use Rattle.vlog_elab.proofs.Signals.{IsOfCell, port_bit}
 

@@ -1,12 +1,6 @@
 pub mod Answering
-pub mod Below
-pub mod Clean
-pub mod Differing
 pub mod Fitting
 pub mod Joins
-pub mod ListLaws
-pub mod Lookup
 pub mod Nodes
 pub mod OwnNames
-pub mod Reaching
 pub mod Signals

@@ -28,8 +28,8 @@ use Rattle.vlog_values.specs.declared.expression.Select.TheVariants as selects
 use Rattle.vlog_values.specs.declared.literal.Bit.{Bit}
 use Rattle.vlog_values.specs.declared.literal.Bit.TheVariants as digits
 use Rattle.vlog_values.specs.declared.module.Module.{Module}
-use Rattle.vlog_elab.proofs.ListLaws.{each_both, each_map}
-use Rattle.vlog_elab.proofs.Lookup.{found_there}
+use Rattle.vlog_checked.proofs.ListLaws.{each_both, each_map}
+use Rattle.vlog_checked.proofs.Lookup.{found_there}
 use Rattle.vlog_elab.proofs.Signals.{IsOfCell, slots_are}
 
 -- ---- positions

@@ -22,8 +22,8 @@ use Rattle.vlog_values.specs.declared.module.ItemV.TheVariants as items
 use Rattle.vlog_values.specs.declared.module.Module.{Module}
 use Rattle.vlog_values.specs.declared.statement.Instances.{Instances}
 use Rattle.vlog_values.specs.declared.statement.VInst.{VInst}
-use Rattle.vlog_elab.proofs.Differing.{NoClash, kept_get, no_clash, no_clash_kept, own_names_of}
-use Rattle.vlog_elab.proofs.ListLaws.{map_get, map_none}
+use Rattle.vlog_checked.proofs.Differing.{NoClash, kept_get, no_clash, no_clash_kept, own_names_of}
+use Rattle.vlog_checked.proofs.ListLaws.{map_get, map_none}
 
 -- the names that are declared as one kind
 abbrev names_as : Kind → List Declaration → List Name

@@ -1,4 +1,3 @@
 pub mod Answers
-pub mod Clean
 pub mod Ready
 pub mod Units

@@ -2,7 +2,7 @@
 use Rattle.std.specs.Prelude.{◌≡◌, ◌≤◌, List, [], length, map}
 use Rattle.net_hier.specs.Valid.{Each, count_limit}
 use Rattle.vlog_design.specs.Names.{Name}
-use Rattle.vlog_design.specs.Rules.{declared_twice, too_wide, unequal_widths, unknown_modules, unsized}
+use Rattle.vlog_design.specs.Rules.{declared_twice, too_wide, unequal_widths, unsized}
 use Rattle.vlog_values.specs.Sizes.{module_size}
 use Rattle.vlog_values.specs.Values.{IsModule}
 use Rattle.vlog_values.specs.declared.module.Module.{Module}
@@ -11,7 +11,6 @@ use Rattle.vlog_values.specs.declared.module.Module.{Module}
 pub record IsReady (modules : List Module) (m : Module) : Type 0 where
   pub value : IsModule m
   pub small : module_size m ≤ count_limit
-  pub known : unknown_modules modules m ≡ []
   pub once : declared_twice m ≡ []
   pub equal : unequal_widths modules m ≡ []
   pub sized : unsized modules m ≡ []

@@ -10,9 +10,6 @@ cell_of-requires-clause-small c = (ready_there c.args.names.now c.args.scopes.no
 pub cell_of-requires-clause-once : goal.cell_of-requires-clause-once
 cell_of-requires-clause-once c = (ready_there c.args.names.now c.args.scopes.now c.loop-scope.scope-index c.scope-item.result c.requires.ready c.loop-scope-test.true c.scope-item.is).once
 
-pub cell_of-requires-clause-known : goal.cell_of-requires-clause-known
-cell_of-requires-clause-known c = (ready_there c.args.names.now c.args.scopes.now c.loop-scope.scope-index c.scope-item.result c.requires.ready c.loop-scope-test.true c.scope-item.is).known
-
 pub cell_of-requires-clause-numbers : goal.cell_of-requires-clause-numbers
 cell_of-requires-clause-numbers c = numbers_there c.args.names.now c.args.scopes.now c.loop-scope.scope-index c.scope-item.result c.requires.ready c.loop-scope-test.true c.scope-item.is c.requires.few_units
 
