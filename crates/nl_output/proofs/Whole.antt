@@ -5,7 +5,7 @@ use Rattle.std.proofs.Math.Seq.{take-append_seam}
 use Rattle.nl_io.specs.Causes.{Rose, HasCause}
 use Rattle.nl_io.specs.Sinks.{Gains}
 use Rattle.nl_io.specs.declared.source.Failed.{Failed}
-use Rattle.nl_output.specs.Writing.{Held, State, state, Begin, Stands, Broke, Puts, Finishes, Writes}
+use Rattle.nl_output.specs.Writing.{Held, nothing, State, state, Begin, Stands, Broke, Puts, Finishes, Writes}
 
 abbrev begin_of : Option (List ℕ) → ℕ → List ℕ → Option ℕ → Begin
 begin_of taken faults whole spare = record { taken = taken; faults = faults; whole = whole; spare = spare }
@@ -13,9 +13,6 @@ begin_of taken faults whole spare = record { taken = taken; faults = faults; who
 took_nothing : (taken : List ℕ → Type 0) (known : Option (List ℕ)) → IfSome known taken → IfSome known (λ before. taken (before ++ []))
 took_nothing taken None h = tt
 took_nothing taken (Some before) h = subst taken (sym (append-nil before)) h
-
-abbrev nothing : Held
-nothing = record { bytes = []; failed = false }
 
 -- at the begin of a text
 at_begin : {O : Type 0} (taken : O → List ℕ → Type 0) (accepts : O → ℕ → Type 0) (faults : O → ℕ) (old : O) (known : Option (List ℕ)) (text : List ℕ) (spare : Option ℕ)

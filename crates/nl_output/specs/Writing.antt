@@ -9,6 +9,10 @@ pub record Held : Type 0 where
   pub bytes : List ℕ
   pub failed : Bool
 
+-- nothing is held
+abbrev pub nothing : Held
+nothing = record { bytes = []; failed = false }
+
 -- what is seen of an output and its sink
 pub record State : Type 1 where
   pub taken : List ℕ → Type 0
@@ -66,7 +70,7 @@ Drains old new = (b : Begin) (rest : List ℕ) → ToCome b old rest → ToCome 
 
 -- The whole text was put exactly where the answer is Ok.
 abbrev pub Finishes : State → State → Result (Unit {0}) Failed → Type 0
-Finishes old new (Ok u) = (b : Begin) → ToCome b old [] → Stood false b (record new { held = record { bytes = []; failed = false } }) []
+Finishes old new (Ok u) = (b : Begin) → ToCome b old [] → Stood false b (record new { held = nothing }) []
 Finishes old new (Err e) = (b : Begin) → ToCome b old [] → Broke b new
 
 -- The whole text was written to a sink, or a shorter front of it where a put failed.
