@@ -1,5 +1,5 @@
 -- A text is being written to a sink, through a buffer.
-use Rattle.std.specs.Prelude.{◌≡◌, ℕ, ◌+◌, ◌≤◌, ◌<◌, Bool, true, false, List, [], ◌++◌, length, take, Option, Some, None, Result, Ok, Err, OnOk, OnErr, IfSome, IsNone, IsOk}
+use Rattle.std.specs.Prelude.{◌≡◌, ℕ, ◌+◌, ◌≤◌, ◌<◌, Bool, true, false, List, [], ◌++◌, length, take, Option, Result, Ok, Err, OnOk, OnErr, IfSome, IsNone, IsOk}
 use Rattle.nl_io.specs.Causes.{Rose, HasCause}
 use Rattle.nl_io.specs.Sinks.{Gains}
 use Rattle.nl_io.specs.declared.source.Failed.{Failed}
