@@ -69,6 +69,17 @@ impl Text {
         }
     }
 
+    /// The text that these bytes are, of which few are moved into it; it takes no memory.
+    #[inline]
+    pub fn compact(alloc: Global, bytes: Vec<u8>) -> Text
+        ensures { result ≡ bytes.items }
+    {
+        if bytes.len() <= SHORT {
+            return Text::short(alloc, bytes.as_slice());
+        }
+        Text::of(bytes)
+    }
+
     /// Its bytes.
     #[inline]
     pub fn bytes(&self) -> &[u8]
