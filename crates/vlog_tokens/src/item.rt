@@ -139,11 +139,7 @@ pub fn item_of(alloc: Global, phase: Phase, text: Vec<u8>) -> Result<Option<Item
 {
     match phase {
         Phase::Word => Ok(Some(word_item(alloc, text))),
-        Phase::Escaped => {
-            Ok(Some(Item::Token(VToken::Name(Text::compact(
-                alloc, text,
-            )))))
-        }
+        Phase::Escaped => Ok(Some(Item::Token(VToken::Name(Text::compact(alloc, text))))),
         Phase::Whole => Ok(number_item(text.as_slice())),
         Phase::Fraction => Ok(real_item(text.as_slice())),
         Phase::Exponent => Ok(real_item(text.as_slice())),
