@@ -1,4 +1,4 @@
-ghost use Rattle.std.specs.Prelude.{◌≡◌, None, [], IfOk, OnOk, IfSome, IsSome, IsNone, IsTrue, IsFalse, option_map};
+ghost use Rattle.std.specs.Prelude.{◌≡◌, None, Some, [], IfOk, OnOk, IfSome, IsSome, IsNone, IsTrue, IsFalse, option_map};
 ghost use Rattle.readers.specs.Parts.{any};
 ghost use Rattle.readers.specs.Sources.{supply, IsNear};
 ghost use Rattle.readers.specs.Readers.{same, fault_at, end_fault, spoilt, Reads, Looks, LooksAt, LooksFor, Ends, Adds};
@@ -53,6 +53,19 @@ impl Cursor {
         }
     }
 
+    /// Takes the token ahead, which is there.
+    fn take_ahead(&mut self) -> Found
+        requires { IsSome self.old.ahead }
+        ensures token { self.old.ahead ≡ Some result }
+        ensures left { self.new ≡ record { window = self.old.window; ahead = None; context = self.old.context; spent = self.old.spent } }
+        ensures near { IsNear self.new.window result.stop }
+    {
+        match self.ahead.take() {
+            Some(found) => found,
+            None => unreachable!(),
+        }
+    }
+
     /// Takes the next token.
     pub(crate) fn take<S: Source>(
         &mut self,
@@ -65,8 +78,8 @@ impl Cursor {
         if self.spent {
             return Err(ReadError::Spent);
         }
-        if let Some(found) = self.ahead.take() {
-            return Ok(found);
+        if let Some(_) = self.ahead {
+            return Ok(self.take_ahead());
         }
         self.spent = true;
         let next = self.tokens.next(alloc, source)?;

@@ -65,7 +65,7 @@ Answers-ok-then p bs G H f (Err x) y r give h = absurd h
 -- ---- texts
 
 abbrev pub GivesSpanned : Place → List ℕ → Piece (List ℕ) → Spanned → Type 0
-GivesSpanned p used piece x = (x.text.items ≡ piece.value) × (x.stop ≡ p.offset + piece.seen) × (piece.count ≡ length used)
+GivesSpanned p used piece x = (x.text ≡ piece.value) × (x.stop ≡ p.offset + piece.seen) × (piece.count ≡ length used)
 
 seen-span_at : (class : ℕ → Bool) (bs : List ℕ) → 1 ≤ seen_of (span_at class 1 bs)
 unfolding span_at
@@ -110,12 +110,12 @@ led_spells {class} {lead} {byte} {p} {old} {mid} {new} {l} {m} {l'} {t} {after} 
     let step2 = subst (λ (x : List ℕ). Answers p x (GivesText p after) (span_at (in_class class) 1 x) r) whole step1 in
     subst (λ (x : Result (Piece (List ℕ)) Flaw). Answers p bs (GivesText p after) x r) (sym (b.answer bs known (span_at (in_class class) 1 bs) (seen-span_at (in_class class) bs))) step2
 
-pub gives_spanned : (p : Place) (after used : List ℕ) (y : Spanned) (stop : ℕ) → y.text.items ≡ after → y.stop ≡ stop → length after ≡ length used
+pub gives_spanned : (p : Place) (after used : List ℕ) (y : Spanned) (stop : ℕ) → y.text ≡ after → y.stop ≡ stop → length after ≡ length used
     → (piece : Piece (List ℕ)) → GivesText p after piece stop → GivesSpanned p used piece y
 gives_spanned p after used y stop text stop-is same piece g = (text ∙ sym g.0, stop-is ∙ g.2, g.1 ∙ same)
 
 pub led_given : {class : Class} {lead : Bool} {byte : ℕ} {p : Place} {old mid new : Window} {l m l' : Option (List ℕ)} {t after : List ℕ} {stop : ℕ} {u : Unit {0}}
-    → (b : Begins class lead byte p old mid l m t (Ok u)) → (s : Spans class p mid new m l' t after (Ok stop)) → {tail : List ℕ} → old.held ≡ byte ∷ tail → (y : Spanned) → y.text.items ≡ after → y.stop ≡ stop
+    → (b : Begins class lead byte p old mid l m t (Ok u)) → (s : Spans class p mid new m l' t after (Ok stop)) → {tail : List ℕ} → old.held ≡ byte ∷ tail → (y : Spanned) → y.text ≡ after → y.stop ≡ stop
     → ReadsText class lead p old new l l' (Ok y)
 led_given {class} {lead} {byte} {p} {old} {mid} {new} {l} {m} {l'} {t} {after} {stop} b s {tail} ahead y text stop-is = record {
   used = b.used ++ s.used;
@@ -123,7 +123,7 @@ led_given {class} {lead} {byte} {p} {old} {mid} {new} {l} {m} {l'} {t} {after} {
   some = omega (arith, length-append b.used s.used, ap length b.ok.0, leads_some class lead byte t b.ok.1);
   shape = λ c rest held.
       let same : byte ≡ c = cc in
-      subst (λ (first : ℕ). IsLed class lead first y.text.items) same (subst (λ (xs : List ℕ). IsLed class lead byte xs) (sym text) (led_shape class lead byte t s.used after b.ok.1 s.each s.added s.short));
+      subst (λ (first : ℕ). IsLed class lead first y.text) same (subst (λ (xs : List ℕ). IsLed class lead byte xs) (sym text) (led_shape class lead byte t s.used after b.ok.1 s.each s.added s.short));
   answer = λ bs known. Answers-ok p bs (GivesText p after) (GivesSpanned p (b.used ++ s.used)) (text_at (in_class class) lead bs) stop y
       (gives_spanned p after (b.used ++ s.used) y stop text stop-is (ap length (s.added ∙ ap (λ (x : List ℕ). x ++ s.used) (sym b.ok.0)))) (led_spells b s bs known);
 }

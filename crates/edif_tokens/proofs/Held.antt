@@ -36,7 +36,7 @@ held_shape class held text (suc n) is each some short b rest front =
     record { rest = take n rest; parts = parts; each = (subst (λ (xs : List ℕ). AreIn class xs) parts each).1; some = λ is. absurd cc; short = short }
 
 pub held_reads : {class : Class} {old new : Window} {l : Option (List ℕ)} {text : List ℕ} {next : ℕ} → Runs class 1025 old new l l [] text (Ok (Some next))
-    → (p : Place) → old.place ≡ p → may_follow next ≡ true → {n : ℕ} → text ≡ take n old.held → 0 < n → 0 < length text → length text ≤ 1024 → (y : Spanned) → y.text.items ≡ text → y.stop ≡ p.offset + length text + 1
+    → (p : Place) → old.place ≡ p → may_follow next ≡ true → {n : ℕ} → text ≡ take n old.held → 0 < n → 0 < length text → length text ≤ 1024 → (y : Spanned) → y.text ≡ text → y.stop ≡ p.offset + length text + 1
     → ReadsText class false p old new l l (Ok y)
 held_reads {class} {old} {new} {l} {text} {next} runs p begins follows {n} front some_n some most y text-is stop-is =
     let offset = ap (λ (q : Place). q.offset) (runs.uses.place ∙ ap (λ (q : Place). place_past q runs.used) begins) ∙ place_past-offset p runs.used in

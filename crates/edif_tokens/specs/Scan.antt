@@ -84,9 +84,9 @@ pub record ReadsText (class : Class) (lead : Bool) (p : Place) (old new : Window
   pub used : List ℕ
   pub uses : Uses old new left left' used
   pub some : OnOk result (0 < length used)
-  pub shape : IfOk result (λ x. (b : ℕ) (rest : List ℕ) → old.held ≡ b ∷ rest → IsLed class lead b x.text.items)
+  pub shape : IfOk result (λ x. (b : ℕ) (rest : List ℕ) → old.held ≡ b ∷ rest → IsLed class lead b x.text)
   pub answer : (bs : List ℕ) → input old left ≡ Some bs →
-      Answers p bs (λ piece x. (x.text.items ≡ piece.value) × (x.stop ≡ p.offset + piece.seen) × (piece.count ≡ length used)) (text_at (in_class class) lead bs) result
+      Answers p bs (λ piece x. (x.text ≡ piece.value) × (x.stop ≡ p.offset + piece.seen) × (piece.count ≡ length used)) (text_at (in_class class) lead bs) result
 
 -- a token was read, which is spelled so
 pub record Reads (spelled : List ℕ → Result (Piece Token) Flaw) (p : Place) (old new : Window) (left left' : Option (List ℕ)) (result : Result Found ReadError) : Type 0 where

@@ -59,7 +59,7 @@ fn begin<S: Source>(
 /// A text of one class, and its stop.
 #[derive(Drop)]
 struct Spanned {
-    text: Vec<u8>,
+    text: Text,
     stop: u64,
 }
 
@@ -92,10 +92,7 @@ fn held_text<S: Source>(
         return None;
     }
     let (front, _) = held.split_at(count);
-    let Ok(mut text) = Vec::with_capacity(alloc, count) else {
-        return None;
-    };
-    let Ok(()) = text.extend_from_slice(front) else {
+    let Ok(text) = Text::copy(alloc, front) else {
         return None;
     };
     bytes.pass(class, count);
@@ -129,7 +126,10 @@ fn pieced_text<S: Source>(
     let mut text = Vec::new(alloc);
     begin(bytes, class, lead, byte, place, &mut text, source)?;
     let stop = span(bytes, class, place, &mut text, source)?;
-    Ok(Spanned { text, stop })
+    Ok(Spanned {
+        text: Text::of(text),
+        stop,
+    })
 }
 
 /// Reads a word's or an integer's text, whose first byte is ahead.
@@ -162,14 +162,14 @@ fn text<S: Source>(
     }
 }
 
-/// The word of some bytes.
+/// The word that a text is.
 #[inline(always)]
-fn word_of(bytes: Vec<u8>) -> Token
-    requires spelled { is_identifier bytes.items ≡ true }
-    requires short { length bytes.items ≤ 1024 }
-    ensures { result ≡ Token.Word bytes.items }
+fn word_of(text: Text) -> Token
+    requires spelled { is_identifier text ≡ true }
+    requires short { length text ≤ 1024 }
+    ensures { result ≡ Token.Word text }
 {
-    Token::Word(Ident::of(Text::of(bytes)))
+    Token::Word(Ident::of(text))
 }
 
 /// Reads a word from any pieces.
@@ -262,7 +262,7 @@ fn number<S: Source>(
     ensures ended { IfOk result (λ f. bytes.new.place.offset ≤ f.stop) }
 {
     let Spanned { text, stop } = text(bytes, alloc, Class::Digit, lead, byte, place, source)?;
-    number_found(place, stop, text.as_slice())
+    number_found(place, stop, text.bytes())
 }
 
 /// Uses the byte ahead, which is a token.

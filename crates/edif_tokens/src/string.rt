@@ -164,6 +164,6 @@ pub fn string<S: Source>(
     Ok(Found {
         place,
         stop: here.offset + 1,
-        token: Token::Str(Text::of(value)),
+        token: Token::Str(Text::compact(alloc, value)),
     })
 }

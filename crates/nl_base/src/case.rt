@@ -5,5 +5,5 @@ ghost use Rattle.nl_base.specs.Case.{same_up_to_case};
 pub fn fold_eq(a: &[u8], b: &[u8]) -> bool
     ensures { result ≡ same_up_to_case a.now b.now }
 {
-    a.eq_ignore_ascii_case(b)
+    a == b || a.eq_ignore_ascii_case(b)
 }

@@ -253,11 +253,10 @@ impl Bytes {
             let Some(byte) = next else {
                 return Ok(None);
             };
-            let count = self.ahead_in(class, usize::MAX);
-            if count == 0 {
+            if !class.contains(byte) {
                 return Ok(Some(byte));
             }
-            self.pass(class, count);
+            self.advance();
         }
     }
 }

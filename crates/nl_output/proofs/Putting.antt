@@ -1,11 +1,10 @@
 -- A put in the course of a text.
-use Rattle.std.proofs.Common.{◌≡◌, ℕ, ◌+◌, ◌≤◌, ◌<◌, List, [], ◌++◌, take, drop, length, Option, Some, None, Result, Ok, Err, refl, sym, ap, ◌∙◌, subst, append_assoc, append-nil, length-append, length-drop, arith, Bool, true, false, add_assoc}
-use Rattle.std.specs.Prelude.{OnOk, OnErr, IfSome, IsNone, IsOk}
+use Rattle.std.proofs.Common.{◌≡◌, ℕ, ◌+◌, ◌≤◌, ◌<◌, List, [], ◌++◌, take, drop, length, Option, Some, None, refl, sym, ap, ◌∙◌, subst, append_assoc, length-append, length-drop, arith, Bool, true, false}
+use Rattle.std.specs.Prelude.{IfSome, IsNone}
 use Rattle.std.proofs.lemmas.List.{take-append-drop}
-use Rattle.nl_io.specs.Causes.{Rose, HasCause}
+use Rattle.nl_io.specs.Causes.{Rose}
 use Rattle.nl_io.specs.Sinks.{Gains}
-use Rattle.nl_io.specs.declared.source.Failed.{Failed}
-use Rattle.nl_output.specs.Writing.{Held, State, Begin, Stands, Broke, Stood, Puts, Drains}
+use Rattle.nl_output.specs.Writing.{Held, Puts}
 
 -- what a sink took grows by the bytes that it gains
 took_more : (taken taken' : List ℕ → Type 0) (front done : List ℕ) (known : Option (List ℕ)) → Gains taken taken' front

@@ -1,11 +1,9 @@
 -- A whole text that was put through an output.
-use Rattle.std.proofs.Common.{◌≡◌, ℕ, ◌+◌, ◌≤◌, ◌<◌, List, [], ◌++◌, take, length, Option, Some, None, Result, Ok, Err, refl, sym, ap, ◌∙◌, subst, append-nil, length-append, arith, Bool, true, false, zero-add}
-use Rattle.std.specs.Prelude.{OnOk, OnErr, IfSome, IsNone, IsOk}
+use Rattle.std.proofs.Common.{◌≡◌, ℕ, ◌+◌, ◌<◌, List, [], ◌++◌, take, length, Option, Some, None, Result, Ok, Err, refl, sym, ap, ◌∙◌, subst, append-nil, length-append, arith, true, false, zero-add}
+use Rattle.std.specs.Prelude.{IfSome}
 use Rattle.std.proofs.Math.Seq.{take-append_seam}
-use Rattle.nl_io.specs.Causes.{Rose, HasCause}
-use Rattle.nl_io.specs.Sinks.{Gains}
 use Rattle.nl_io.specs.declared.source.Failed.{Failed}
-use Rattle.nl_output.specs.Writing.{Held, State, state, Begin, Stands, Broke, Puts, Finishes, Writes}
+use Rattle.nl_output.specs.Writing.{nothing, State, state, Begin, Stands, Puts, Finishes, Writes}
 
 abbrev begin_of : Option (List ℕ) → ℕ → List ℕ → Option ℕ → Begin
 begin_of taken faults whole spare = record { taken = taken; faults = faults; whole = whole; spare = spare }
@@ -13,9 +11,6 @@ begin_of taken faults whole spare = record { taken = taken; faults = faults; who
 took_nothing : (taken : List ℕ → Type 0) (known : Option (List ℕ)) → IfSome known taken → IfSome known (λ before. taken (before ++ []))
 took_nothing taken None h = tt
 took_nothing taken (Some before) h = subst taken (sym (append-nil before)) h
-
-abbrev nothing : Held
-nothing = record { bytes = []; failed = false }
 
 -- at the begin of a text
 at_begin : {O : Type 0} (taken : O → List ℕ → Type 0) (accepts : O → ℕ → Type 0) (faults : O → ℕ) (old : O) (known : Option (List ℕ)) (text : List ℕ) (spare : Option ℕ)
@@ -30,9 +25,9 @@ shorter : (done lost text : List ℕ) → text ≡ done ++ lost → 0 < length l
 shorter done lost text is some = omega (arith, ap (λ (z : List ℕ). length z) is, length-append done lost)
 
 -- a text that was put through an output, from its begin to its end, was written
-pub writes_whole : {O : Type 0} (taken : O → List ℕ → Type 0) (accepts : O → ℕ → Type 0) (faults : O → ℕ) (old new : O) (mid : State) (last : Held) (text : List ℕ → List ℕ) (result : Result (Unit {0}) Failed)
-    → Puts text (state taken accepts faults old nothing) mid → Finishes mid (state taken accepts faults new last) result → Writes taken accepts faults old new (text []) result
-writes_whole taken accepts faults old new mid last text (Ok u) puts ends =
+pub writes_whole : {O : Type 0} (taken : O → List ℕ → Type 0) (accepts : O → ℕ → Type 0) (faults : O → ℕ) (old new : O) (mid : State) (text : List ℕ → List ℕ) (result : Result (Unit {0}) Failed)
+    → Puts text (state taken accepts faults old nothing) mid → Finishes mid (state taken accepts faults new nothing) result → Writes taken accepts faults old new (text []) result
+writes_whole taken accepts faults old new mid text (Ok u) puts ends =
     let plain = ends (begin_of None (faults old) (text []) None) (puts (begin_of None (faults old) (text []) None) [] (at_begin taken accepts faults old None (text []) None tt tt)) in
     record {
       all = λ before h.
@@ -44,7 +39,7 @@ writes_whole taken accepts faults old new mid last text (Ok u) puts ends =
           let w = ends (begin_of None (faults old) (text []) (Some n)) (puts (begin_of None (faults old) (text []) (Some n)) [] (at_begin taken accepts faults old None (text []) (Some n) tt h)) in
           (refl, subst (accepts new) (zero-add n) w.spare);
     }
-writes_whole taken accepts faults old new mid last text (Err e) puts ends =
+writes_whole taken accepts faults old new mid text (Err e) puts ends =
     let plain = ends (begin_of None (faults old) (text []) None) (puts (begin_of None (faults old) (text []) None) [] (at_begin taken accepts faults old None (text []) None tt tt)) in
     record {
       all = tt;

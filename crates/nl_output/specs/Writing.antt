@@ -1,5 +1,5 @@
 -- A text is being written to a sink, through a buffer.
-use Rattle.std.specs.Prelude.{◌≡◌, ℕ, ◌+◌, ◌≤◌, ◌<◌, Bool, true, false, List, [], ◌++◌, length, take, Option, Some, None, Result, Ok, Err, OnOk, OnErr, IfSome, IsNone, IsOk}
+use Rattle.std.specs.Prelude.{◌≡◌, ℕ, ◌+◌, ◌≤◌, ◌<◌, Bool, true, false, List, [], ◌++◌, length, take, Option, Result, Ok, Err, OnOk, OnErr, IfSome, IsNone, IsOk}
 use Rattle.nl_io.specs.Causes.{Rose, HasCause}
 use Rattle.nl_io.specs.Sinks.{Gains}
 use Rattle.nl_io.specs.declared.source.Failed.{Failed}
@@ -8,6 +8,10 @@ use Rattle.nl_io.specs.declared.source.Failed.{Failed}
 pub record Held : Type 0 where
   pub bytes : List ℕ
   pub failed : Bool
+
+-- nothing is held
+abbrev pub nothing : Held
+nothing = record { bytes = []; failed = false }
 
 -- what is seen of an output and its sink
 pub record State : Type 1 where
@@ -66,7 +70,7 @@ Drains old new = (b : Begin) (rest : List ℕ) → ToCome b old rest → ToCome 
 
 -- The whole text was put exactly where the answer is Ok.
 abbrev pub Finishes : State → State → Result (Unit {0}) Failed → Type 0
-Finishes old new (Ok u) = (b : Begin) → ToCome b old [] → Stood false b (record new { held = record { bytes = []; failed = false } }) []
+Finishes old new (Ok u) = (b : Begin) → ToCome b old [] → Stood false b (record new { held = nothing }) []
 Finishes old new (Err e) = (b : Begin) → ToCome b old [] → Broke b new
 
 -- The whole text was written to a sink, or a shorter front of it where a put failed.

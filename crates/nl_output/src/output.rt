@@ -1,6 +1,6 @@
 ghost use Rattle.std.specs.Prelude.{◌≡◌, ◌≤◌, ◌+◌, ◌++◌, [], false, length, take};
 ghost use Rattle.std.specs.Fmt.{decimal, signed_decimal};
-ghost use Rattle.nl_output.specs.Writing.{state, Drains, Finishes, Puts};
+ghost use Rattle.nl_output.specs.Writing.{nothing, state, Drains, Finishes, Puts};
 
 use nl_base::{Int, spell_u64};
 use nl_io::{Failed, Sink, put_all};
@@ -150,8 +150,8 @@ impl Output {
     }
 
     /// Ends the text: what is held is put, and it is answered whether the sink took the whole text.
-    pub fn finish<O: Sink>(&mut self, sink: &mut O) -> Result<(), Failed>
-        ensures { Finishes (state O.taken O.accepts O.faults sink.old self.old) (state O.taken O.accepts O.faults sink.new self.new) result }
+    pub fn finish<O: Sink>(mut self, sink: &mut O) -> Result<(), Failed>
+        ensures { Finishes (state O.taken O.accepts O.faults sink.old self) (state O.taken O.accepts O.faults sink.new nothing) result }
     {
         self.drain(sink);
         if self.failed {

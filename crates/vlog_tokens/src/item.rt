@@ -29,13 +29,13 @@ pub struct Spot {
 }
 
 /// A simple name or a keyword.
-fn word_item(text: Vec<u8>) -> Item
+fn word_item(alloc: Global, text: Vec<u8>) -> Item
     ensures { result ≡ word_item text.items }
 {
     if is_keyword(text.as_slice()) {
-        return Item::Token(VToken::Keyword(Text::of(text)));
+        return Item::Token(VToken::Keyword(Text::compact(alloc, text)));
     }
-    Item::Token(VToken::Name(Text::of(text)))
+    Item::Token(VToken::Name(Text::compact(alloc, text)))
 }
 
 fn number_item(text: &[u8]) -> Option<Item>
@@ -113,7 +113,7 @@ fn based_item(alloc: Global, base: Base, text: &[u8]) -> Result<Option<Item>, No
     Ok(Some(Item::Token(VToken::Based(Based {
         signed,
         base,
-        digits: Text::of(digits),
+        digits: Text::compact(alloc, digits),
     }))))
 }
 
@@ -138,8 +138,8 @@ pub fn item_of(alloc: Global, phase: Phase, text: Vec<u8>) -> Result<Option<Item
     ensures { IfOk result (λ item. item ≡ item_of phase text.items) }
 {
     match phase {
-        Phase::Word => Ok(Some(word_item(text))),
-        Phase::Escaped => Ok(Some(Item::Token(VToken::Name(Text::of(text))))),
+        Phase::Word => Ok(Some(word_item(alloc, text))),
+        Phase::Escaped => Ok(Some(Item::Token(VToken::Name(Text::compact(alloc, text))))),
         Phase::Whole => Ok(number_item(text.as_slice())),
         Phase::Fraction => Ok(real_item(text.as_slice())),
         Phase::Exponent => Ok(real_item(text.as_slice())),

@@ -15,6 +15,9 @@ use nl_bytes::bytes::LIMIT;
 use nl_io::Source;
 use std::alloc::Global;
 
+/// For how many bytes a token has room from the first.
+const USUAL: usize = 24;
+
 /// Reads the bytes of a token, whose first is ahead and makes it begin in a phase.
 fn scan<S: Source>(
     bytes: &mut Bytes,
@@ -34,7 +37,7 @@ fn scan<S: Source>(
     ensures bounded { OnText result (λ t. bytes.new.place.offset ≤ t.stop) }
 {
     let place = bytes.place();
-    let mut text = Vec::new(alloc);
+    let mut text = Vec::with_capacity(alloc, USUAL)?;
     keep_first(begins, byte, &mut text)?;
     bytes.advance();
     let scanned = rest(bytes, begins, place, text, source)?;

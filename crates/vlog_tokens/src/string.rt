@@ -201,7 +201,7 @@ pub fn string<S: Source>(
     let here = bytes.place();
     bytes.advance();
     Ok(Spot {
-        item: Item::Token(VToken::Str(Text::of(value))),
+        item: Item::Token(VToken::Str(Text::compact(alloc, value))),
         stop: here.offset + 1,
     })
 }

@@ -19,7 +19,7 @@ returns-clause-text g c =
     let n = c.front-count.result in
     let run : n ≡ prefix_len (in_class c.args.class) held = c.front-count.ensures ∙ ap (prefix_len (in_class c.args.class)) c.held-held.ensures in
     let len : length (take n held) ≡ n = omega (arith, length-take n held, ap (λ (xs : List ℕ). length xs) c.held-held.ensures) in
-    let text : c.extend_from_slice.new.self.items ≡ take n held = c.in-Ok-extend_from_slice.ensures.items ∙ ap (λ (xs : List ℕ). xs ++ c.split_at.result.0.now) c.in-Ok.ensures.items ∙ c.split_at.ensures.front ∙ ap (λ (xs : List ℕ). take n xs) c.held-held.ensures in
+    let text : c.in-Ok.text ≡ take n held = c.in-Ok.ensures ∙ c.split_at.ensures.front ∙ ap (λ (xs : List ℕ). take n xs) c.held-held.ensures in
     let offset = ap (λ (q : Place). q.offset) c.requires.begins in
     let runs = held_run {next = get_or held n 0} (g.S.Source.left c.args.source.now) run (omega (arith, ap (λ (xs : List ℕ). length xs) c.held-held.ensures)) (omega arith) (omega (arith, offset)) c.pass.ensures.held c.pass.ensures.place text refl in
     held_reads runs c.args.place (sym c.requires.begins) (ap (λ (xs : List ℕ). may_follow (get_or xs n 0)) (sym c.held-held.ensures) ∙ sym c.may_follow.ensures ∙ c.if-not-may_follow.false) text (omega arith) (omega (arith, ap (λ (xs : List ℕ). length xs) text, len)) (omega (arith, ap (λ (xs : List ℕ). length xs) text, len)) _ refl (omega (arith, ap (λ (xs : List ℕ). length xs) text, len))

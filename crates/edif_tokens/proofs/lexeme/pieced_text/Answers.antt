@@ -14,4 +14,4 @@ returns-in_err-stop-clause-text g c =
     rw (p.1, p.2) (led_halted c.in_ok-begin.ensures.begins c.in_err-stop.ensures.spans)
 
 pub returns-clause-text : goal.returns-clause-text
-returns-clause-text g c = led_given c.in_ok-begin.ensures.begins c.in_ok-stop.ensures.spans c.requires.ahead.1 _ refl refl
+returns-clause-text g c = led_given c.in_ok-begin.ensures.begins c.in_ok-stop.ensures.spans c.requires.ahead.1 _ c.of.ensures refl

@@ -9,13 +9,13 @@ use Rattle.vlog_tokens.proofs.lexeme.scan.Goals as goal
 pub returns-in_err-scanned-clause-part : goal.returns-in_err-scanned-clause-part
 returns-in_err-scanned-clause-part g c =
     let p = err_from_is_err_and c.from_residual-in_err-scanned.result c.from_residual-in_err-scanned.ensures.1 in
-    let text : c.keep_first.new.text.items ≡ kept c.args.begins c.args.byte = c.in_ok-keep_first.ensures ∙ ap (λ (xs : List ℕ). xs ++ kept c.args.begins c.args.byte) c.new-text.ensures.items in
+    let text : c.keep_first.new.text.items ≡ kept c.args.begins c.args.byte = c.in_ok-keep_first.ensures ∙ ap (λ (xs : List ℕ). xs ++ kept c.args.begins c.args.byte) c.in_ok-text.ensures.items in
     rw (p.1, p.2) (part_err (part_then (begun_part c.args.begins c.args.byte _ _ (record { tail = c.requires.ahead.0; ahead = c.requires.ahead.1; held = c.advance.ensures.held; place = c.advance.ensures.place }) text)
     (rw c.place-place.ensures.place at c.in_err-scanned.ensures.part)) _)
 
 pub returns-clause-part : goal.returns-clause-part
 returns-clause-part g c =
-    let text : c.keep_first.new.text.items ≡ kept c.args.begins c.args.byte = c.in_ok-keep_first.ensures ∙ ap (λ (xs : List ℕ). xs ++ kept c.args.begins c.args.byte) c.new-text.ensures.items in
+    let text : c.keep_first.new.text.items ≡ kept c.args.begins c.args.byte = c.in_ok-keep_first.ensures ∙ ap (λ (xs : List ℕ). xs ++ kept c.args.begins c.args.byte) c.in_ok-text.ensures.items in
     part_then (begun_part c.args.begins c.args.byte _ _ (record { tail = c.requires.ahead.0; ahead = c.requires.ahead.1; held = c.advance.ensures.held; place = c.advance.ensures.place }) text)
     (rw c.place-place.ensures.place at c.in_ok-scanned.ensures.part)
 
