@@ -1,8 +1,9 @@
 use crate::run::run;
 use crate::status::Status;
 use crate::texts::{
-    ALIASED, BLINKER, BLINKER_WRITTEN, PARTS, PARTS_WRITTEN, RECURSIVE, SMALL, WIDE,
-    WITHOUT_DESIGN, WRITTEN,
+    ALIASED, BLINKER, BLINKER_MODULES, BLINKER_WRITTEN, CHAINED, CHAINED_WRITTEN, CYCLE, ESCAPED,
+    ESCAPED_WRITTEN, LITERALS, LITERALS_WRITTEN, NO_BIT, PARTS, PARTS_WRITTEN, RECURSIVE, SEVERAL,
+    SMALL, SPACED, WHOLE_ARRAY, WIDE, WIDE_END, WIDE_HEAD, WITHOUT_DESIGN, WRITTEN,
 };
 use nl_base::{Seq, Text};
 use nl_io::{MemSink, MemSource};
@@ -326,6 +327,13 @@ fn modules_are_written(rt: HostRuntime) -> Result<(), Fail> {
     for (text, written) in [
         (MODULE, MODULE_WRITTEN),
         (MODULE_WRITTEN, MODULE_WRITTEN),
+        (BLINKER_MODULES, BLINKER_MODULES),
+        (LITERALS, LITERALS_WRITTEN),
+        (LITERALS_WRITTEN, LITERALS_WRITTEN),
+        (CHAINED, CHAINED_WRITTEN),
+        (CHAINED_WRITTEN, CHAINED_WRITTEN),
+        (ESCAPED, ESCAPED_WRITTEN),
+        (ESCAPED_WRITTEN, ESCAPED_WRITTEN),
         (b"".as_slice(), b"".as_slice()),
     ] {
         assert_eq!(rt; is_written(rt.alloc(), &vformat_of(text), written)?, true);
@@ -386,9 +394,60 @@ fn files_are_checked(rt: HostRuntime) -> Result<(), Fail> {
         (WITHOUT_DESIGN, 2, b"", b"refused E1 \"\"\n"),
         (RECURSIVE, 2, b"", b"refused E13 \"top\" \"u\"\n"),
         (WIDE, 2, b"", b"refused E12 \"top\" \"size\" \"p\"\n"),
+        (CYCLE, 2, b"", b"refused E13 \"top\" \"u1\"\n"),
+        (SPACED, 0, b"ok\n", b""),
+        (SEVERAL, 2, b"", b"refused E6 \"top\" \"ab\"\n"),
+        (
+            WHOLE_ARRAY,
+            2,
+            b"",
+            b"refused E10 \"top\" \"na\" \"u\" \"D\"\n",
+        ),
+        (
+            NO_BIT,
+            2,
+            b"",
+            b"refused E9 \"top\" \"na\" \"u\" \"D\" \"4\"\n",
+        ),
         (b"(edi", 1, b"", b"fault 1:2 UnknownWord edi\n"),
     ] {
         assert_eq!(rt; is_checked(rt.alloc(), text, status, output, line)?, true);
+    }
+    Ok(())
+}
+
+/// Adds 32 ports of 65,536 bits, whose names end with this letter and one more.
+fn add_wide_ports(text: &mut Vec<u8>, letter: u8) -> Result<(), Fail> {
+    for other in b"abcdefghijklmnopqrstuvwxyz012345" {
+        text.extend_from_slice(b"(port(array p")?;
+        text.extend_from_slice(&[letter, *other])?;
+        text.extend_from_slice(b" 65536))")?;
+    }
+    Ok(())
+}
+
+/// A file of one cell with 512 ports of 65,536 bits, and these ports behind them.
+fn wide_file(alloc: Global, ports: &[u8]) -> Result<Vec<u8>, Fail> {
+    let mut text = Vec::from_slice(alloc, WIDE_HEAD)?;
+    for letter in b"abcdefghijklmnop" {
+        add_wide_ports(&mut text, *letter)?;
+    }
+    text.extend_from_slice(ports)?;
+    text.extend_from_slice(WIDE_END)?;
+    Ok(text)
+}
+
+#[test]
+fn designs_have_a_limit(rt: HostRuntime) -> Result<(), Fail> {
+    for (ports, status, output, line) in [
+        (b"".as_slice(), 0, b"ok\n".as_slice(), b"".as_slice()),
+        (b"(port p)", 7, b"", b"limit design 33554433\n"),
+    ] {
+        let text = wide_file(rt.alloc(), ports)?;
+        assert_eq!(rt;
+            is_checked(rt.alloc(), text.as_slice(), status, output, line)?,
+            true
+        );
     }
     Ok(())
 }
