@@ -1,4 +1,6 @@
 // Keywords, aliases, and the calls of a cursor.
+ghost use Rattle.std.specs.Prelude.{IsFalse};
+
 use crate::given::source_of;
 use edif_keywords::{AliasFault, Aliases, Cursor, Keyword, find_keyword, read_comment, spelling};
 use edif_tokens::{Token, Tokens};
@@ -165,7 +167,9 @@ fn sees_paren(cursor: &Cursor) -> bool {
 }
 
 /// Whether a number is added to a list, and a string is seen.
-fn adds_and_sees(alloc: Global, cursor: &mut Cursor, source: &mut MemSource) -> bool {
+fn adds_and_sees(alloc: Global, cursor: &mut Cursor, source: &mut MemSource) -> bool
+    requires { IsFalse cursor.old.spent }
+{
     let mut numbers = Seq::empty(alloc);
     is_well(cursor.add(&mut numbers, 5_u32))
         && numbers.items() == [5].as_slice()

@@ -1,4 +1,4 @@
-// The tests of the crates that read, write and resolve EDIF, from the tokens to the design of a file.
+// The tests of the crates that read and write EDIF, from the tokens to the text of a file.
 //
 // There is nothing here but tests and what they read: they stand above the crates that they call, so that each of those is proved once.
 #![tactic(auto)]
