@@ -43,23 +43,32 @@ fn faults_of_files(rt: HostRuntime) -> Result<(), Fail> {
             b"NotInProfile".as_slice(),
         ),
         (b"module m (input a);\n  always", 22, b"NotInProfile"),
-        (b"module m (input a); (* k *) endmodule", 28, b"NotInProfile"),
+        (
+            b"module m (input a); (* k *) endmodule",
+            28,
+            b"NotInProfile",
+        ),
         (b"module m; endmodule endmodule", 20, b"NotInProfile"),
-        (b"`default_nettype tri\nmodule a; endmodule", 17, b"NotInProfile"),
+        (
+            b"`default_nettype tri\nmodule a; endmodule",
+            17,
+            b"NotInProfile",
+        ),
         (
             b"module m (input a); defparam u.v.A = 1; endmodule",
             32,
             b"Unexpected",
         ),
         (b"module m (a,); endmodule", 12, b"Unexpected"),
-        (b"module m; wire [2147483648:0] n; endmodule", 16, b"NumberRange"),
+        (
+            b"module m; wire [2147483648:0] n; endmodule",
+            16,
+            b"NumberRange",
+        ),
         (b"module m (input a", 17, b"EndOfInput"),
     ] {
         let mut source = source_of(rt.alloc(), text)?;
-        assert_eq!(rt;
-            fault_of(rt.alloc(), &mut source, 0, reason),
-            Some(offset)
-        );
+        assert_eq!(rt; fault_of(rt.alloc(), &mut source, 0, reason), Some(offset));
     }
     Ok(())
 }
