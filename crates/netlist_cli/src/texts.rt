@@ -326,3 +326,14 @@ pub const ESCAPED_WRITTEN: &[u8] = b"module m (
   assign cpu = a[1], y = \\wire ;
 endmodule
 ";
+
+/// A file up to the contents of the view of its cell t, which stands after the cell l.
+pub const UP_TO_CONTENTS: &[u8] =
+    b"(edif a(edifVersion 2 0 0)(edifLevel 0)(keywordMap(keywordLevel 0))
+(library w(edifLevel 0)(technology(numberDefinition))
+(cell l(cellType GENERIC)(view v(viewType NETLIST)(interface(port p(direction INPUT))(port(array q 2)(direction OUTPUT)))))
+(cell t(cellType GENERIC)(view v(viewType NETLIST)(interface(port p(direction INPUT)))(contents";
+
+/// From the end of that cell to the end of its library, with a cell that no instance is of, and that breaks a rule.
+pub const UP_TO_DESIGNS: &[u8] =
+    b")))(cell u(cellType GENERIC)(view v(viewType NETLIST)(interface)(contents(instance i(viewRef v(cellRef x)))))))";
