@@ -1,0 +1,4 @@
+pub mod Groups
+pub mod Instances
+pub mod Nets
+pub mod Ports

@@ -1,0 +1,173 @@
+// The instances of a cell.
+ghost use Rattle.std.specs.Prelude.{◌≡◌, ◌<◌, ◌^◌, ◌++◌, List, ℕ, bytes_eq, flat_map, length, map, IfOk, OnOk};
+ghost use Rattle.std.specs.List.{position_or_len};
+ghost use Rattle.vlog_design.specs.Design.{def_sets, module_instances};
+ghost use Rattle.vlog_design.specs.Names.{defparam_statement, instance_statement};
+ghost use Rattle.vlog_values.specs.declared.module.Module.{Module};
+ghost use Rattle.vlog_cells.specs.Instances.{instance_by, instances_by, props_by, sets_for, sets_of, sets_under};
+
+use crate::groups::Groups;
+use crate::properties::{add_attrs, add_params, add_sets};
+use net_hier::{HInst, HProp};
+use nl_base::{NoMemory, Seq, Text};
+use std::alloc::Global;
+use vlog_design::names::Names;
+use vlog_values::{DefSet, Instances, ItemV, Module, VInst};
+
+/// Adds values by `defparam` under the names of their instances.
+fn note_sets<'a>(
+    alloc: Global,
+    sets: &'a [DefSet],
+    found: &mut Groups<'a, &'a DefSet>,
+) -> Result<(), NoMemory>
+    ensures added { OnOk result ((key : List ℕ) → sets_under found.new key ≡ sets_under found.old key ++ sets_for key sets.now) }
+{
+    for set in sets {
+        found.add(alloc, set.instance.bytes(), set)?;
+    }
+    Ok(())
+}
+
+/// Adds the values that an item gives.
+fn note_item<'a>(
+    alloc: Global,
+    item: &'a ItemV,
+    found: &mut Groups<'a, &'a DefSet>,
+) -> Result<(), NoMemory>
+    ensures added { OnOk result ((key : List ℕ) → sets_under found.new key ≡ sets_under found.old key ++ sets_for key (flat_map (λ statement. statement.sets) (defparam_statement item.now))) }
+{
+    match item {
+        ItemV::Defparam(statement) => {
+            note_sets(alloc, statement.sets.items(), found)?;
+            Ok(())
+        }
+        ItemV::Port(_) => Ok(()),
+        ItemV::Net(_) => Ok(()),
+        ItemV::Param(_) => Ok(()),
+        ItemV::Assign(_) => Ok(()),
+        ItemV::Instances(_) => Ok(()),
+    }
+}
+
+/// The values by `defparam` of a module under the names of their instances, in the order of the text.
+fn sets_in<'a>(alloc: Global, m: &'a Module) -> Result<Groups<'a, &'a DefSet>, NoMemory>
+    ensures { IfOk result (λ found. (key : List ℕ) → sets_under found key ≡ sets_for key (def_sets m.now)) }
+{
+    let mut found = Groups::empty(alloc);
+    for item in m.items.items() {
+        note_item(alloc, item, &mut found)?;
+    }
+    Ok(found)
+}
+
+/// The number of the name, or how many names there are where it is none of them.
+fn number_of(names: &Names, name: &[u8]) -> u32
+    requires { length names.now < 2 ^ 32 }
+    ensures { result ≡ position_or_len (bytes_eq name.now) names.now }
+{
+    match names.place(name) {
+        None => names.len() as u32,
+        Some(place) => place as u32,
+    }
+}
+
+/// The properties of an instance: the attributes and parameters of its statement, and then the values by `defparam`.
+fn instance_props(
+    alloc: Global,
+    statement: &Instances,
+    sets: &[&DefSet],
+) -> Result<Seq<HProp>, NoMemory>
+    ensures { IfOk result (λ made. made ≡ props_by statement.now (sets_of sets.now)) }
+{
+    let mut props = Seq::empty(alloc);
+    add_attrs(alloc, &mut props, statement.attrs.items())?;
+    add_params(alloc, &mut props, statement.params.items())?;
+    add_sets(alloc, &mut props, sets)?;
+    Ok(props)
+}
+
+/// The instance, of the cell of this number.
+#[tactic(auto, unfolding(crate::specs::Instances::sets_under))]
+fn instance_of(
+    alloc: Global,
+    cell: u32,
+    statement: &Instances,
+    found: &Groups<'_, &DefSet>,
+    instance: &VInst,
+) -> Result<HInst, NoMemory>
+    ensures { IfOk result (λ made. made ≡ instance_by cell statement.now found.now instance.now) }
+{
+    let props = instance_props(alloc, statement, found.of(instance.name.bytes()))?;
+    let name = Text::copy(alloc, instance.name.bytes())?;
+    Ok(HInst { name, cell, props })
+}
+
+/// Adds the instances of a statement.
+fn add_statement(
+    alloc: Global,
+    cell: u32,
+    statement: &Instances,
+    found: &Groups<'_, &DefSet>,
+    made: &mut Seq<HInst>,
+) -> Result<(), NoMemory>
+    ensures added { OnOk result (made.new ≡ made.old ++ map (instance_by cell statement.now found.now) statement.now.insts) }
+{
+    for instance in statement.insts.items() {
+        let value = instance_of(alloc, cell, statement, found, instance)?;
+        made.push(value)?;
+    }
+    Ok(())
+}
+
+/// Adds the instances of an item.
+fn add_item(
+    alloc: Global,
+    names: &Names,
+    found: &Groups<'_, &DefSet>,
+    item: &ItemV,
+    made: &mut Seq<HInst>,
+) -> Result<(), NoMemory>
+    requires { length names.now < 2 ^ 32 }
+    ensures added { OnOk result (made.new ≡ made.old ++ flat_map (instances_by names.now found.now) (instance_statement item.now)) }
+{
+    match item {
+        ItemV::Instances(statement) => {
+            let cell = number_of(names, statement.module.bytes());
+            add_statement(alloc, cell, statement, found, made)?;
+            Ok(())
+        }
+        ItemV::Port(_) => Ok(()),
+        ItemV::Net(_) => Ok(()),
+        ItemV::Param(_) => Ok(()),
+        ItemV::Assign(_) => Ok(()),
+        ItemV::Defparam(_) => Ok(()),
+    }
+}
+
+/// Adds the instances of items.
+fn add_items(
+    alloc: Global,
+    names: &Names,
+    found: &Groups<'_, &DefSet>,
+    items: &[ItemV],
+    made: &mut Seq<HInst>,
+) -> Result<(), NoMemory>
+    requires { length names.now < 2 ^ 32 }
+    ensures added { OnOk result (made.new ≡ made.old ++ flat_map (instances_by names.now found.now) (flat_map instance_statement items.now)) }
+{
+    for item in items {
+        add_item(alloc, names, found, item, made)?;
+    }
+    Ok(())
+}
+
+/// The instances of a module. The names are those of the modules of the design.
+pub fn instances_made(alloc: Global, names: &Names, m: &Module) -> Result<Seq<HInst>, NoMemory>
+    requires few { length names.now < 2 ^ 32 }
+    ensures { IfOk result (λ made. (modules : List Module) → names.now ≡ map (λ m. m.name) modules → made ≡ module_instances modules m.now) }
+{
+    let found = sets_in(alloc, m)?;
+    let mut made = Seq::empty(alloc);
+    add_items(alloc, names, &found, m.items.items(), &mut made)?;
+    Ok(made)
+}

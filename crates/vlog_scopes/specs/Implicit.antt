@@ -1,0 +1,28 @@
+-- Nets without a declaration (IEEE 1364-2005, 4.5).
+use Rattle.std.specs.Prelude.{Bool, not, ◌&&◌, List, [], ◌∷◌, ◌++◌, map, filter, if◌then◌else◌}
+use Rattle.vlog_design.specs.Names.{Declaration, Name, Use, has_name, is_whole}
+
+-- the names that are declared
+abbrev pub declared_names : List Declaration → List Name
+declared_names = map (λ declaration. declaration.name)
+
+-- the names that are used
+abbrev pub used_names : List Use → List Name
+used_names = map (λ u. u.name)
+
+-- the names that are used without a select
+abbrev pub whole_names : List Use → List Name
+whole_names uses = used_names (filter (λ u. is_whole u.select) uses)
+
+-- a name that is not declared and stands whole
+abbrev pub is_net : List Name → List Name → Name → Bool
+is_net declared whole name = not (has_name declared name) && has_name whole name
+
+-- the name, where the test holds and it is not among these
+abbrev pub new_place : (Name → Bool) → List Name → Name → List Name
+new_place test before name = if test name && not (has_name before name) then name ∷ [] else []
+
+-- the names for which the test holds and that are not among these, each at its first place
+abbrev pub new_places : (Name → Bool) → List Name → List Name → List Name
+new_places test before [] = []
+new_places test before (name ∷ names) = new_place test before name ++ new_places test (before ++ new_place test before name) names

@@ -1,0 +1,4 @@
+pub mod Distinct
+pub mod Implicit
+pub mod Instances
+pub mod Ranged

@@ -1,0 +1,4 @@
+pub mod Bytes
+pub mod Expressions
+pub mod Decided
+pub mod Limited

@@ -1,0 +1,10 @@
+pub mod Broken
+pub mod Connected
+pub mod Counted
+pub mod Live
+pub mod ModuleLaws
+pub mod Narrow
+pub mod Places
+pub mod Ranges
+pub mod Spelled
+pub mod Valid

@@ -1,0 +1,154 @@
+// The joins of what is tied.
+ghost use Rattle.std.specs.Prelude.{◌≡◌, ◌++◌, ◌+◌, ◌≤◌, ◌<◌, ◌^◌, All, Some, flat_map, map, IfOk, OnOk};
+ghost use Rattle.std.specs.List.{range_with_len};
+ghost use Rattle.net_hier.specs.declared.nodes.Node.TheVariants.{Pin};
+ghost use Rattle.net_hier.specs.Cells.{width_of};
+ghost use Rattle.vlog_design.specs.Design.{module_joins, pairing_of_assign, slot_joins};
+ghost use Rattle.vlog_design.specs.Exprs.{literals, node_at};
+ghost use Rattle.vlog_design.specs.Numbers.{HasDigits, HasNumbers, first_number};
+ghost use Rattle.vlog_values.specs.Sizes.{module_size};
+ghost use Rattle.vlog_values.specs.Values.{IsModule};
+ghost use Rattle.vlog_ties.specs.Ties.{modules_in, pairing_joins, tie_joins, tie_literals};
+
+use crate::tie::Tie;
+use crate::ties::ties_of;
+use net_hier::{Join, Node};
+use nl_base::NoMemory;
+use std::alloc::Global;
+use vlog_design::bits::push_bits;
+use vlog_design::joins::push_joins;
+use vlog_design::names::Names;
+use vlog_design::signals::{Place, Slot};
+use vlog_design::table::Table;
+use vlog_design::widths::range_width;
+use vlog_rules::passes::Scope;
+use vlog_values::Expr;
+
+/// Adds the bits of a pin, from the left.
+fn push_pin_bits(
+    instance: u32,
+    port: u32,
+    width: u32,
+    out: &mut Vec<Option<Node>>,
+) -> Result<(), NoMemory>
+    ensures added { OnOk result (out.new.items ≡ out.old.items ++ map (λ bit. Some (Pin instance port bit)) (range_with_len 0 width)) }
+{
+    for bit in 0..width {
+        out.push(Some(Node::Pin {
+            instance,
+            port,
+            bit,
+        }))?;
+    }
+    Ok(())
+}
+
+/// The node of a bit of a port or net, by its position from the left.
+fn node(place: Place, bit: u32) -> Node
+    requires { first_number place + bit < 2 ^ 32 }
+    ensures { result ≡ node_at place bit }
+{
+    match place {
+        Place::AtPort(number) => Node::Port { port: number, bit },
+        Place::AtNet(first) => Node::Net(first as u32 + bit),
+    }
+}
+
+/// Adds the joins of each bit of a port or net to a constant.
+fn push_supply(slot: Slot, constant: Node, out: &mut Vec<Join>) -> Result<(), NoMemory>
+    requires { HasNumbers slot }
+    ensures added { OnOk result (out.new.items ≡ out.old.items ++ slot_joins constant slot) }
+{
+    let width = range_width(slot.range) as u32;
+    for bit in 0..width {
+        out.push(Join {
+            a: node(slot.place, bit),
+            b: constant,
+        })?;
+    }
+    Ok(())
+}
+
+/// Adds the joins of an assignment.
+fn push_assign(
+    alloc: Global,
+    table: &Table,
+    left: &Expr,
+    right: &Expr,
+    out: &mut Vec<Join>,
+) -> Result<(), NoMemory>
+    requires digits { All HasDigits (literals left.now ++ literals right.now) }
+    requires numbers { All (λ signal. HasNumbers signal.slot) table.now }
+    ensures added { OnOk result (out.new.items ≡ out.old.items ++ pairing_joins (pairing_of_assign table.now left.now right.now)) }
+{
+    let mut left_bits = Vec::new(alloc);
+    push_bits(alloc, table, left, &mut left_bits)?;
+    let mut right_bits = Vec::new(alloc);
+    push_bits(alloc, table, right, &mut right_bits)?;
+    push_joins(&left_bits, &right_bits, out)
+}
+
+/// Adds the joins of what is tied.
+fn push_tie(alloc: Global, table: &Table, tie: &Tie, out: &mut Vec<Join>) -> Result<(), NoMemory>
+    requires digits { All HasDigits (tie_literals tie.now) }
+    requires numbers { All (λ signal. HasNumbers signal.slot) table.now }
+    ensures added { OnOk result (out.new.items ≡ out.old.items ++ tie_joins table.now tie.now) }
+{
+    match *tie {
+        Tie::Pin {
+            instance: _,
+            number,
+            port: _,
+            port_number,
+            width,
+            value,
+        } => {
+            let mut pin_bits = Vec::new(alloc);
+            push_pin_bits(number, port_number, width, &mut pin_bits)?;
+            let mut value_bits = Vec::new(alloc);
+            push_bits(alloc, table, value, &mut value_bits)?;
+            push_joins(&pin_bits, &value_bits, out)
+        }
+        Tie::Assign { left, right } => push_assign(alloc, table, left, right, out),
+        Tie::Supply { name, constant } => match table.find(name) {
+            None => Ok(()),
+            Some(slot) => push_supply(slot, constant, out),
+        },
+    }
+}
+
+/// Adds the joins of ties.
+pub fn push_ties(
+    alloc: Global,
+    table: &Table,
+    ties: &[Tie],
+    out: &mut Vec<Join>,
+) -> Result<(), NoMemory>
+    requires digits { All HasDigits (flat_map tie_literals ties.now) }
+    requires numbers { All (λ signal. HasNumbers signal.slot) table.now }
+    ensures added { OnOk result (out.new.items ≡ out.old.items ++ flat_map (tie_joins table.now) ties.now) }
+{
+    for tie in ties {
+        push_tie(alloc, table, tie, out)?;
+    }
+    Ok(())
+}
+
+/// The joins of a module, where `scopes` are the modules below it and `names` their names.
+pub fn joins_of(
+    alloc: Global,
+    names: &Names,
+    scopes: &[Scope],
+    scope: &Scope,
+) -> Result<Vec<Join>, NoMemory>
+    requires named { names.now ≡ map (λ m. m.name) (modules_in scopes.now) }
+    requires small { module_size scope.now.module.now ≤ 268435456 }
+    requires valid { IsModule scope.now.module.now }
+    requires numbers { All (λ signal. HasNumbers signal.slot) scope.now.table }
+    ensures { IfOk result (λ joins. joins.items ≡ module_joins (modules_in scopes.now) scope.now.module.now) }
+{
+    let ties = ties_of(alloc, names, scopes, scope.module)?;
+    let mut joins = Vec::new(alloc);
+    push_ties(alloc, &scope.table, &ties, &mut joins)?;
+    Ok(joins)
+}
