@@ -22,6 +22,3 @@ pub use comment::read_comment;
 pub use cursor::Cursor;
 pub use find::find_keyword;
 pub use keyword::{Keyword, is_among, spelling};
-
-#[cfg(test)]
-mod tests;

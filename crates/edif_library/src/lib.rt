@@ -23,6 +23,3 @@ pub use file::{Design, DesignItem, EdifFile, FileItem, read_edif};
 pub use library::{Library, LibraryItem, Scale};
 pub use size::edif_size;
 pub use view::{ContentsItem, InterfaceItem, View, ViewItem};
-
-#[cfg(test)]
-mod tests;

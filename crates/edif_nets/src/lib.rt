@@ -15,6 +15,3 @@ pub use instance::{Instance, InstanceItem, read_instance};
 pub use net::{Net, NetItem, PortRef, read_net};
 pub use port::{Port, PortItem, read_designator, read_port};
 pub use port_direction::direction;
-
-#[cfg(test)]
-mod tests;

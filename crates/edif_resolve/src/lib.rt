@@ -19,6 +19,3 @@ mod scene;
 mod top;
 
 pub use answer::{ResolveError, resolve};
-
-#[cfg(test)]
-mod tests;

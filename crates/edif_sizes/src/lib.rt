@@ -11,6 +11,3 @@ pub mod laws;
 
 pub use file::read_sized_edif;
 pub use laws::size_within;
-
-#[cfg(test)]
-mod tests;

@@ -17,6 +17,3 @@ pub use note::{Note, read_note};
 pub use status::{Status, StatusItem, read_status};
 pub use user::{UserData, UserTree, read_user};
 pub use written::{Stamp, Written, WrittenItem};
-
-#[cfg(test)]
-mod tests;

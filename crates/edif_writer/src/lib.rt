@@ -21,6 +21,3 @@ pub mod string;
 pub mod value;
 
 pub use file::write_edif;
-
-#[cfg(test)]
-mod tests;

@@ -24,6 +24,3 @@ pub use fresh::fresh_name;
 pub use leaf::{constant_of, is_leaf};
 pub use names::Names;
 pub use steps::Steps;
-
-#[cfg(test)]
-mod tests;

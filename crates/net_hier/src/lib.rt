@@ -26,6 +26,3 @@ pub use constants::{ConstName, Constants};
 pub use fit::cells_fit;
 pub use hier::Hier;
 pub use nodes::{Join, Node};
-
-#[cfg(test)]
-mod tests;

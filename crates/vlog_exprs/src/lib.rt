@@ -25,6 +25,3 @@ pub use cursor::VCursor;
 pub use expr::{read_expr, read_expr_if_any};
 pub use glance::Glance;
 pub use start::{ConstStart, ExprStart};
-
-#[cfg(test)]
-mod tests;

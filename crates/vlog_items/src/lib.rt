@@ -18,6 +18,3 @@ pub mod parameter;
 pub use declaration::{read_more_names, read_port_kind, read_signed};
 pub use item::{ItemWord, read_item};
 pub use parameter::{read_param_set, read_param_type};
-
-#[cfg(test)]
-mod tests;

@@ -15,6 +15,3 @@ mod module;
 mod parameter;
 
 pub use file::read_vlog;
-
-#[cfg(test)]
-mod tests;

@@ -24,6 +24,3 @@ pub mod tokens;
 pub use keyword::is_keyword;
 pub use token::{VFound, VToken};
 pub use tokens::VTokens;
-
-#[cfg(test)]
-mod tests;

@@ -21,6 +21,3 @@ pub mod statement;
 pub mod string;
 
 pub use file::write_vlog;
-
-#[cfg(test)]
-mod tests;
