@@ -34,6 +34,8 @@ use std::process::ExitCode;
 use std::rt::Env;
 
 #[cfg(test)]
+mod checks;
+#[cfg(test)]
 mod tests;
 #[cfg(test)]
 mod texts;

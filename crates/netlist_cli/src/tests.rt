@@ -1,8 +1,8 @@
 use crate::run::run;
 use crate::status::Status;
 use crate::texts::{
-    ALIASED, BLINKER, BLINKER_WRITTEN, PARTS, PARTS_WRITTEN, RECURSIVE, SMALL, WIDE,
-    WITHOUT_DESIGN, WRITTEN,
+    ALIASED, BLINKER, BLINKER_MODULES, BLINKER_WRITTEN, CHAINED, CHAINED_WRITTEN, ESCAPED,
+    ESCAPED_WRITTEN, LITERALS, LITERALS_WRITTEN, PARTS, PARTS_WRITTEN, SMALL, WRITTEN,
 };
 use nl_base::{Seq, Text};
 use nl_io::{MemSink, MemSource};
@@ -15,26 +15,26 @@ const USAGE: &[u8] =
 /// What a run is given: a word, a text in one piece or byte by byte, the number of a take that fails, the room of the output, and whether
 /// the first put to errors fails.
 #[derive(Clone, Copy)]
-struct Given<'a> {
-    word: &'a [u8],
-    text: &'a [u8],
-    whole: bool,
-    failing_take: u64,
-    room: usize,
-    errors_fail: bool,
+pub struct Given<'a> {
+    pub word: &'a [u8],
+    pub text: &'a [u8],
+    pub whole: bool,
+    pub failing_take: u64,
+    pub room: usize,
+    pub errors_fail: bool,
 }
 
 /// What a run is to give: the status, what output and errors took, and how many bytes the input gave.
 #[derive(Clone, Copy)]
-struct Wanted<'a> {
-    status: u8,
-    output: &'a [u8],
-    errors: &'a [u8],
-    taken: u64,
+pub struct Wanted<'a> {
+    pub status: u8,
+    pub output: &'a [u8],
+    pub errors: &'a [u8],
+    pub taken: u64,
 }
 
 /// `format` on a text in one piece, with room enough and no failure.
-fn format_of(text: &[u8]) -> Given<'_> {
+pub fn format_of(text: &[u8]) -> Given<'_> {
     Given {
         word: b"format",
         text,
@@ -49,14 +49,6 @@ fn format_of(text: &[u8]) -> Given<'_> {
 fn vformat_of(text: &[u8]) -> Given<'_> {
     Given {
         word: b"vformat",
-        ..format_of(text)
-    }
-}
-
-/// `check` on a text in one piece, with room enough and no failure.
-fn check_of(text: &[u8]) -> Given<'_> {
-    Given {
-        word: b"check",
         ..format_of(text)
     }
 }
@@ -126,7 +118,7 @@ fn ends_from(
 }
 
 /// Whether a run gives what is wanted.
-fn ends_so(alloc: Global, given: &Given<'_>, wanted: &Wanted<'_>) -> Result<bool, Fail> {
+pub fn ends_so(alloc: Global, given: &Given<'_>, wanted: &Wanted<'_>) -> Result<bool, Fail> {
     let words = words_of(alloc, given.word)?;
     ends_from(alloc, given, &words, wanted)
 }
@@ -326,6 +318,13 @@ fn modules_are_written(rt: HostRuntime) -> Result<(), Fail> {
     for (text, written) in [
         (MODULE, MODULE_WRITTEN),
         (MODULE_WRITTEN, MODULE_WRITTEN),
+        (BLINKER_MODULES, BLINKER_MODULES),
+        (LITERALS, LITERALS_WRITTEN),
+        (LITERALS_WRITTEN, LITERALS_WRITTEN),
+        (CHAINED, CHAINED_WRITTEN),
+        (CHAINED_WRITTEN, CHAINED_WRITTEN),
+        (ESCAPED, ESCAPED_WRITTEN),
+        (ESCAPED_WRITTEN, ESCAPED_WRITTEN),
         (b"".as_slice(), b"".as_slice()),
     ] {
         assert_eq!(rt; is_written(rt.alloc(), &vformat_of(text), written)?, true);
@@ -357,38 +356,6 @@ fn faults_of_modules_are_told(rt: HostRuntime) -> Result<(), Fail> {
         (b"module m ((", b"fault 1:11 Unexpected\n"),
     ] {
         assert_eq!(rt; is_refused(rt.alloc(), &vformat_of(text), line)?, true);
-    }
-    Ok(())
-}
-
-/// Whether `check` ends with this status, and puts this text and this line.
-fn is_checked(
-    alloc: Global,
-    text: &[u8],
-    status: u8,
-    output: &[u8],
-    line: &[u8],
-) -> Result<bool, Fail> {
-    let wanted = Wanted {
-        status,
-        output,
-        errors: line,
-        taken: text.len() as u64,
-    };
-    ends_so(alloc, &check_of(text), &wanted)
-}
-
-#[test]
-fn files_are_checked(rt: HostRuntime) -> Result<(), Fail> {
-    for (text, status, output, line) in [
-        (SMALL, 0, b"ok\n".as_slice(), b"".as_slice()),
-        (BLINKER, 0, b"ok\n", b""),
-        (WITHOUT_DESIGN, 2, b"", b"refused E1 \"\"\n"),
-        (RECURSIVE, 2, b"", b"refused E13 \"top\" \"u\"\n"),
-        (WIDE, 2, b"", b"refused E12 \"top\" \"size\" \"p\"\n"),
-        (b"(edi", 1, b"", b"fault 1:2 UnknownWord edi\n"),
-    ] {
-        assert_eq!(rt; is_checked(rt.alloc(), text, status, output, line)?, true);
     }
     Ok(())
 }

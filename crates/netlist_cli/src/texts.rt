@@ -211,3 +211,129 @@ pub const RECURSIVE: &[u8] =
 /// A port that is one bit too wide.
 pub const WIDE: &[u8] =
     b"(edif t(edifVersion 2 0 0)(edifLevel 0)(keywordMap(keywordLevel 0))(library w(edifLevel 0)(technology(numberDefinition))(cell top(cellType GENERIC)(view v(viewType NETLIST)(interface(port(array p 65537)(direction INPUT))))))(design t(cellRef top(libraryRef w))))";
+
+/// Three cells, each with an instance of the next, and the last with one of the first.
+pub const CYCLE: &[u8] =
+    b"(edif t(edifVersion 2 0 0)(edifLevel 0)(keywordMap(keywordLevel 0))(library w(edifLevel 0)(technology(numberDefinition))(cell top(cellType GENERIC)(view v(viewType NETLIST)(interface)(contents(instance u1(viewRef v(cellRef b))))))(cell b(cellType GENERIC)(view v(viewType NETLIST)(interface)(contents(instance u2(viewRef v(cellRef c))))))(cell c(cellType GENERIC)(view v(viewType NETLIST)(interface)(contents(instance u3(viewRef v(cellRef top)))))))(design t(cellRef top(libraryRef w))))";
+
+/// An instance whose name has a blank.
+pub const SPACED: &[u8] =
+    b"(edif t(edifVersion 2 0 0)(edifLevel 0)(keywordMap(keywordLevel 0))(library w(edifLevel 0)(technology(numberDefinition))(cell INV(cellType GENERIC)(view v(viewType NETLIST)(interface(port I(direction INPUT))(port O(direction OUTPUT)))))(cell top(cellType GENERIC)(view v(viewType NETLIST)(interface)(contents(instance(rename u \"my cell\")(viewRef v(cellRef INV)))))))(design t(cellRef top(libraryRef w))))";
+
+/// A reference to an instance that two are alike to up to case.
+pub const SEVERAL: &[u8] =
+    b"(edif t(edifVersion 2 0 0)(edifLevel 0)(keywordMap(keywordLevel 0))(library w(edifLevel 0)(technology(numberDefinition))(cell INV(cellType GENERIC)(view v(viewType NETLIST)(interface(port I(direction INPUT))(port O(direction OUTPUT)))))(cell top(cellType GENERIC)(view v(viewType NETLIST)(interface(port clk(direction INPUT)))(contents(instance Ab(viewRef v(cellRef INV)))(instance aB(viewRef v(cellRef INV)))(net n(joined(portRef CLK)(portRef I(instanceRef ab))))))))(design t(cellRef top(libraryRef w))))";
+
+/// A reference to an array port without a member.
+pub const WHOLE_ARRAY: &[u8] =
+    b"(edif t(edifVersion 2 0 0)(edifLevel 0)(keywordMap(keywordLevel 0))(library w(edifLevel 0)(technology(numberDefinition))(cell B4(cellType GENERIC)(view v(viewType NETLIST)(interface(port(array(rename D \"D[3:0]\")4)(direction INPUT))(port E(direction INPUT)))))(cell top(cellType GENERIC)(view v(viewType NETLIST)(interface(port a(direction INPUT))(port b(direction INPUT)))(contents(instance u(viewRef v(cellRef B4)))(net na(joined(portRef a)(portRef D(instanceRef u))))(net nb(joined(portRef b)(portRef(member D 2)(instanceRef u))))))))(design t(cellRef top(libraryRef w))))";
+
+/// A reference to a member that an array port does not have.
+pub const NO_BIT: &[u8] =
+    b"(edif t(edifVersion 2 0 0)(edifLevel 0)(keywordMap(keywordLevel 0))(library w(edifLevel 0)(technology(numberDefinition))(cell B4(cellType GENERIC)(view v(viewType NETLIST)(interface(port(array(rename D \"D[3:0]\")4)(direction INPUT))(port E(direction INPUT)))))(cell top(cellType GENERIC)(view v(viewType NETLIST)(interface(port a(direction INPUT))(port b(direction INPUT)))(contents(instance u(viewRef v(cellRef B4)))(net na(joined(portRef a)(portRef(member D 4)(instanceRef u))))(net nb(joined(portRef b)(portRef(member D 2)(instanceRef u))))))))(design t(cellRef top(libraryRef w))))";
+
+/// A file of one cell up to the ports in its interface.
+pub const WIDE_HEAD: &[u8] =
+    b"(edif t(edifVersion 2 0 0)(edifLevel 0)(keywordMap(keywordLevel 0))(library w(edifLevel 0)(technology(numberDefinition))(cell top(cellType GENERIC)(view v(viewType NETLIST)(interface";
+
+/// What stands behind these ports.
+pub const WIDE_END: &[u8] = b"))))(design t(cellRef top(libraryRef w))))";
+
+/// The modules of the file that a synthesis program writes, as they are written.
+pub const BLINKER_MODULES: &[u8] = b"module FDRE (
+  output Q,
+  input C,
+  input D
+);
+endmodule
+module LUT1 (
+  output O,
+  input I0
+);
+endmodule
+(* part = \"xc7\" *)
+module blinker (
+  input clk,
+  output [3:0] q
+);
+  wire d;
+  (* INIT = \"1'b0\" *) FDRE \\q_reg[0]  (.Q(q[0]), .C(clk), .D(d));
+  (* INIT = \"2'h1\", DONT_TOUCH = 1'b1 *) LUT1 lut (.O(d), .I0(q[0]));
+endmodule
+";
+
+/// Replications, concatenations, literals and a supply net.
+pub const LITERALS: &[u8] = b"module AND4 (input [3:0] A, output Y); endmodule
+module top (input [1:0] b, input c, output y, output z);
+  supply0 g;
+  AND4 u (.A({2{b[1:0]}}), .Y(y));
+  AND4 v (.A({{c, g}, 2 'b 1x}), .Y(z));
+endmodule
+";
+
+/// The same file as it is written.
+pub const LITERALS_WRITTEN: &[u8] = b"module AND4 (
+  input [3:0] A,
+  output Y
+);
+endmodule
+module top (
+  input [1:0] b,
+  input c,
+  output y,
+  output z
+);
+  supply0 g;
+  AND4 u (.A({2{b[1:0]}}), .Y(y));
+  AND4 v (.A({{c, g}, 2'b1x}), .Y(z));
+endmodule
+";
+
+/// Nets with attributes, each assigned from the one before.
+pub const CHAINED: &[u8] =
+    b"module m (input a, output y); (* src = \"f:1\" *) wire p; (* src = \"f:2\" *) wire q; assign p = a; assign q = p; assign y = q; endmodule";
+
+/// The same file as it is written.
+pub const CHAINED_WRITTEN: &[u8] = b"module m (
+  input a,
+  output y
+);
+  (* src = \"f:1\" *) wire p;
+  (* src = \"f:2\" *) wire q;
+  assign p = a;
+  assign q = p;
+  assign y = q;
+endmodule
+";
+
+/// Escaped names, of which one needs no escape.
+pub const ESCAPED: &[u8] = b"module m (input [1:0] a, output y);
+  wire \\a[0] , \\wire , cpu;
+  assign \\a[0]  = a[0];
+  assign \\wire  = \\cpu ;
+  assign cpu = a[1], y = \\wire ;
+endmodule
+";
+
+/// The same file as it is written.
+pub const ESCAPED_WRITTEN: &[u8] = b"module m (
+  input [1:0] a,
+  output y
+);
+  wire \\a[0] , \\wire , cpu;
+  assign \\a[0]  = a[0];
+  assign \\wire  = cpu;
+  assign cpu = a[1], y = \\wire ;
+endmodule
+";
+
+/// A file up to the contents of the view of its cell t, which stands after the cell l.
+pub const UP_TO_CONTENTS: &[u8] =
+    b"(edif a(edifVersion 2 0 0)(edifLevel 0)(keywordMap(keywordLevel 0))
+(library w(edifLevel 0)(technology(numberDefinition))
+(cell l(cellType GENERIC)(view v(viewType NETLIST)(interface(port p(direction INPUT))(port(array q 2)(direction OUTPUT)))))
+(cell t(cellType GENERIC)(view v(viewType NETLIST)(interface(port p(direction INPUT)))(contents";
+
+/// From the end of that cell to the end of its library, with a cell that no instance is of, and that breaks a rule.
+pub const UP_TO_DESIGNS: &[u8] =
+    b")))(cell u(cellType GENERIC)(view v(viewType NETLIST)(interface)(contents(instance i(viewRef v(cellRef x)))))))";
