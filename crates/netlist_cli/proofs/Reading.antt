@@ -1,5 +1,5 @@
 -- What a command does that reads its whole input as a text of a language and writes a text of the value.
-use Rattle.std.proofs.Common.{◌≡◌, ℕ, List, [], IfSome, Result, Ok, Err, refl}
+use Rattle.std.proofs.Common.{◌≡◌, ℕ, List, [], Option, Some, IfSome, Result, Ok, Err, refl, sym, subst}
 use Rattle.grammar.specs.Whole.{whole, IsFirstFault, IsCut}
 use Rattle.nl_base.specs.declared.fault.Reason.{Reason}
 use Rattle.nl_base.specs.declared.fault.ReadError.{ReadError}
@@ -26,9 +26,11 @@ use Rattle.netlist_cli.specs.declared.command.Command.TheVariants as commands
 use Rattle.netlist_cli.specs.declared.failure.Failure.{Failure}
 use Rattle.netlist_cli.specs.declared.failure.Failure.TheVariants as failures
 use Rattle.netlist_cli.specs.Statuses.{failure_of}
-use Rattle.edif_library.specs.Text.{EdifReads}
-use Rattle.netlist_cli.specs.Outcomes.{written, faulty, too_long, IsText, Gives, IsGood, Approves, Breaks, Exceeds, ok_text}
-use Rattle.netlist_cli.specs.Runs.{PutsText, TakesFrom, Checks, Does}
+use Rattle.edif_design.specs.FileRules.{first_E}
+use Rattle.net_hier.specs.declared.cells.HCell.{HCell}
+use Rattle.nl_base.specs.declared.rule.Refusal.{Refusal}
+use Rattle.netlist_cli.specs.Outcomes.{written, faulty, too_long, refused, too_big, IsText, Gives, IsGood, IsTooBig, edif_cells, vlog_first, vlog_cells, ok_text}
+use Rattle.netlist_cli.specs.Runs.{PutsText, TakesFrom, Judges, Answers, Does}
 use Rattle.netlist_cli.proofs.Told.{if_told}
 
 module _ {K X V : Type 0} (L : Language X) (trail : X → Reason) (k : K) (part : PartOf K X V) where
@@ -75,6 +77,49 @@ module _ {K X V O : Type 0} (L : Language X) (trail : X → Reason) (k : K) (par
   text_is_refused refuses errors.NoMemory h s = (tt, s)
   text_is_refused refuses errors.Spent h s = absurd (h.never_spent refl)
 
+-- What the command says of a file that was read is what is said of the file: its first refusal, or the units of its design.
+record Checks {K X V : Type 0} (L : Language X) (trail : X → Reason) (k : K) (part : PartOf K X V) (first : V → Option Refusal) (cells : V → List HCell) (c : Command) : Type 0 where
+  is_text : IsText c ok_text
+  of_good : (bs : List ℕ) (v : V) → SpellsText L trail k part bs v → IsGood first cells v → Gives c bs (written ok_text)
+  of_refusal : (bs : List ℕ) (v : V) (r : Refusal) → SpellsText L trail k part bs v → first v ≡ Some r → Gives c bs (refused r)
+  of_units : (bs : List ℕ) (v : V) (n : ℕ) → SpellsText L trail k part bs v → IsTooBig first cells v n → Gives c bs (too_big n)
+
+module _ {K X V O : Type 0} (L : Language X) (trail : X → Reason) (k : K) (part : PartOf K X V) (first : V → Option Refusal) (cells : V → List HCell) (c : Command) (checks : Checks L trail k part first cells c)
+    (taken : O → List ℕ → Type 0) (accepts : O → ℕ → Type 0) (faults : O → ℕ) (i j : Supply) (old new : O) (v : V) where
+  -- what is known of the bytes by the file that they read as
+  known : (P : List ℕ → Type 0) → ReadsText L trail k same part (Ok v) i j → ((bs : List ℕ) → SpellsText L trail k part bs v → P bs) → IfSome i.left P
+  known P h all = if_told i.left (λ bs. SpellsText L trail k part bs v) P h.value all
+
+  good_is_told : (r : Result (Unit {0}) Failed) → ReadsText L trail k same part (Ok v) i j → IsGood first cells v → Writes taken accepts faults old new ok_text r → PutsText taken accepts faults c i j old new r
+  good_is_told r h good w = record {
+    text = ok_text;
+    is_text = checks.is_text;
+    gives = known (λ bs. Gives c bs (written ok_text)) h (λ bs reads. checks.of_good bs v reads good);
+    ended = h.ended;
+    put = w;
+  }
+
+  failure_is_told : (f : Failure) → ReadsText L trail k same part (Ok v) i j → Judges first cells v (Err f) → new ≡ old → Does taken accepts faults c i j old new (Err f)
+  failure_is_told (failures.Refused r) h judged s = (known (λ bs. Gives c bs (refused r)) h (λ bs reads. checks.of_refusal bs v r reads judged), s)
+  failure_is_told (failures.DesignLimit n) h judged s = (known (λ bs. Gives c bs (too_big n)) h (λ bs reads. checks.of_units bs v n reads judged), s)
+  failure_is_told failures.NoMemory h judged s = (tt, s)
+  failure_is_told failures.WriteFault h judged s = absurd judged
+  failure_is_told (failures.Text f) h judged s = absurd judged
+  failure_is_told failures.ReadFault h judged s = absurd judged
+  failure_is_told failures.Usage h judged s = absurd judged
+  failure_is_told failures.InputLimit h judged s = absurd judged
+
+  -- what is said of a file that was read is answered
+  judgement_is_told : (judged result : Result (Unit {0}) Failure) → ReadsText L trail k same part (Ok v) i j → Judges first cells v judged → Answers taken accepts faults judged old new result
+      → Does taken accepts faults c i j old new result
+  judgement_is_told (Ok u) (Ok w) h good told = good_is_told (Ok tt) h good told
+  judgement_is_told (Ok u) (Err f) h good told =
+      let broke : Does taken accepts faults c i j old new (Err failures.WriteFault) = (told.1.0, good_is_told (Err told.1.0) h good told.1.1) in
+      subst (λ (z : Failure). Does taken accepts faults c i j old new (Err z)) (sym told.0) broke
+  judgement_is_told (Err f) result h judged told =
+      let failed = failure_is_told f h judged told.1 in
+      subst (λ (z : Result (Unit {0}) Failure). Does taken accepts faults c i j old new z) (sym told.0) failed
+
 -- ---- EDIF
 
 format_speaks : Speaks edif trailing [] (file []) edif_text commands.Format
@@ -88,6 +133,14 @@ format_refuses = record { of_fault = λ bs f h. h; of_cut = λ bs h. h }
 
 check_refuses : Refuses edif trailing [] (file []) commands.Check
 check_refuses = record { of_fault = λ bs f h. h; of_cut = λ bs h. h }
+
+check_checks : Checks edif trailing [] (file []) first_E edif_cells commands.Check
+check_checks = record {
+  is_text = refl;
+  of_good = λ bs v h good. record { file = v; reads_as = h; good = good; is_text = refl };
+  of_refusal = λ bs v r h e. record { file = v; reads_as = h; is_first = e };
+  of_units = λ bs v n h big. record { file = v; reads_as = h; too_big = big };
+}
 
 pub file_takes : (i j : Supply) (r : Result EdifFile ReadError) → ReadsText edif trailing [] same (file []) r i j → TakesFrom i j
 file_takes = text_takes edif trailing [] (file [])
@@ -103,26 +156,9 @@ module _ {O : Type 0} (taken : O → List ℕ → Type 0) (accepts : O → ℕ �
   pub check_is_refused : (e : ReadError) → ReadsText edif trailing [] same (file []) (Err e) i j → new ≡ old → Does taken accepts faults commands.Check i j old new (Err (failure_of e))
   check_is_refused = text_is_refused edif trailing [] (file []) commands.Check taken accepts faults i j old new check_refuses
 
-  -- what is said of a file that was read
-  approved : (v : EdifFile) (r : Result (Unit {0}) Failed) → ReadsText edif trailing [] same (file []) (Ok v) i j → IsGood v → Writes taken accepts faults old new ok_text r → PutsText taken accepts faults commands.Check i j old new r
-  approved v r h good w = record {
-    text = ok_text;
-    is_text = refl;
-    gives = if_told i.left (λ bs. EdifReads bs v) (λ bs. Approves bs ok_text) h.value (λ bs reads. record { file = v; reads = reads; good = good; is_text = refl });
-    ended = h.ended;
-    put = w;
-  }
-
-  pub file_is_checked : (v : EdifFile) (r : Result (Unit {0}) Failure) → ReadsText edif trailing [] same (file []) (Ok v) i j → Checks taken accepts faults v old new r → Does taken accepts faults commands.Check i j old new r
-  file_is_checked v (Ok u) h k = approved v (Ok tt) h k.0 k.1
-  file_is_checked v (Err failures.WriteFault) h k = (k.1.0, approved v (Err k.1.0) h k.0 k.1.1)
-  file_is_checked v (Err (failures.Refused r)) h k = (if_told i.left (λ bs. EdifReads bs v) (λ bs. Breaks bs r) h.value (λ bs reads. record { file = v; reads = reads; first = k.0 }), k.1)
-  file_is_checked v (Err (failures.DesignLimit n)) h k = (if_told i.left (λ bs. EdifReads bs v) (λ bs. Exceeds bs n) h.value (λ bs reads. record { file = v; reads = reads; too_big = k.0 }), k.1)
-  file_is_checked v (Err failures.NoMemory) h k = (tt, k)
-  file_is_checked v (Err (failures.Text f)) h k = absurd k
-  file_is_checked v (Err failures.ReadFault) h k = absurd k
-  file_is_checked v (Err failures.Usage) h k = absurd k
-  file_is_checked v (Err failures.InputLimit) h k = absurd k
+  pub file_is_checked : (v : EdifFile) (judged result : Result (Unit {0}) Failure) → ReadsText edif trailing [] same (file []) (Ok v) i j → Judges first_E edif_cells v judged → Answers taken accepts faults judged old new result
+      → Does taken accepts faults commands.Check i j old new result
+  file_is_checked = judgement_is_told edif trailing [] (file []) first_E edif_cells commands.Check check_checks taken accepts faults i j old new
 
 -- ---- Verilog
 
@@ -144,3 +180,23 @@ module _ {O : Type 0} (taken : O → List ℕ → Type 0) (accepts : O → ℕ �
 
   pub modules_are_refused : (e : ReadError) → ReadsText vlog verilog.trailing tt same modules.file (Err e) i j → new ≡ old → Does taken accepts faults commands.Vformat i j old new (Err (failure_of e))
   modules_are_refused = text_is_refused vlog verilog.trailing tt modules.file commands.Vformat taken accepts faults i j old new vformat_refuses
+
+module _ {O : Type 0} (top : List ℕ) (taken : O → List ℕ → Type 0) (accepts : O → ℕ → Type 0) (faults : O → ℕ) (i j : Supply) (old new : O) where
+  top_refuses : Refuses vlog verilog.trailing tt modules.file (commands.CheckTop top)
+  top_refuses = record { of_fault = λ bs f h. h; of_cut = λ bs h. h }
+
+  top_checks : Checks vlog verilog.trailing tt modules.file (vlog_first top) (vlog_cells top) (commands.CheckTop top)
+  top_checks = record {
+    is_text = refl;
+    of_good = λ bs v h good. record { file = v; reads_as = h; good = good; is_text = refl };
+    of_refusal = λ bs v r h e. record { file = v; reads_as = h; is_first = e };
+    of_units = λ bs v n h big. record { file = v; reads_as = h; too_big = big };
+  }
+
+  -- modules that are to be checked are not read
+  pub top_is_refused : (e : ReadError) → ReadsText vlog verilog.trailing tt same modules.file (Err e) i j → new ≡ old → Does taken accepts faults (commands.CheckTop top) i j old new (Err (failure_of e))
+  top_is_refused = text_is_refused vlog verilog.trailing tt modules.file (commands.CheckTop top) taken accepts faults i j old new top_refuses
+
+  pub top_is_checked : (v : VlogFile) (judged result : Result (Unit {0}) Failure) → ReadsText vlog verilog.trailing tt same modules.file (Ok v) i j → Judges (vlog_first top) (vlog_cells top) v judged
+      → Answers taken accepts faults judged old new result → Does taken accepts faults (commands.CheckTop top) i j old new result
+  top_is_checked = judgement_is_told vlog verilog.trailing tt modules.file (vlog_first top) (vlog_cells top) (commands.CheckTop top) top_checks taken accepts faults i j old new

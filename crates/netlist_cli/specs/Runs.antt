@@ -13,10 +13,9 @@ use Rattle.netlist_cli.specs.declared.status.Status.{Status}
 use Rattle.netlist_cli.specs.declared.status.Status.TheVariants as statuses
 use Rattle.netlist_cli.specs.Statuses.{status_of}
 use Rattle.netlist_cli.specs.Lines.{line}
-use Rattle.edif_library.specs.declared.file.EdifFile.{EdifFile}
-use Rattle.edif_design.specs.FileRules.{first_E}
-use Rattle.edif_resolve.specs.Answers.{IsTooBigFor}
-use Rattle.netlist_cli.specs.Outcomes.{Outcome, IsGood, ok_text, written, faulty, too_long, refused, too_big, status_due, IsWriting, IsText, Gives}
+use Rattle.nl_base.specs.declared.rule.Refusal.{Refusal}
+use Rattle.net_hier.specs.declared.cells.HCell.{HCell}
+use Rattle.netlist_cli.specs.Outcomes.{Outcome, IsGood, IsTooBig, ok_text, written, faulty, too_long, refused, too_big, status_due, IsWriting, IsText, Gives}
 
 -- The input was read to its end, and this is how the writing of the text that the command makes of it went.
 pub record PutsText {O : Type 0} (taken : O → List ℕ → Type 0) (accepts : O → ℕ → Type 0) (faults : O → ℕ) (c : Command) (i j : Supply) (old new : O) (result : Result (Unit {0}) Failed) : Type 0 where
@@ -96,14 +95,19 @@ Does taken accepts faults c i j old new (Ok u) = WroteText taken accepts faults 
 Does taken accepts faults c i j old new (Err failures.WriteFault) = BrokeOff taken accepts faults c i j old new
 Does taken accepts faults c i j old new (Err f) = IsCause c i j f × (new ≡ old)
 
--- What is done with the output for a file that was read to be checked.
-abbrev pub Checks : {O : Type 0} → (O → List ℕ → Type 0) → (O → ℕ → Type 0) → (O → ℕ) → EdifFile → O → O → Result (Unit {0}) Failure → Type 0
-Checks taken accepts faults file old new (Ok u) = IsGood file × Writes taken accepts faults old new ok_text (Ok tt)
-Checks taken accepts faults file old new (Err failures.WriteFault) = IsGood file × ((e : Failed) × Writes taken accepts faults old new ok_text (Err e))
-Checks taken accepts faults file old new (Err (failures.Refused r)) = (first_E file ≡ Some r) × (new ≡ old)
-Checks taken accepts faults file old new (Err (failures.DesignLimit n)) = IsTooBigFor file n × (new ≡ old)
-Checks taken accepts faults file old new (Err failures.NoMemory) = new ≡ old
-Checks taken accepts faults file old new (Err f) = ⊥
+-- What is said of a file that was read to be checked, by its first refusal and by the cells of its design.
+abbrev pub Judges : {V : Type 0} → (V → Option Refusal) → (V → List HCell) → V → Result (Unit {0}) Failure → Type 0
+Judges first cells file (Ok u) = IsGood first cells file
+Judges first cells file (Err (failures.Refused r)) = first file ≡ Some r
+Judges first cells file (Err (failures.DesignLimit n)) = IsTooBig first cells file n
+Judges first cells file (Err failures.NoMemory) = ⊤
+Judges first cells file (Err f) = ⊥
+
+-- What is done with the output for what is said of a file: `ok` is put where nothing is wrong with it.
+abbrev pub Answers : {O : Type 0} → (O → List ℕ → Type 0) → (O → ℕ → Type 0) → (O → ℕ) → Result (Unit {0}) Failure → O → O → Result (Unit {0}) Failure → Type 0
+Answers taken accepts faults (Ok u) old new (Ok w) = Writes taken accepts faults old new ok_text (Ok tt)
+Answers taken accepts faults (Ok u) old new (Err f) = (f ≡ failures.WriteFault) × ((e : Failed) × Writes taken accepts faults old new ok_text (Err e))
+Answers taken accepts faults (Err f) old new result = (result ≡ Err f) × (new ≡ old)
 
 -- What is done for the command that the words have, if any.
 abbrev pub Performs : {S O : Type 0} → (O → List ℕ → Type 0) → (O → ℕ → Type 0) → (O → ℕ) → (S → Supply) → Option Command → S → S → O → O → Result (Unit {0}) Failure → Type 0

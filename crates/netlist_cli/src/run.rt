@@ -2,9 +2,9 @@ ghost use Rattle.std.specs.Prelude.{◌≡◌, ◌≢◌, ◌↔◌, Ok, Err, So
 ghost use Rattle.nl_io.specs.Causes.{Rose};
 ghost use Rattle.readers.specs.Sources.{supply};
 ghost use Rattle.netlist_cli.specs.Commands.{command};
-ghost use Rattle.netlist_cli.specs.Runs.{BrokeOff, FitsBytes, IsDecided, Performs, TakesFrom, TellsFailure, WroteText};
+ghost use Rattle.netlist_cli.specs.Runs.{BrokeOff, Does, FitsBytes, IsDecided, Performs, TakesFrom, TellsFailure, WroteText};
 
-use crate::checking::check;
+use crate::checking::{check, check_top};
 use crate::command::Command;
 use crate::failure::Failure;
 use crate::formatting::{format, vformat};
@@ -13,6 +13,24 @@ use crate::status::Status;
 use nl_base::{Seq, Text};
 use nl_io::{Sink, Source};
 use std::alloc::Global;
+
+/// Carries out a command.
+fn carry_out<S: Source, O: Sink>(
+    alloc: Global,
+    command: &Command,
+    input: &mut S,
+    output: &mut O,
+) -> Result<(), Failure>
+    ensures does { Does O.taken O.accepts O.faults command.now (supply S.left S.faults input.old) (supply S.left S.faults input.new) output.old output.new result }
+    ensures taken { TakesFrom (supply S.left S.faults input.old) (supply S.left S.faults input.new) }
+{
+    match command {
+        Command::Format => format(alloc, input, output),
+        Command::Vformat => vformat(alloc, input, output),
+        Command::Check => check(alloc, input, output),
+        Command::CheckTop(top) => check_top(alloc, top, input, output),
+    }
+}
 
 /// Does what the words ask for.
 fn perform<S: Source, O: Sink>(
@@ -24,10 +42,15 @@ fn perform<S: Source, O: Sink>(
     ensures performs { Performs O.taken O.accepts O.faults (supply S.left S.faults) (command words.now) input.old input.new output.old output.new result }
     ensures taken { TakesFrom (supply S.left S.faults input.old) (supply S.left S.faults input.new) }
 {
-    match Command::of(words) {
-        Some(Command::Format) => format(alloc, input, output),
-        Some(Command::Vformat) => vformat(alloc, input, output),
-        Some(Command::Check) => check(alloc, input, output),
+    let asked = match Command::of(alloc, words) {
+        Ok(asked) => asked,
+        Err(_) => return Err(Failure::NoMemory),
+    };
+    match asked {
+        Some(command) => {
+            let result = carry_out(alloc, &command, input, output);
+            result
+        }
         None => Err(Failure::Usage),
     }
 }

@@ -4,7 +4,7 @@ use Rattle.netlist_cli.proofs.checking.check.Goals as goal
 
 pub returns-in-Ok : goal.returns-in-Ok
 returns-in-Ok g c = record {
-  does = file_is_checked _ _ _ _ _ _ _ c.in-Ok.file _ (rw c.in-Ok.is at c.read_sized_edif.ensures.reads) c.check_file-result.ensures;
+  does = file_is_checked _ _ _ _ _ _ _ c.in-Ok.file c.judge-judged.result _ (rw c.in-Ok.is at c.read_sized_edif.ensures.reads) c.judge-judged.ensures c.answer-result.ensures;
   taken = file_takes _ _ c.read_sized_edif.result c.read_sized_edif.ensures.reads;
 }
 

@@ -4,3 +4,6 @@ use Rattle.netlist_cli.proofs.run.perform.Goals as goal
 
 pub returns-in-None-clause-taken : goal.returns-in-None-clause-taken
 returns-in-None-clause-taken g c = takes_none (supply g.S.Source.left g.S.Source.faults c.args.input.now)
+
+pub returns-in-Err-clause-taken : goal.returns-in-Err-clause-taken
+returns-in-Err-clause-taken g c = takes_none (supply g.S.Source.left g.S.Source.faults c.args.input.now)
