@@ -1,5 +1,5 @@
 -- How a run ends, from what was done with the input and the output.
-use Rattle.std.proofs.Common.{◌≡◌, ◌≢◌, ◌⊎◌, ◌↔◌, inl, inr, ℕ, List, Option, Some, None, IfSome, Result, Ok, Err, refl, sym, ap, ◌∙◌, subst, arith}
+use Rattle.std.proofs.Common.{◌≡◌, ◌≢◌, ◌↔◌, inl, inr, ℕ, List, Option, Some, None, IfSome, Result, Ok, Err, refl, sym, ap, ◌∙◌, subst, arith}
 use Rattle.nl_io.specs.Causes.{Rose}
 use Rattle.readers.specs.Sources.{Supply, supply}
 use Rattle.readers.proofs.Moving.{skip_none}
@@ -11,7 +11,7 @@ use Rattle.netlist_cli.specs.declared.status.Status.TheVariants as statuses
 use Rattle.netlist_cli.specs.Statuses.{status_of}
 use Rattle.netlist_cli.specs.Lines.{line}
 use Rattle.netlist_cli.specs.Outcomes.{Outcome, written, faulty, too_long, refused, too_big, status_due, IsWriting, Gives}
-use Rattle.netlist_cli.specs.Runs.{PutsText, WroteText, BrokeOff, IsCause, Fails, IsTold, TakesFrom, TellsFailure, FitsOutcome, FitsBytes, IsDecided, Does, Performs}
+use Rattle.netlist_cli.specs.Runs.{WroteText, BrokeOff, IsCause, Fails, IsTold, TakesFrom, TellsFailure, FitsBytes, IsDecided, Does, Performs}
 use Rattle.netlist_cli.proofs.Told.{if_told, any_told}
 use Rattle.netlist_cli.proofs.Results.{one_outcome}
 

@@ -1,10 +1,9 @@
 -- The texts of a line, part by part.
-use Rattle.std.proofs.Common.{◌≡◌, ℕ, List, ◌++◌, Option, Some, None, refl, codes}
+use Rattle.std.proofs.Common.{◌≡◌, ℕ, List, ◌++◌, Some, None, refl, codes}
 use Rattle.nl_base.specs.Faults.{reason_name, reason_word}
 use Rattle.nl_base.specs.declared.fault.Reason.{Reason}
 use Rattle.nl_output.specs.Writing.{State, Puts}
-use Rattle.netlist_cli.specs.Lines.{reason_then, word_then, line, message_then}
-use Rattle.netlist_cli.specs.declared.failure.Failure.{Failure}
+use Rattle.netlist_cli.specs.Lines.{reason_then}
 
 -- what a text is may be said in another way
 pub puts_same : (f g : List ℕ → List ℕ) (s t : State) → ((rest : List ℕ) → f rest ≡ g rest) → Puts g s t → Puts f s t

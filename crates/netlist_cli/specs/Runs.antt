@@ -1,5 +1,5 @@
 -- What a run has done, by the status with which it ends.
-use Rattle.std.specs.Prelude.{◌≡◌, ◌≢◌, ◌⊎◌, ℕ, ◌+◌, ◌≤◌, List, Option, Some, None, Result, Ok, Err, IfSome, ⊤}
+use Rattle.std.specs.Prelude.{◌≡◌, ◌⊎◌, ℕ, ◌+◌, ◌≤◌, List, Option, Some, None, Result, Ok, Err, IfSome, ⊤}
 use Rattle.std.specs.Io.KnownBytes.{IsAtEnd}
 use Rattle.nl_base.specs.declared.fault.TextFault.{TextFault}
 use Rattle.nl_io.specs.Causes.{Rose}

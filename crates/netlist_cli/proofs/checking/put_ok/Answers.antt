@@ -1,4 +1,4 @@
-use Rattle.std.proofs.Common.{◌++◌, List, ℕ}
+use Rattle.std.proofs.Common.{◌++◌}
 use Rattle.nl_output.specs.Writing.{state}
 use Rattle.nl_output.proofs.Whole.{writes_whole}
 use Rattle.netlist_cli.specs.Outcomes.{ok_text}

@@ -1,5 +1,4 @@
 use Rattle.std.proofs.Common.{refl}
-use Rattle.readers.specs.Sources.{supply}
 use Rattle.netlist_cli.proofs.Reading.{file_is_written, file_is_refused, file_takes}
 use Rattle.netlist_cli.proofs.formatting.format.Goals as goal
 

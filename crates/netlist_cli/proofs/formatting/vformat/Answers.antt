@@ -1,5 +1,4 @@
 use Rattle.std.proofs.Common.{refl}
-use Rattle.readers.specs.Sources.{supply}
 use Rattle.netlist_cli.proofs.Reading.{modules_are_written, modules_are_refused, modules_take}
 use Rattle.netlist_cli.proofs.formatting.vformat.Goals as goal
 

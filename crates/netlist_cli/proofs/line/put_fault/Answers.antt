@@ -1,4 +1,4 @@
-use Rattle.std.proofs.Common.{◌++◌, List, ℕ, codes}
+use Rattle.std.proofs.Common.{◌++◌, codes}
 use Rattle.std.specs.Fmt.{decimal}
 use Rattle.netlist_cli.specs.Lines.{fault_then, reason_then}
 use Rattle.netlist_cli.proofs.line.put_fault.Goals as goal

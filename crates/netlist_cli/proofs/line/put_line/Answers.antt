@@ -1,5 +1,5 @@
-use Rattle.std.proofs.Common.{◌++◌, List, ℕ, [], codes}
-use Rattle.nl_output.specs.Writing.{state, Writes}
+use Rattle.std.proofs.Common.{◌++◌, codes}
+use Rattle.nl_output.specs.Writing.{state}
 use Rattle.nl_output.proofs.Whole.{writes_whole}
 use Rattle.netlist_cli.specs.Lines.{line, message_then}
 use Rattle.netlist_cli.proofs.line.put_line.Goals as goal

@@ -1,6 +1,5 @@
-use Rattle.std.proofs.Common.{◌++◌, List, ℕ, codes}
-use Rattle.nl_output.specs.Writing.{state}
-use Rattle.netlist_cli.proofs.Lines.{puts_same, puts_then, reason_with, reason_without}
+use Rattle.std.proofs.Common.{◌++◌, codes}
+use Rattle.netlist_cli.proofs.Lines.{reason_with, reason_without}
 use Rattle.netlist_cli.proofs.line.put_reason.Goals as goal
 
 pub returns-in-Some : goal.returns-in-Some

@@ -1,5 +1,4 @@
 use Rattle.std.proofs.Common.{refl, Ok, Err}
-use Rattle.readers.specs.Sources.{supply}
 use Rattle.netlist_cli.specs.Commands.{command}
 use Rattle.netlist_cli.proofs.Ends.{run_ends_as, tells, silent_so}
 use Rattle.netlist_cli.proofs.run.run.Goals as goal
