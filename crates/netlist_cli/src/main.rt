@@ -2,10 +2,9 @@
 //
 // `netlist format` reads an EDIF 2 0 0 text from the standard input and writes the same file in the project's own layout to the standard
 // output; `netlist vformat` does so for structural Verilog (IEEE 1364-2005). `netlist check` reads an EDIF text and writes `ok` where the
-// file breaks no rule and its design is within the limit; `netlist check --top NAME` does so for a Verilog text under the module of this name.
-// What the program does is `run`, over any source and sinks: it reads the input to
-// its end or to its first fault, and writes nothing before all is known. Its contract says for each status when it comes and what was written
-// then:
+// file breaks no rule and its design is within the limit; `netlist check --top NAME` does so for a Verilog text and the design under the
+// module of this name. What the program does is `run`, over any source and sinks: it reads the input to its end or to its first fault, and
+// writes nothing before all is known. Its contract says for each status when it comes and what was written then:
 //
 // 0 done: what the command makes of the input was put. 1 text fault: the input has this first fault, and the line `fault LINE:COLUMN REASON`
 // tells it. 2 refused: the file breaks a rule, and the line `refused RULE CELL` with further names tells the first object that breaks the
