@@ -38,6 +38,8 @@ mod checks;
 mod tests;
 #[cfg(test)]
 mod texts;
+#[cfg(test)]
+mod tops;
 
 /// The words behind the program's name. A word that is not UTF-8 is no word of a command.
 fn words(rt: &(impl Env + AllocGlobal)) -> Result<Seq<Text>, Failure> {

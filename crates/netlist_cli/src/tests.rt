@@ -12,7 +12,7 @@ use std::test::Fail;
 const USAGE: &[u8] =
     b"usage: netlist format or vformat or check [--top NAME] or report [--top NAME] [--zero CELL.PORT] [--one CELL.PORT] or to-verilog {--parameter NAME} or to-edif --top NAME [--zero CELL.PORT] [--one CELL.PORT] or generate SEED CELLS or lint [--top NAME] [--zero CELL.PORT] [--one CELL.PORT] or flatten [--top NAME] [--zero CELL.PORT] [--one CELL.PORT] or to-spice [--top NAME]\n";
 
-/// What a run is given: a word, a text in one piece or byte by byte, the number of a take that fails, the room of the output, and whether
+/// What a run is given: words with blanks between, a text in one piece or byte by byte, the number of a take that fails, the room of the output, and whether
 /// the first put to errors fails.
 #[derive(Clone, Copy)]
 pub struct Given<'a> {
@@ -74,12 +74,20 @@ fn source_of(alloc: Global, given: &Given<'_>) -> Result<MemSource, Fail> {
     Ok(MemSource::new(pieces_of(alloc, given)?, fails))
 }
 
-fn words_of(alloc: Global, word: &[u8]) -> Result<Seq<Text>, Fail> {
-    if word.is_empty() {
-        return Ok(Seq::empty(alloc));
+/// The words of a line, between which stand single blanks.
+fn words_of(alloc: Global, line: &[u8]) -> Result<Seq<Text>, Fail> {
+    let mut words = Seq::empty(alloc);
+    let mut first = 0;
+    for number in 0..line.len() {
+        if line[number] == b' ' {
+            words.push(Text::copy(alloc, &line[first..number])?)?;
+            first = number + 1;
+        }
     }
-    let text = Text::of(Vec::from_slice(alloc, word)?);
-    Ok(Seq::of(vec![in alloc; text]?))
+    if first < line.len() {
+        words.push(Text::copy(alloc, &line[first..])?)?;
+    }
+    Ok(words)
 }
 
 /// A sink of this room, whose put of this number fails.
@@ -402,7 +410,13 @@ fn failing_ends(rt: HostRuntime) -> Result<(), Fail> {
 
 #[test]
 fn other_words_are_usage(rt: HostRuntime) -> Result<(), Fail> {
-    for word in [b"".as_slice(), b"to-edif", b"Format"] {
+    for word in [
+        b"".as_slice(),
+        b"to-edif",
+        b"Format",
+        b"check --top",
+        b"format --top m",
+    ] {
         let given = Given {
             word,
             ..format_of(SMALL)
