@@ -1,7 +1,17 @@
 // The tests of `check --top`.
-use crate::tests::{Given, Wanted, ends_so, format_of};
+use crate::tests::{USAGE, Wanted, ends_from, format_of};
+use crate::texts::SMALL;
+use nl_base::{Seq, Text};
 use std::alloc::Global;
 use std::test::Fail;
+
+fn words_of(alloc: Global, line: &[&[u8]]) -> Result<Seq<Text>, Fail> {
+    let mut words = Seq::empty(alloc);
+    for word in line {
+        words.push(Text::copy(alloc, *word)?)?;
+    }
+    Ok(words)
+}
 
 /// Whether `check --top m` on a text ends with this status, and puts this text and this line.
 fn is_checked(
@@ -11,17 +21,14 @@ fn is_checked(
     output: &[u8],
     line: &[u8],
 ) -> Result<bool, Fail> {
-    let given = Given {
-        word: b"check --top m",
-        ..format_of(text)
-    };
+    let words = words_of(alloc, &[b"check", b"--top", b"m"])?;
     let wanted = Wanted {
         status,
         output,
         errors: line,
         taken: text.len() as u64,
     };
-    ends_so(alloc, &given, &wanted)
+    ends_from(alloc, &format_of(text), &words, &wanted)
 }
 
 #[test]
@@ -142,6 +149,27 @@ fn designs_of_modules_have_a_limit(rt: HostRuntime) -> Result<(), Fail> {
         let text = wide_module(rt.alloc(), ports)?;
         assert_eq!(rt;
             is_checked(rt.alloc(), text.as_slice(), status, output, line)?,
+            true
+        );
+    }
+    Ok(())
+}
+
+#[test]
+fn other_words_with_a_top_are_usage(rt: HostRuntime) -> Result<(), Fail> {
+    for line in [
+        &[b"check".as_slice(), b"--top"],
+        &[b"check".as_slice(), b"m"],
+    ] {
+        let words = words_of(rt.alloc(), line.as_slice())?;
+        let wanted = Wanted {
+            status: 5,
+            output: b"",
+            errors: USAGE,
+            taken: 0,
+        };
+        assert_eq!(rt;
+            ends_from(rt.alloc(), &format_of(SMALL), &words, &wanted)?,
             true
         );
     }
