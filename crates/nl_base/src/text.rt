@@ -5,11 +5,11 @@ use std::alloc::Global;
 use std::marker::Model;
 
 /// The most bytes that a text keeps in itself.
-const SHORT: usize = 23;
+const SHORT: usize = 15;
 
 /// A text of any bytes, which contracts see as the list of its bytes.
 ///
-/// Up to 23 bytes that are copied lie in the text itself, and others in an allocation.
+/// Up to 15 bytes that are copied lie in the text itself, and others in an allocation.
 #[derive(Drop)]
 pub struct Text {
     long: Vec<u8>,
@@ -25,7 +25,7 @@ impl Model for Text {
 
     ghost view = { λ t. take t.count t.short ++ t.long.items };
 
-    ghost invariant = { λ t. (t.count ≤ 23) × (0 < t.count → t.long.items ≡ []) };
+    ghost invariant = { λ t. (t.count ≤ 15) × (0 < t.count → t.long.items ≡ []) };
 }
 
 impl Text {
@@ -44,7 +44,7 @@ impl Text {
     /// A text of these few bytes; it takes no memory.
     #[inline]
     fn short(alloc: Global, bytes: &[u8]) -> Text
-        requires { length bytes.now ≤ 23 }
+        requires { length bytes.now ≤ 15 }
         ensures { result ≡ bytes.now }
     {
         let mut short = [0; SHORT];
