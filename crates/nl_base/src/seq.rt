@@ -74,9 +74,20 @@ impl<T: Drop> Seq<T> {
         ensures added { OnOk result (self.new ≡ self.old ++ item ∷ []) }
         ensures kept { OnErr result (self.new ≡ self.old) }
     {
+        self.make_room()?;
         match self.items.push(item) {
             Ok(()) => Ok(()),
             Err(_) => Err(NoMemory),
         }
+    }
+
+    /// Makes room for one more of the first items alone, since most lists of a netlist are short.
+    fn make_room(&mut self) -> Result<(), NoMemory>
+        ensures { self.new ≡ self.old }
+    {
+        if self.items.is_empty() {
+            self.items.reserve_exact(1)?;
+        }
+        Ok(())
     }
 }

@@ -5,11 +5,11 @@ use std::alloc::Global;
 use std::marker::Model;
 
 /// The most bytes that a text keeps in itself.
-const SHORT: usize = 15;
+const SHORT: usize = 16;
 
 /// A text of any bytes, which contracts see as the list of its bytes.
 ///
-/// Up to 15 bytes that are copied lie in the text itself, and others in an allocation.
+/// Up to 16 bytes that are copied lie in the text itself, and others in an allocation.
 #[derive(Drop)]
 pub struct Text {
     long: Vec<u8>,
@@ -25,12 +25,12 @@ impl Model for Text {
 
     ghost view = { λ t. take t.count t.short ++ t.long.items };
 
-    ghost invariant = { λ t. (t.count ≤ 15) × (0 < t.count → t.long.items ≡ []) };
+    ghost invariant = { λ t. (t.count ≤ 16) × (0 < t.count → t.long.items ≡ []) };
 }
 
 impl Text {
     /// A text of these bytes.
-    #[inline]
+    #[inline(always)]
     pub fn copy(alloc: Global, bytes: &[u8]) -> Result<Text, NoMemory>
         ensures { IfOk result (λ text. text ≡ bytes.now) }
     {
@@ -42,19 +42,19 @@ impl Text {
     }
 
     /// A text of these few bytes; it takes no memory.
-    #[inline]
+    #[inline(always)]
     fn short(alloc: Global, bytes: &[u8]) -> Text
-        requires { length bytes.now ≤ 15 }
+        requires { length bytes.now ≤ 16 }
         ensures { result ≡ bytes.now }
     {
-        let mut short = [0; SHORT];
-        let (front, _) = short.split_at_mut(bytes.len());
-        front.copy_from_slice(bytes);
-        Text {
+        let mut text = Text {
             long: Vec::new(alloc),
-            short,
+            short: [0; SHORT],
             count: bytes.len() as u8,
-        }
+        };
+        let (front, _) = text.short.split_at_mut(bytes.len());
+        front.copy_from_slice(bytes);
+        text
     }
 
     /// The text that these bytes are; it takes no memory.

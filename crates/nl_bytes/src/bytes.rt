@@ -107,6 +107,7 @@ impl Bytes {
     }
 
     /// Uses the byte ahead.
+    #[inline]
     pub fn advance(&mut self)
         requires held { 0 < length self.old.held }
         requires within { self.old.place.offset ≤ LIMIT }
@@ -240,7 +241,7 @@ impl Bytes {
     }
 
     /// Uses the bytes of a class ahead. It answers the byte ahead then.
-    #[inline]
+    #[inline(always)]
     pub fn skip<S: Source>(&mut self, class: Class, source: &mut S) -> Result<Option<u8>, Halt>
         ensures skips { Skips class self.old self.new (S.left source.old) (S.left source.new) result }
         ensures no_memory { IfErr result (λ e. e ≢ Halt.NoMemory) }
