@@ -14,8 +14,9 @@ pub struct UseOf<'a> {
     pub select: Select,
 }
 
+/// Adds the names in an expression, in the order of the text.
 #[cycle(uses)]
-fn push_uses<'a>(expr: &'a Expr, out: &mut Vec<UseOf<'a>>) -> Result<(), NoMemory>
+pub fn push_uses<'a>(expr: &'a Expr, out: &mut Vec<UseOf<'a>>) -> Result<(), NoMemory>
     ensures added { OnOk result (uses_of out.new.items ≡ uses_of out.old.items ++ uses expr.now) }
 {
     match expr {
@@ -83,7 +84,8 @@ fn push_instance_uses<'a>(instance: &'a VInst, out: &mut Vec<UseOf<'a>>) -> Resu
     }
 }
 
-fn push_instances_uses<'a>(instances: &'a [VInst], out: &mut Vec<UseOf<'a>>) -> Result<(), NoMemory>
+/// Adds the names in the connections of instances, in the order of the text.
+pub fn push_instances_uses<'a>(instances: &'a [VInst], out: &mut Vec<UseOf<'a>>) -> Result<(), NoMemory>
     ensures added { OnOk result (uses_of out.new.items ≡ uses_of out.old.items ++ flat_map uses (flat_map (λ instance. conn_exprs instance.conns) instances.now)) }
 {
     for instance in instances {

@@ -6,7 +6,7 @@
 #![tactic(auto)]
 
 pub mod bits;
-mod digits;
+pub mod digits;
 pub mod spelled;
 
 pub use bits::{Bits, bits_of};

@@ -4,8 +4,8 @@ ghost use Rattle.std.specs.List.{list_all};
 ghost use Rattle.nl_bytes.specs.Classes.{is_graphic};
 ghost use Rattle.vlog_sound.specs.Checks.{is_attr, is_based, is_bound, is_const, is_count, is_literal, is_name, is_number, is_real, is_string, may_pass, is_range};
 
-use crate::digits::are_digits;
 use nl_base::{Int, Range, Scaled, Seq, Text};
+use vlog_literals::digits::are_digits;
 use vlog_values::{Attr, Based, Const, Literal};
 
 /// Whether the byte is a printed one.

@@ -9,7 +9,6 @@
 
 mod constant;
 mod declaration;
-mod digits;
 mod expression;
 pub mod file;
 pub mod laws;
