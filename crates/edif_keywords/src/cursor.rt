@@ -67,6 +67,7 @@ impl Cursor {
     }
 
     /// Takes the next token.
+    #[inline(always)]
     pub(crate) fn take<S: Source>(
         &mut self,
         alloc: Global,

@@ -206,7 +206,7 @@ Spans-halted {class} {m} {old} {new} {l} {l'} {before} {after} {h} runs p lead b
 
 -- ---- no further than the stop
 
-bounded_refusal : (A : Type 0) (q : Place) (stop n : ℕ) (reason : Reason) → n ≤ stop → OnText {A = A} (Err (refusal q stop reason)) (λ t. n ≤ t.stop)
+pub bounded_refusal : (A : Type 0) (q : Place) (stop n : ℕ) (reason : Reason) → n ≤ stop → OnText {A = A} (Err (refusal q stop reason)) (λ t. n ≤ t.stop)
 bounded_refusal A q stop n reason le = go (ltb LIMIT stop)
   where
     go : (t : Bool) → OnText {A = A} (Err (cond t TooLong (Text (record { place = q; stop = stop; reason = reason })))) (λ t. n ≤ t.stop)

@@ -1,12 +1,13 @@
 -- What the parts of the reader answer.
-use Rattle.std.specs.Prelude.{◌≡◌, ℕ, ◌+◌, ◌<◌, ◌≤◌, ◌++◌, nat_lt, if◌then◌else◌, Bool, true, false, List, [], ◌∷◌, take, drop, length, IsTrue, IfOk, OnOk, MatchResult, ℤ, Option, Some, None, Result, Ok, Err, ⊤}
+use Rattle.std.specs.Prelude.{◌≡◌, ℕ, ◌+◌, ◌<◌, ◌≤◌, ◌++◌, nat_lt, if◌then◌else◌, Bool, true, false, List, [], ◌∷◌, take, drop, length, slice_index, IsTrue, IfOk, OnOk, MatchResult, ℤ, Option, Some, None, Result, Ok, Err, ⊤}
+use Rattle.std.specs.List.{prefix_len}
 use Rattle.nl_base.specs.declared.place.Place.{Place}
 use Rattle.nl_base.specs.declared.fault.Reason.{Reason}
 use Rattle.nl_base.specs.declared.fault.ReadError.{ReadError}
 use Rattle.nl_base.specs.declared.fault.ReadError.TheVariants.{Text, ReadFault, TooLong, NoMemory, Spent}
 use Rattle.nl_bytes.specs.declared.class.Class.{Class}
 use Rattle.nl_bytes.specs.declared.bytes.TheConstants.{LIMIT}
-use Rattle.nl_bytes.specs.Classes.{AreIn, in_class}
+use Rattle.nl_bytes.specs.Classes.{AreIn, in_class, is_string_byte}
 use Rattle.nl_bytes.specs.Bytes.{Window, Uses, input, first}
 use Rattle.nl_base.specs.declared.fault.Reason.TheVariants.{BadByte, TokenTooLong, NumberRange}
 use Rattle.nl_base.specs.Place.{place_past}
@@ -78,6 +79,21 @@ pub record Begins (class : Class) (lead : Bool) (byte : ℕ) (p : Place) (old ne
   pub answer : (bs : List ℕ) → input old left ≡ Some bs → (text : Result (Piece (List ℕ)) Flaw) → 1 ≤ seen_of text →
       MatchResult result (λ _. led lead (in_class class) (first (drop 1 bs)) text ≡ text)
       (λ e. Answers {B = ℕ} p bs (λ _ _. ⊥) (led lead (in_class class) (first (drop 1 bs)) text) (Err e))
+
+-- n bytes of a class are held whole, and behind them a byte that shows the end of a word or an integer
+pub record IsWhole (class : Class) (w : Window) (n : ℕ) : Type 0 where
+  pub run : n ≡ prefix_len (in_class class) w.held
+  pub short : n ≤ 1024
+  pub more : n < length w.held
+  pub follows : may_follow (slice_index w.held n) ≡ true
+  pub within : w.place.offset + n < LIMIT
+
+-- a string of n bytes with its quotes is held whole, and has no escapes
+pub record IsQuoted (w : Window) (n : ℕ) : Type 0 where
+  pub run : n ≡ 2 + prefix_len is_string_byte (drop 1 w.held)
+  pub enough : n ≤ length w.held
+  pub quote : slice_index (drop 1 w.held) (prefix_len is_string_byte (drop 1 w.held)) ≡ 34
+  pub within : w.place.offset + n ≤ LIMIT
 
 -- a text was read
 pub record ReadsText (class : Class) (lead : Bool) (p : Place) (old new : Window) (left left' : Option (List ℕ)) (result : Result Spanned ReadError) : Type 0 where

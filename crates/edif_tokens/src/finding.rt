@@ -3,8 +3,9 @@ ghost use Rattle.nl_io.specs.Causes.{Rose};
 ghost use Rattle.nl_base.specs.Faults.{OnText};
 ghost use Rattle.edif_tokens.specs.Scan.{Finds};
 
-use crate::lexeme::{held_token, token};
+use crate::lexeme::token;
 use crate::token::Found;
+use crate::whole::held_mark;
 use nl_base::ReadError;
 use nl_bytes::bytes::LIMIT;
 use nl_bytes::{Bytes, Class};
@@ -28,15 +29,11 @@ pub fn found<S: Source>(
     let Some(byte) = next else {
         return Ok(None);
     };
-    match held_token(bytes, alloc, byte, source) {
+    match held_mark(bytes, byte, source) {
         Some(found) => Ok(Some(found)),
         None => {
             let found = token(bytes, alloc, byte, source)?;
-            if LIMIT < found.stop {
-                Err(ReadError::TooLong)
-            } else {
-                Ok(Some(found))
-            }
+            Ok(Some(found))
         }
     }
 }

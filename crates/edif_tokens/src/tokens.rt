@@ -70,6 +70,7 @@ impl Tokens {
     /// - `Spent` exactly where the reader was spent.
     ///
     /// Any error spends it for good, and an `Ok` does not.
+    #[inline(always)]
     pub fn next<S: Source>(
         &mut self,
         alloc: Global,

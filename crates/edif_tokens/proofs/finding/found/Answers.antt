@@ -1,6 +1,6 @@
 use Rattle.std.proofs.Common.{◌≡◌, rules}
 use Rattle.std.proofs.lemmas.Result.{err_from_is_err_and}
-use Rattle.edif_tokens.proofs.Streams.{finds_refused, finds_end, finds_over, finds_found, finds_halted, same_reads}
+use Rattle.edif_tokens.proofs.Streams.{finds_refused, finds_end, finds_found, finds_halted, same_reads}
 use Rattle.edif_tokens.proofs.finding.found.Goals as goal
 
 pub returns-in_err-next-clause-finds : goal.returns-in_err-next-clause-finds
@@ -11,21 +11,16 @@ returns-in_err-next-clause-finds g c =
 pub returns-in_default-clause-finds : goal.returns-in_default-clause-finds
 returns-in_default-clause-finds g c = finds_end (rw c.in_default.is at c.in_ok-next.ensures.skips)
 
-pub returns-in-Some-held_token-clause-finds : goal.returns-in-Some-held_token-clause-finds
-returns-in-Some-held_token-clause-finds g c = finds_found (rw c.in-Some.is at c.in_ok-next.ensures.skips) c.in-Some-held_token.ensures.reads c.in-Some-held_token.ensures.limit c.in-Some-held_token.ensures.ended
+pub returns-in-Some-held_mark-clause-finds : goal.returns-in-Some-held_mark-clause-finds
+returns-in-Some-held_mark-clause-finds g c = finds_found (rw c.in-Some.is at c.in_ok-next.ensures.skips) c.in-Some-held_mark.ensures.reads c.in-Some-held_mark.ensures.limit c.in-Some-held_mark.ensures.ended
 
 pub returns-in_err-found-in-None-clause-finds : goal.returns-in_err-found-in-None-clause-finds
 returns-in_err-found-in-None-clause-finds g c =
     let p = err_from_is_err_and c.from_residual-in_err-found-in-None.result c.from_residual-in_err-found-in-None.ensures.1 in
-    let same : c.held_token.new.bytes ≡ c.skip.new.self = search (rules, c.held_token.ensures.none, c.in-None.is) in
+    let same : c.held_mark.new.bytes ≡ c.skip.new.self = search (rules, c.held_mark.ensures.none, c.in-None.is) in
     rw (p.1, p.2) (finds_refused (rw c.in-Some.is at c.in_ok-next.ensures.skips) (same_reads c.in_err-found-in-None.ensures.reads same))
 
-pub returns-then-found-gt-LIMIT-clause-finds : goal.returns-then-found-gt-LIMIT-clause-finds
-returns-then-found-gt-LIMIT-clause-finds g c =
-    let same : c.held_token.new.bytes ≡ c.skip.new.self = search (rules, c.held_token.ensures.none, c.in-None.is) in
-    finds_over (rw c.in-Some.is at c.in_ok-next.ensures.skips) (same_reads c.in_ok-found-in-None.ensures.reads same) c.if-found-gt-LIMIT.true
-
-pub returns-else-found-gt-LIMIT-clause-finds : goal.returns-else-found-gt-LIMIT-clause-finds
-returns-else-found-gt-LIMIT-clause-finds g c =
-    let same : c.held_token.new.bytes ≡ c.skip.new.self = search (rules, c.held_token.ensures.none, c.in-None.is) in
-    finds_found (rw c.in-Some.is at c.in_ok-next.ensures.skips) (same_reads c.in_ok-found-in-None.ensures.reads same) c.if-found-gt-LIMIT.false c.in_ok-found-in-None.ensures.ended
+pub returns-in_ok-found-in-None-clause-finds : goal.returns-in_ok-found-in-None-clause-finds
+returns-in_ok-found-in-None-clause-finds g c =
+    let same : c.held_mark.new.bytes ≡ c.skip.new.self = search (rules, c.held_mark.ensures.none, c.in-None.is) in
+    finds_found (rw c.in-Some.is at c.in_ok-next.ensures.skips) (same_reads c.in_ok-found-in-None.ensures.reads same) c.in_ok-found-in-None.ensures.limit c.in_ok-found-in-None.ensures.ended

@@ -1,6 +1,5 @@
-use Rattle.std.proofs.Common.{sym, ◌∙◌}
-use Rattle.edif_tokens.proofs.Words.{letter_begins}
+use Rattle.edif_tokens.proofs.Held.{reads_over}
 use Rattle.edif_tokens.proofs.lexeme.token.Goals as goal
 
-pub pieced_word-requires-clause-begins : goal.pieced_word-requires-clause-begins
-pieced_word-requires-clause-begins g c = letter_begins c.args.byte (sym c.start_of.ensures ∙ c.in-Letter.is)
+pub returns-then-found-gt-LIMIT-clause-reads : goal.returns-then-found-gt-LIMIT-clause-reads
+returns-then-found-gt-LIMIT-clause-reads g c = reads_over c.in_ok-found.ensures.reads c.if-found-gt-LIMIT.true
