@@ -85,7 +85,10 @@ fn push_instance_uses<'a>(instance: &'a VInst, out: &mut Vec<UseOf<'a>>) -> Resu
 }
 
 /// Adds the names in the connections of instances, in the order of the text.
-pub fn push_instances_uses<'a>(instances: &'a [VInst], out: &mut Vec<UseOf<'a>>) -> Result<(), NoMemory>
+pub fn push_instances_uses<'a>(
+    instances: &'a [VInst],
+    out: &mut Vec<UseOf<'a>>,
+) -> Result<(), NoMemory>
     ensures added { OnOk result (uses_of out.new.items ≡ uses_of out.old.items ++ flat_map uses (flat_map (λ instance. conn_exprs instance.conns) instances.now)) }
 {
     for instance in instances {
