@@ -40,6 +40,7 @@ fn files_of_modules_are_checked(rt: HostRuntime) -> Result<(), Fail> {
         b"module L (); endmodule module m (); L #(.A(1)) u (); defparam u.A = 2; endmodule",
         b"module m (output [1:0] y); assign y = {2{1'b1}}; supply0 g; endmodule",
         b"module m (); endmodule module n (); x u (); n v (); endmodule",
+        b"module n (input a); endmodule module m (); n u ({1'b1, {0{{4294967296{{4294967296{1'b0}}}}}}}); endmodule",
     ] {
         assert_eq!(rt; is_checked(rt.alloc(), text, 0, b"ok\n", b"")?, true);
     }

@@ -139,9 +139,14 @@ pub fn push_bits(
         Expr::Loose(_) => Ok(()),
         Expr::Cat(parts) => push_parts(alloc, table, parts.items(), out),
         Expr::Rep(count, parts) => {
+            let count = times(count);
+            // What stands no times is not made, whatever its width.
+            if count == 0 {
+                return Ok(());
+            }
             let mut once = Vec::new(alloc);
             push_parts(alloc, table, parts.items(), &mut once)?;
-            push_repeated(&once, times(count), out)
+            push_repeated(&once, count, out)
         }
     }
 }

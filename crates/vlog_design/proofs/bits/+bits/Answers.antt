@@ -1,6 +1,6 @@
 use Rattle.std.proofs.Common.{All, append-nil, arith, rules, subst, sym, ◌∙◌}
 use Rattle.vlog_design.proofs.ExprLemmas.{bits-Cat, bits-Lit, bits-Loose, bits-LooseNumber, bits-Ref, bits-Rep, literals-Cat, literals-Lit, literals-Rep}
-use Rattle.vlog_design.specs.Exprs.{literals}
+use Rattle.vlog_design.specs.Exprs.{literals, repeated}
 use Rattle.vlog_values.specs.declared.expression.Expr.TheViews.{the_lemmas}
 use Rattle.vlog_design.specs.Numbers.{HasDigits, HasNumbers}
 use Rattle.vlog_design.proofs.Parts.{all_found, all_of_part}
@@ -36,8 +36,12 @@ push_bits-returns-in-Loose t c = record { added = rw (c.in-Loose.is, bits-Loose)
 pub push_bits-returns-in-Cat : goal.push_bits-returns-in-Cat
 push_bits-returns-in-Cat t c = record { added = rw (c.in-Cat.is, bits-Cat, ← c.items-in-Cat.ensures) c.push_parts.ensures.added }
 
+pub push_bits-returns-then-count-eq0 : goal.push_bits-returns-then-count-eq0
+unfolding repeated
+push_bits-returns-then-count-eq0 t c = record { added = rw (c.in-Rep.is, bits-Rep, ← c.times-count.ensures, c.if-count-eq0.true) (sym (append-nil _)) }
+
 pub push_bits-returns-in_ok-push_parts-in-Rep : goal.push_bits-returns-in_ok-push_parts-in-Rep
-push_bits-returns-in_ok-push_parts-in-Rep t c = record { added = rw (c.in-Rep.is, bits-Rep, ← c.items-in-Rep.ensures) (rw (c.deref.ensures.value, c.in_ok-push_parts-in-Rep.ensures.added, c.new-once.ensures.items, c.times.ensures) at c.push_repeated.ensures.added) }
+push_bits-returns-in_ok-push_parts-in-Rep t c = record { added = rw (c.in-Rep.is, bits-Rep, ← c.items-in-Rep.ensures) (rw (c.deref.ensures.value, c.in_ok-push_parts-in-Rep.ensures.added, c.new-once.ensures.items, c.times-count.ensures) at c.push_repeated.ensures.added) }
 
 pub push_parts-push_bits-requires : goal.push_parts-push_bits-requires
 push_parts-push_bits-requires t c = (search (rules, the_lemmas), (subst (λ e. All HasDigits (literals e)) (sym c.part-item.is) (all_of_part HasDigits literals c.args.parts.now c.loop-part.part-index c.part-item.result c.loop-part-test.true c.requires.digits), c.requires.numbers))
