@@ -1,0 +1,13 @@
+-- The first fault of a text, whatever its length (EDIF 2 0 0, edif).
+use Rattle.std.specs.Prelude.{ℕ, List, []}
+use Rattle.grammar.specs.Whole.{whole, IsFirstFault}
+use Rattle.nl_base.specs.declared.fault.TextFault.{TextFault}
+use Rattle.readers.specs.Readers.{fault_at}
+use Rattle.edif_tokens.specs.Stream.{all_tokens}
+use Rattle.edif_keywords.specs.Language.{edif, ahead_of}
+use Rattle.edif_keywords.specs.Reasons.{trailing}
+use Rattle.edif_library.specs.Grammar.{file}
+
+-- The bytes have this first fault: at the first token that no file has there, at bytes that are no token, or at the end of the bytes.
+abbrev pub EdifFails : List ℕ → TextFault → Type 0
+EdifFails bs f = IsFirstFault (fault_at edif) [] (whole trailing (file [])) (ahead_of (all_tokens bs)) f
