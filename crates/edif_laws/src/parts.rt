@@ -1,4 +1,4 @@
-// The productions that public readers of parts take, each with its law.
+// Productions that public readers of parts take, each with its law.
 ghost use Rattle.edif_keywords.specs.Grammar.{comment};
 ghost use Rattle.edif_keywords.specs.declared.keyword.Keyword.{Keyword};
 ghost use Rattle.edif_names.specs.Grammar.{name, port_name, scaled, property};

@@ -1,4 +1,4 @@
-// The productions that public readers of parts take, each with its law.
+// Productions that public readers of parts take, each with its law.
 ghost use Rattle.std.specs.Prelude.{Bool, ℕ, List};
 ghost use Rattle.vlog_values.specs.declared.expression.Attr.{Attr};
 ghost use Rattle.vlog_exprs.specs.Grammar.{bound, range, expr, constant, attrs};
