@@ -4,64 +4,64 @@ ghost use Rattle.edif_keywords.specs.declared.keyword.Keyword.{Keyword};
 ghost use Rattle.edif_names.specs.Grammar.{name, port_name, scaled, property};
 ghost use Rattle.edif_status.specs.Grammar.{user, note, status};
 ghost use Rattle.edif_nets.specs.Grammar.{port, designator, instance, net};
-ghost use Rattle.edif_laws.specs.Exact.{IsExact};
+ghost use Rattle.edif_laws.specs.Exact.{IsReadExactly};
 
 /// A comment, behind its keyword.
 pub fn comments_are_exact()
-    ensures { IsExact comment }
+    ensures { IsReadExactly comment }
 {}
 
 /// The name of an object, with its text where it is renamed.
 pub fn names_are_exact()
-    ensures { IsExact name }
+    ensures { IsReadExactly name }
 {}
 
 /// The name of a port, or of an array of ports.
 pub fn port_names_are_exact()
-    ensures { IsExact port_name }
+    ensures { IsReadExactly port_name }
 {}
 
 /// A number with a power of ten.
 pub fn scaled_numbers_are_exact()
-    ensures { IsExact scaled }
+    ensures { IsReadExactly scaled }
 {}
 
 /// A property, behind its keyword.
 pub fn properties_are_exact()
-    ensures { IsExact property }
+    ensures { IsReadExactly property }
 {}
 
 /// User data, behind its keyword.
 pub fn user_data_is_exact()
-    ensures { IsExact user }
+    ensures { IsReadExactly user }
 {}
 
 /// A comment or user data, behind its keyword.
 pub fn notes_are_exact()
-    ensures { (keyword : Keyword) → IsExact (note keyword) }
+    ensures { (keyword : Keyword) → IsReadExactly (note keyword) }
 {}
 
 /// A status, behind its keyword.
 pub fn statuses_are_exact()
-    ensures { IsExact status }
+    ensures { IsReadExactly status }
 {}
 
 /// A designator, behind its keyword.
 pub fn designators_are_exact()
-    ensures { IsExact designator }
+    ensures { IsReadExactly designator }
 {}
 
 /// A port, behind its keyword.
 pub fn ports_are_exact()
-    ensures { IsExact port }
+    ensures { IsReadExactly port }
 {}
 
 /// An instance, behind its keyword.
 pub fn instances_are_exact()
-    ensures { IsExact «instance» }
+    ensures { IsReadExactly «instance» }
 {}
 
 /// A net, behind its keyword.
 pub fn nets_are_exact()
-    ensures { IsExact net }
+    ensures { IsReadExactly net }
 {}

@@ -6,3 +6,4 @@ pub mod Exact
 pub mod Follow
 pub mod Closed
 pub mod Whole
+pub mod Parts

@@ -4,3 +4,4 @@ pub mod Reading
 pub mod Clear
 pub mod Faults
 pub mod Whole
+pub mod Exact
