@@ -69,7 +69,8 @@ impl Tokens {
     /// - `ReadFault` only where the source's count of faults rose in this call;
     /// - `Spent` exactly where the reader was spent.
     ///
-    /// Any error spends it for good, and an `Ok` does not.
+    /// Any error spends it for good, and an `Ok` does not. Whatever it answers, no more than 268,435,456 + 4,096 bytes were ever
+    /// taken from the source.
     #[inline(always)]
     pub fn next<S: Source>(
         &mut self,
@@ -83,7 +84,7 @@ impl Tokens {
         }
         self.spent = true;
         let result = found(&mut self.bytes, alloc, source);
-        // The buffer holds at most 4,096 bytes, as its call says.
+        // The buffer holds at most 4,096 bytes, and no more than 4,096 past the limit were taken, as its call says.
         let _here = self.bytes.place();
         let found = result?;
         self.spent = false;

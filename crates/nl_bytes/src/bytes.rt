@@ -37,12 +37,12 @@ impl Model for Bytes {
 
     ghost view = { λ b. record { held = drop b.used (take b.count b.buffer.items); place = record { offset = b.offset; line = b.line; column = b.offset + 1 - b.begin } } };
 
-    ghost invariant = { λ b. (b.used ≤ b.count) × (b.count ≤ 4096) × (vec_len b.buffer ≡ 4096) × (b.offset ≤ LIMIT + 1) × (b.line ≤ b.offset + 1) × (b.begin ≤ b.offset) };
+    ghost invariant = { λ b. (b.used ≤ b.count) × (b.count ≤ 4096) × (vec_len b.buffer ≡ 4096) × (b.offset ≤ LIMIT + 1) × (b.line ≤ b.offset + 1) × (b.begin ≤ b.offset) × (b.offset + b.count ≤ LIMIT + 4096 + b.used) };
 }
 
 impl Bytes {
     ghost use Rattle.nl_base.specs.Place.{place_at_start, place_after, place_past};
-    ghost use Rattle.nl_bytes.specs.Bytes.{Uses, IsAhead, Runs, Skips};
+    ghost use Rattle.nl_bytes.specs.Bytes.{Uses, IsAhead, Runs, Skips, given};
     ghost use Rattle.nl_bytes.specs.Classes.{AreIn, in_class};
     ghost use Rattle.std.specs.Prelude.{false};
 
@@ -60,7 +60,7 @@ impl Bytes {
         })
     }
 
-    /// The place of the byte ahead.
+    /// The place of the byte ahead. No more than 4,096 bytes past the limit were ever taken from the source.
     #[inline]
     pub fn place(&self) -> Place
         ensures place { result ≡ self.now.place }
@@ -68,6 +68,7 @@ impl Bytes {
         ensures column { (1 ≤ self.now.place.column) × (self.now.place.column ≤ self.now.place.offset + 1) }
         ensures held { length self.now.held ≤ 4096 }
         ensures limit { self.now.place.offset ≤ LIMIT + 1 }
+        ensures taken { given self.now ≤ LIMIT + 4096 }
     {
         Place {
             offset: self.offset,

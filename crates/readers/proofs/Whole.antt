@@ -123,6 +123,7 @@ module _ {K X A : Type 0} (L : Language X) (trailing : X → Reason) (k : K) (pa
       taken = given b.window;
       left = h.moves.left;
       near = takes_to e b.window h.near;
+      within = h.moves.within (omega arith);
     }
 
     pub end_fails : (x : V) (e : ReadError) (b c : Reader K X) (i j m : Supply) → ReadsWhole L view part (Ok x) (fresh X k) b i j → Ends L trailing (Err e) b c j m → ReadsText L trailing k view part (Err e) i m
@@ -137,6 +138,7 @@ module _ {K X A : Type 0} (L : Language X) (trailing : X → Reason) (k : K) (pa
       taken = given c.window;
       left = n.moves.left ∙ ap (skip (given c.window) (given b.window)) h.moves.left ∙ skip_skip 0 (given b.window) (given c.window) i.left (omega arith) n.moves.taken;
       near = takes_to e c.window n.near;
+      within = n.moves.within (h.moves.within (omega arith));
     }
 
     pub text_is_read : (x : V) (b c : Reader K X) (i j m : Supply) → ReadsWhole L view part (Ok x) (fresh X k) b i j → Ends L trailing (Ok tt) b c j m → ReadsText L trailing k view part (Ok x) i m
@@ -152,6 +154,7 @@ module _ {K X A : Type 0} (L : Language X) (trailing : X → Reason) (k : K) (pa
       taken = given c.window;
       left = n.moves.left ∙ ap (skip (given c.window) (given b.window)) h.moves.left ∙ skip_skip 0 (given b.window) (given c.window) i.left (omega arith) n.moves.taken;
       near = tt;
+      within = n.moves.within (h.moves.within (omega arith));
     }
 
     -- the same from a reader that is a new one

@@ -40,6 +40,8 @@ pub record Moves (old new : Window) (i j : Supply) : Type 0 where
   pub taken : given old ≤ given new
   pub left : j.left ≡ skip (given new) (given old) i.left
   pub faults : i.faults ≤ j.faults
+  -- no more than 4,096 bytes past the limit are ever taken
+  pub within : given old ≤ LIMIT + 4096 → given new ≤ LIMIT + 4096
 
 -- all bytes that were ever taken end at most 4,096 bytes behind an offset
 abbrev pub IsNear : Window → ℕ → Type 0

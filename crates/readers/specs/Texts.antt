@@ -7,6 +7,7 @@ use Rattle.nl_base.specs.declared.fault.Reason.{Reason}
 use Rattle.nl_base.specs.declared.fault.ReadError.{ReadError}
 use Rattle.nl_base.specs.declared.fault.ReadError.TheVariants as errors
 use Rattle.nl_io.specs.Causes.{Rose}
+use Rattle.nl_bytes.specs.declared.bytes.TheConstants.{LIMIT}
 use Rattle.readers.specs.Parts.{PartOf}
 use Rattle.readers.specs.Sources.{Supply, Ahead, Language, skip}
 use Rattle.readers.specs.Readers.{fault_at}
@@ -44,3 +45,5 @@ pub record ReadsText {K X V A : Type 0} (L : Language X) (trailing : X → Reaso
   pub taken : ℕ
   pub left : new.left ≡ skip taken 0 old.left
   pub near : IfErr result (λ e. TakesTo e taken)
+  -- whatever the answer, no more than 4,096 bytes past the limit were taken
+  pub within : taken ≤ LIMIT + 4096

@@ -1,11 +1,12 @@
 -- What the reader of tokens answers, from what was found.
-use Rattle.std.proofs.Common.{◌≡◌, ℕ, ◌≤◌, Bool, true, false, List, length, Option, Some, None, Result, Ok, Err, IsTrue, refl, ap, arith}
+use Rattle.std.proofs.Common.{◌≡◌, ℕ, ◌+◌, ◌≤◌, Bool, true, false, List, length, Option, Some, None, Result, Ok, Err, IsTrue, refl, ap, arith}
 use Rattle.std.specs.Prelude.{◌↔◌, IfOk, IfErr, OnOk, IsErrOf, IsFalse, is_err}
 use Rattle.nl_base.specs.declared.fault.ReadError.{ReadError}
 use Rattle.nl_base.specs.declared.fault.ReadError.TheVariants.{Text, ReadFault, TooLong, NoMemory, Spent}
 use Rattle.nl_base.specs.Faults.{OnText}
 use Rattle.nl_io.specs.Causes.{Rose}
-use Rattle.nl_bytes.specs.Bytes.{Window, Uses}
+use Rattle.nl_bytes.specs.Bytes.{Window, Uses, given}
+use Rattle.nl_bytes.specs.declared.bytes.TheConstants.{LIMIT}
 use Rattle.nl_bytes.proofs.Uses.{Uses-none}
 use Rattle.readers.specs.Sources.{Supply, Moves, NearError, NearToken, EndsInput, ReadsToken, skip}
 use Rattle.vlog_tokens.specs.declared.token.VFound.{VFound}
@@ -16,9 +17,9 @@ use Rattle.vlog_tokens.proofs.Parts.{offset_grows}
 abbrev pub supplied : Option (List ℕ) → ℕ → Supply
 supplied left faults = record { left = left; faults = faults }
 
-uses_moves : {old new : Window} {l l' : Option (List ℕ)} {used : List ℕ} → Uses old new l l' used → (f f' : ℕ) → f ≤ f' → Moves old new (supplied l f) (supplied l' f')
+uses_moves : {old new : Window} {l l' : Option (List ℕ)} {used : List ℕ} → Uses old new l l' used → (f f' : ℕ) → f ≤ f' → (given old ≤ LIMIT + 4096 → given new ≤ LIMIT + 4096) → Moves old new (supplied l f) (supplied l' f')
 unfolding skip
-uses_moves u f f' count = record { place = omega (arith, offset_grows u); taken = u.taken; left = u.suffix; faults = count }
+uses_moves u f f' count within = record { place = omega (arith, offset_grows u); taken = u.taken; left = u.suffix; faults = count; within = within }
 
 near_fault : (r : Result (Option VFound) ReadError) (w : Window) → OnText r (λ t. w.place.offset ≤ t.stop) → length w.held ≤ 4096 → IfErr r (λ e. NearError e w)
 unfolding NearError
@@ -66,9 +67,9 @@ Nexts r old new l l' f f' = ReadsToken vlog r old.window old.spent new.window ne
 
 -- the reader that was not spent
 pub reads_found : {old new : Window} {l l' : Option (List ℕ)} {r : Result (Option VFound) ReadError} {f f' : ℕ} → Finds old new l l' r → (IsErrOf r Spent → ⊥)
-    → OnText r (λ t. new.place.offset ≤ t.stop) → f ≤ f' → (IsErrOf r ReadFault → Rose f f') → length new.held ≤ 4096 → Nexts r (state old false) (state new (is_err r)) l l' f f'
-reads_found {old} {new} {l} {l'} {r} {f} {f'} finds free to count cause held = record {
-  moves = uses_moves finds.uses f f' count;
+    → OnText r (λ t. new.place.offset ≤ t.stop) → f ≤ f' → (IsErrOf r ReadFault → Rose f f') → length new.held ≤ 4096 → given new ≤ LIMIT + 4096 → Nexts r (state old false) (state new (is_err r)) l l' f f'
+reads_found {old} {new} {l} {l'} {r} {f} {f'} finds free to count cause held taken = record {
+  moves = uses_moves finds.uses f f' count (λ _. taken);
   told = λ _. finds.told;
   unspent = unspent_ok r;
   spent = spent_not r free;
@@ -84,7 +85,7 @@ reads_found {old} {new} {l} {l'} {r} {f} {f'} finds free to count cause held = r
 pub reads_spent : (w : Window) (l : Option (List ℕ)) (f : ℕ) → Nexts (Err Spent) (state w true) (state w true) l l f f
 unfolding NearError
 reads_spent w l f = record {
-  moves = uses_moves (Uses-none w l) f f (omega arith);
+  moves = uses_moves (Uses-none w l) f f (omega arith) (λ h. h);
   told = λ h. absurd cc;
   unspent = tt;
   spent = (λ _. refl, λ _. refl);

@@ -6,14 +6,14 @@ use Rattle.edif_tokens.proofs.tokens.Tokens.next.Goals as goal
 pub returns : goal.returns
 returns g c =
     let found = c.found-result.ensures in
-    let all = reads_found found.finds found.never_spent found.bounded found.count found.cause c.place-here.ensures.held in
+    let all = reads_found found.finds found.never_spent found.bounded found.count found.cause c.place-here.ensures.held c.place-here.ensures.taken in
     let old : c.args.self.now ≡ state c.self.inside.bytes false = sym c.self.view_is ∙ ap (λ (b : Bool). state c.self.inside.bytes b) c.if-self.false in
     rw old (rw c.in_ok-found.was at all)
 
 pub returns-in_err-found : goal.returns-in_err-found
 returns-in_err-found g c =
     let found = c.found-result.ensures in
-    let all = reads_found found.finds found.never_spent found.bounded found.count found.cause c.place-here.ensures.held in
+    let all = reads_found found.finds found.never_spent found.bounded found.count found.cause c.place-here.ensures.held c.place-here.ensures.taken in
     let old : c.args.self.now ≡ state c.self.inside.bytes false = sym c.self.view_is ∙ ap (λ (b : Bool). state c.self.inside.bytes b) c.if-self.false in
     let p = err_from_is_err_and c.from_residual.result c.from_residual.ensures.1 in
     rw (p.1, p.2, old) (rw c.in_err-found.was at all)
