@@ -33,9 +33,6 @@ more s n k h = omega arith
 one_within : (n k : ℕ) → n + 1 ≤ n + suc k
 one_within n k = omega arith
 
-none_within : (n k : ℕ) → n ≤ n + k
-none_within n k = omega arith
-
 string_within : (m : Within) (value : List ℕ) (n : ℕ) (bs : List ℕ) → seen_of (string_at m value n bs) ≤ n + length bs
 unfolding string_at
 string_within Parts value n [] = omega arith

@@ -174,17 +174,6 @@ finds_end {old} {new} {l} {l'} s = record {
   ended = s.ahead.1;
 }
 
-pub finds_over : {old mid new : Window} {l m l' : Option (List ℕ)} {b : ℕ} {f : Found}
-    → Skips Space old mid l m (Ok (Some b)) → Reads (token_by (start_of b)) mid.place mid new m l' (Ok f) → LIMIT < f.stop → Finds old new l l' (Err TooLong)
-finds_over {old} {mid} {new} {l} {m} {l'} {b} {f} s t lt = record {
-  used = s.used ++ t.used;
-  uses = Uses-trans old mid new l m l' s.used t.used s.uses t.uses;
-  told = subst (λ (r : Result (Option Found) ReadError). Told old new l l' r) (rw (lt-ltb LIMIT f.stop lt) refl) (told_token s t);
-  shorter = tt;
-  used_to = tt;
-  ended = tt;
-}
-
 pub finds_found : {old mid new : Window} {l m l' : Option (List ℕ)} {b : ℕ} {f : Found}
     → Skips Space old mid l m (Ok (Some b)) → Reads (token_by (start_of b)) mid.place mid new m l' (Ok f) → f.stop ≤ LIMIT → new.place.offset ≤ f.stop → Finds old new l l' (Ok (Some f))
 finds_found {old} {mid} {new} {l} {m} {l'} {b} {f} s t le to = record {

@@ -24,9 +24,6 @@ use Rattle.edif_tokens.proofs.Spans.{offset_past, refusal_answers, at_place, hal
 use Rattle.edif_tokens.specs.Flaws.{Piece, Flaw, flaw}
 use Rattle.edif_tokens.specs.Strings.{Within, Parts, Escape, Code, string_at, Digits}
 
-pub Digits-none : (begun : ℕ) → Digits begun [] begun
-Digits-none begun start n value rest = ap (λ (k : ℕ). string_at (Code start begun) value k rest) (sym (add-zero n))
-
 code-digit : (start code n b : ℕ) (value rest : List ℕ) → is_ascii_digit b ≡ true → 10 * code + (b - 48) ≤ 255
     → string_at (Code start code) value n (b ∷ rest) ≡ string_at (Code start (10 * code + (b - 48))) value (n + 1) rest
 unfolding string_at

@@ -88,12 +88,20 @@ pub record IsWhole (class : Class) (w : Window) (n : ℕ) : Type 0 where
   pub follows : may_follow (slice_index w.held n) ≡ true
   pub within : w.place.offset + n < LIMIT
 
+-- no bytes of a class are held whole
+abbrev pub NoneWhole : Class → Window → Type 0
+NoneWhole class w = (n : ℕ) → 0 < n → IsWhole class w n → ⊥
+
 -- a string of n bytes with its quotes is held whole, and has no escapes
 pub record IsQuoted (w : Window) (n : ℕ) : Type 0 where
   pub run : n ≡ 2 + prefix_len is_string_byte (drop 1 w.held)
   pub enough : n ≤ length w.held
   pub quote : slice_index (drop 1 w.held) (prefix_len is_string_byte (drop 1 w.held)) ≡ 34
   pub within : w.place.offset + n ≤ LIMIT
+
+-- no string without escapes is held whole
+abbrev pub NoneQuoted : Window → Type 0
+NoneQuoted w = (n : ℕ) → IsQuoted w n → ⊥
 
 -- a text was read
 pub record ReadsText (class : Class) (lead : Bool) (p : Place) (old new : Window) (left left' : Option (List ℕ)) (result : Result Spanned ReadError) : Type 0 where

@@ -91,6 +91,10 @@ start_of b =
     else (if b == 43 || b == 45 then Sign
     else Other))))))
 
+-- a parenthesis, which is a token by itself
+abbrev pub is_parenthesis : ℕ → Bool
+is_parenthesis b = b == 40 || b == 41
+
 -- a letter begins a word, and so does an `&`, which leads it
 abbrev pub begins_word : Bool → ℕ → Bool
 begins_word false b = is_ascii_alphabetic b

@@ -7,7 +7,6 @@ use crate::lexeme::token;
 use crate::token::Found;
 use crate::whole::held_mark;
 use nl_base::ReadError;
-use nl_bytes::bytes::LIMIT;
 use nl_bytes::{Bytes, Class};
 use nl_io::Source;
 use std::alloc::Global;

@@ -1,9 +1,9 @@
 // Tokens that are held whole, with the byte that shows their end.
-ghost use Rattle.std.specs.Prelude.{◌≡◌, ◌+◌, ◌<◌, ◌≤◌, ◌∷◌, [], ℕ, true, false, List, length, Some, None, Option, IfOk, IfErr, IfSome, IsNone, IsErrOf, Ok, Err};
+ghost use Rattle.std.specs.Prelude.{◌≡◌, ◌↔◌, ◌+◌, ◌<◌, ◌≤◌, ◌∷◌, [], ℕ, true, false, List, length, Some, None, Option, IfOk, IfErr, IfSome, IsNone, IsSome, IsTrue, IsErrOf, Ok, Err};
 ghost use Rattle.nl_base.specs.Faults.{OnText};
 ghost use Rattle.nl_bytes.specs.Bytes.{Uses};
-ghost use Rattle.edif_tokens.specs.Scan.{Reads, IsWhole, IsQuoted};
-ghost use Rattle.edif_tokens.specs.Spelling.{word_spelled, number_spelled, string_spelled, token_by, start_of, begins_word};
+ghost use Rattle.edif_tokens.specs.Scan.{Reads, IsWhole, IsQuoted, NoneWhole, NoneQuoted};
+ghost use Rattle.edif_tokens.specs.Spelling.{word_spelled, number_spelled, string_spelled, token_by, start_of, begins_word, is_parenthesis};
 ghost use Rattle.edif_tokens.specs.Scan.{number_found};
 
 use crate::lexeme::{number_found, word_of};
@@ -32,7 +32,7 @@ pub fn mark<S: Source>(bytes: &mut Bytes, byte: u8, token: Token, source: &S) ->
     }
 }
 
-/// A mark. Where there is none, nothing is used.
+/// The parenthesis ahead, exactly where the byte is one and stands within the limit. Where there is none, nothing is used.
 #[inline(always)]
 pub fn held_mark<S: Source>(bytes: &mut Bytes, byte: u8, source: &S) -> Option<Found>
     requires ahead { (rest : List ℕ) × (bytes.old.held ≡ byte ∷ rest) }
@@ -40,6 +40,7 @@ pub fn held_mark<S: Source>(bytes: &mut Bytes, byte: u8, source: &S) -> Option<F
     ensures reads { IfSome result (λ f. Reads (token_by (start_of byte)) bytes.old.place bytes.old bytes.new (S.left source.now) (S.left source.now) (Ok f)) }
     ensures limit { IfSome result (λ f. f.stop ≤ LIMIT) }
     ensures ended { IfSome result (λ f. bytes.new.place.offset ≤ f.stop) }
+    ensures comes { IsSome result ↔ (IsTrue (is_parenthesis byte) × (bytes.old.place.offset < LIMIT)) }
     ensures none { IsNone result → bytes.new ≡ bytes.old }
 {
     if bytes.place().offset == LIMIT {
@@ -59,6 +60,7 @@ pub fn held_mark<S: Source>(bytes: &mut Bytes, byte: u8, source: &S) -> Option<F
 pub fn held_length(bytes: &Bytes, class: Class) -> usize
     requires within { bytes.now.place.offset ≤ LIMIT }
     ensures whole { 0 < result → IsWhole class bytes.now result }
+    ensures none { result ≡ 0 → NoneWhole class bytes.now }
 {
     let held = bytes.held();
     let count = class.front(held);
@@ -135,6 +137,7 @@ pub fn held_quoted(bytes: &Bytes) -> usize
     requires ahead { (rest : List ℕ) × (bytes.now.held ≡ 34 ∷ rest) }
     requires within { bytes.now.place.offset ≤ LIMIT }
     ensures quoted { 0 < result → IsQuoted bytes.now result }
+    ensures none { result ≡ 0 → NoneQuoted bytes.now }
 {
     let (_, rest) = bytes.held().split_at(1);
     let count = Class::StringByte.front(rest);
