@@ -4,6 +4,7 @@ pub mod Constants
 pub mod Ends
 pub mod Expressions
 pub mod Glances
+pub mod HeldMarks
 pub mod Live
 pub mod OneToken
 pub mod TokenKinds

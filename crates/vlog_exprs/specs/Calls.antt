@@ -1,5 +1,5 @@
 -- What a call answers for what a token says.
-use Rattle.std.specs.Prelude.{◌≡◌, ℕ, Result, Ok, Err, IfOk, IfSome, Option, Some, None, is_some, Bool, true, false}
+use Rattle.std.specs.Prelude.{◌≡◌, ℕ, Result, Ok, Err, IfOk, IfSome, Option, Some, None, is_some, Bool, true, false, if◌then◌else◌}
 use Rattle.nl_base.specs.declared.place.Place.{Place}
 use Rattle.nl_base.specs.declared.fault.Reason.{Reason}
 use Rattle.nl_base.specs.declared.fault.ReadError.{ReadError}
@@ -10,11 +10,25 @@ use Rattle.grammar.specs.Part as part
 use Rattle.readers.specs.Sources.{Supply, IsNear}
 use Rattle.readers.specs.Readers.{Reader, Looks, spoilt}
 use Rattle.vlog_tokens.specs.Language.{vlog}
+use Rattle.vlog_tokens.specs.Held as tokens
 use Rattle.vlog_exprs.specs.Language.{NoContext}
 use Rattle.vlog_tokens.specs.declared.token.VFound.{VFound}
 use Rattle.vlog_tokens.specs.declared.token.VToken.{VToken}
 use Rattle.vlog_exprs.specs.declared.glance.Glance.{Glance}
 use Rattle.vlog_exprs.specs.declared.glance.Glance.TheVariants.{Takes, Refuses, Leaves}
+
+-- nothing where a token was looked at
+abbrev pub unlooked : Option VFound → Option ℕ → Option ℕ
+unlooked None mark = mark
+unlooked (Some x) mark = None
+
+-- the punctuation mark that is next of a reader that has looked at no token, where the bytes that are held show it
+unfoldable pub held_mark : Reader NoContext VFound → Option ℕ
+held_mark r = if r.spent then None else unlooked r.ahead (tokens.held_mark r.window)
+
+-- the reader behind that mark
+abbrev pub past_mark : Reader NoContext VFound → Reader NoContext VFound
+past_mark r = record { window = tokens.past_mark r.window; ahead = r.ahead; context = r.context; spent = r.spent }
 
 -- the value, or the refusal of the token at its place, unless there was no memory for the reason's word
 abbrev pub answer : {V : Type 0} → Place → ℕ → Result (Result V Reason) NoMemory → Result V ReadError

@@ -24,6 +24,9 @@ fn takes_group<S: Source>(
 ) -> Result<bool, ReadError>
     ensures { TakesNext vlog stands (λ _ x. say.at_group x.token) result cursor.old cursor.new (supply S.left S.faults source.old) (supply S.left S.faults source.new) }
 {
+    if let Some(_mark) = cursor.held_mark() {
+        return Ok(false);
+    }
     let next = cursor.next_out(alloc, source)?;
     let Some(VFound { place, stop, token }) = next else {
         return Ok(false);

@@ -24,6 +24,9 @@ pub(crate) fn takes_digits<S: Source>(
 ) -> Result<Option<Literal>, ReadError>
     ensures { TakesNext vlog same (λ _ x. say.at_digits number x.token) result cursor.old cursor.new (supply S.left S.faults source.old) (supply S.left S.faults source.new) }
 {
+    if let Some(_mark) = cursor.held_mark() {
+        return Ok(None);
+    }
     let next = cursor.next_out(alloc, source)?;
     let Some(VFound { place, stop, token }) = next else {
         return Ok(None);

@@ -1,10 +1,10 @@
-ghost use Rattle.std.specs.Prelude.{◌≡◌, None, IfOk, IfSome, IsSome, IsNone, IsTrue, IsFalse, option_map};
+ghost use Rattle.std.specs.Prelude.{◌≡◌, ◌≤◌, ℕ, length, None, Some, IfOk, IfSome, IsSome, IsNone, IsTrue, IsFalse, option_map};
 ghost use Rattle.grammar.specs.Whole.{proper};
 ghost use Rattle.readers.specs.Parts.{any};
 ghost use Rattle.readers.specs.Sources.{supply, IsNear};
 ghost use Rattle.readers.specs.Readers.{same, fault_at, spoilt, Reads, Looks, Ends, Adds};
 ghost use Rattle.vlog_tokens.specs.Language.{vlog};
-ghost use Rattle.vlog_exprs.specs.Calls.{answer, left_after, seen_answer, seen_left, LooksOut};
+ghost use Rattle.vlog_exprs.specs.Calls.{held_mark, past_mark, answer, left_after, seen_answer, seen_left, LooksOut};
 ghost use Rattle.vlog_exprs.specs.Reasons.{trailing};
 
 use crate::glance::Glance;
@@ -52,7 +52,47 @@ impl VCursor {
         }
     }
 
+    /// The punctuation mark that is next, where no token was looked at and the bytes that are held show it.
+    #[inline(always)]
+    #[tactic(auto, unfolding(crate::specs::Calls::held_mark))]
+    pub(crate) fn held_mark(&self) -> Option<u8>
+        ensures mark { result ≡ held_mark self.now }
+        ensures held { length self.now.window.held ≤ 4096 }
+    {
+        let mark = self.tokens.held_mark();
+        if self.spent {
+            return None;
+        }
+        if let Some(_) = self.ahead {
+            return None;
+        }
+        mark
+    }
+
+    /// Takes the mark that is next.
+    #[inline(always)]
+    pub(crate) fn take_mark(&mut self)
+        requires { (mark : ℕ) × (held_mark self.old ≡ Some mark) }
+        ensures { self.new ≡ past_mark self.old }
+    {
+        self.tokens.take_mark()
+    }
+
+    /// Takes the token ahead, which is there.
+    fn take_ahead(&mut self) -> VFound
+        requires { IsSome self.old.ahead }
+        ensures token { self.old.ahead ≡ Some result }
+        ensures left { self.new ≡ record { window = self.old.window; ahead = None; context = self.old.context; spent = self.old.spent } }
+        ensures near { IsNear self.new.window result.stop }
+    {
+        match self.ahead.take() {
+            Some(found) => found,
+            None => unreachable!(),
+        }
+    }
+
     /// Takes the next token. At the end of the input a token is missing.
+    #[inline(always)]
     pub fn take<S: Source>(&mut self, alloc: Global, source: &mut S) -> Result<VFound, ReadError>
         ensures reads { Reads vlog same any result self.old self.new (supply S.left S.faults source.old) (supply S.left S.faults source.new) }
         ensures near { IfOk result (λ x. IsNear self.new.window x.stop) }
@@ -60,8 +100,8 @@ impl VCursor {
         if self.spent {
             return Err(ReadError::Spent);
         }
-        if let Some(found) = self.ahead.take() {
-            return Ok(found);
+        if let Some(_) = self.ahead {
+            return Ok(self.take_ahead());
         }
         self.spent = true;
         let next = self.tokens.next(alloc, source)?;

@@ -41,6 +41,13 @@ fn takes_expr_start<S: Source>(
 ) -> Result<Option<ExprStart>, ReadError>
     ensures { TakesNext vlog same (λ _ x. say.at_expr x.token) result cursor.old cursor.new (supply S.left S.faults source.old) (supply S.left S.faults source.new) }
 {
+    if let Some(mark) = cursor.held_mark() {
+        if mark != b'{' {
+            return Ok(None);
+        }
+        cursor.take_mark();
+        return Ok(Some(ExprStart::Brace));
+    }
     let next = cursor.next_out(alloc, source)?;
     let Some(VFound { place, stop, token }) = next else {
         return Ok(None);

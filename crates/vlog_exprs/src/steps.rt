@@ -44,6 +44,12 @@ impl VCursor {
     ) -> Result<(), ReadError>
         ensures { Reads vlog same (mark due) result self.old self.new (supply S.left S.faults source.old) (supply S.left S.faults source.new) }
     {
+        if let Some(mark) = self.held_mark() {
+            if mark == due {
+                self.take_mark();
+                return Ok(());
+            }
+        }
         let VFound { place, stop, token } = self.take(alloc, source)?;
         let said = mark_of(alloc, due, token);
         self.judged(place, stop, said)
@@ -86,6 +92,13 @@ impl VCursor {
     ) -> Result<bool, ReadError>
         ensures { TakesNext vlog stands (λ _ x. say.at_mark mark x.token) result self.old self.new (supply S.left S.faults source.old) (supply S.left S.faults source.new) }
     {
+        if let Some(next) = self.held_mark() {
+            if next != mark {
+                return Ok(false);
+            }
+            self.take_mark();
+            return Ok(true);
+        }
         let next = self.next_out(alloc, source)?;
         let Some(VFound { place, stop, token }) = next else {
             return Ok(false);
@@ -102,6 +115,9 @@ impl VCursor {
     ) -> Result<Option<Text>, ReadError>
         ensures { TakesNext vlog same (λ _ x. say.at_name x.token) result self.old self.new (supply S.left S.faults source.old) (supply S.left S.faults source.new) }
     {
+        if let Some(_mark) = self.held_mark() {
+            return Ok(None);
+        }
         let next = self.next_out(alloc, source)?;
         let Some(VFound { place, stop, token }) = next else {
             return Ok(None);
@@ -118,6 +134,9 @@ impl VCursor {
     ) -> Result<Option<T>, ReadError>
         ensures { TakesNext vlog same (λ _ x. say.at_choice (say.rows words.now) x.token) result self.old self.new (supply S.left S.faults source.old) (supply S.left S.faults source.new) }
     {
+        if let Some(_mark) = self.held_mark() {
+            return Ok(None);
+        }
         let next = self.next_out(alloc, source)?;
         let Some(VFound { place, stop, token }) = next else {
             return Ok(None);

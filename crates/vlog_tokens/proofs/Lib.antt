@@ -8,3 +8,5 @@ pub mod Marks
 pub mod Within
 pub mod Streams
 pub mod Readers
+pub mod Held
+pub mod HeldMarks

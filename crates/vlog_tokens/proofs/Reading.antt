@@ -93,7 +93,7 @@ finish_on x o n h = finished_on x (item_of x.value.phase x.value.text) o n h
 pub begun_part : (begins : Phase) (byte : ℕ) (text : List ℕ) {a b : Window} (l : Option (List ℕ)) → Steps a b byte → text ≡ kept begins byte → Part {X = Unit {0}} (begun begins byte) (λ _. scan_at begins text) a.place a b l l (Ok tt)
 begun_part begins byte text {a} {b} l s is = part_used (λ _. scan_at begins text) a.place (steps_use s l) tt (λ n rest. ap (λ (xs : List ℕ). scan_at begins xs (n + 1) rest) (sym is))
 
-gives_spot : (p : Place) (bs used : List ℕ) (x : Piece Lexeme) (item : Option Item) (stop : ℕ) → stop ≡ p.offset + x.seen → x.count ≡ length used → Answers p bs (GivesSpot p used) (finished x item) (spot_of p stop item)
+pub gives_spot : (p : Place) (bs used : List ℕ) (x : Piece Lexeme) (item : Option Item) (stop : ℕ) → stop ≡ p.offset + x.seen → x.count ≡ length used → Answers p bs (GivesSpot p used) (finished x item) (spot_of p stop item)
 gives_spot p bs used x None stop at count = refusal_answers p bs (GivesSpot p used) NumberRange 0 x.seen p stop refl at
 gives_spot p bs used x (Some item) stop at count = (ap (λ (n : ℕ). spot n) at, count)
   where

@@ -44,12 +44,12 @@ stays_class (Digits base) class e b h = absurd cc
 stays_class Unknown class e b h = absurd cc
 stays_class Grave class e b h = absurd cc
 
-keep_step : (phase next : Phase) (text : List ℕ) (n b : ℕ) (bs : List ℕ) → next_step phase b ≡ Keep next → length text < most_of phase → scan_at phase text n (b ∷ bs) ≡ scan_at next (text ++ b ∷ []) (n + 1) bs
+pub keep_step : (phase next : Phase) (text : List ℕ) (n b : ℕ) (bs : List ℕ) → next_step phase b ≡ Keep next → length text < most_of phase → scan_at phase text n (b ∷ bs) ≡ scan_at next (text ++ b ∷ []) (n + 1) bs
 unfolding scan_at
 keep_step phase next text n b bs e lt = rw (e, lt-leb (most_of phase) (length text) lt) refl
 
 -- as many bytes of the class as there is room for
-scan_stays : (phase : Phase) (class : Class) → class_of phase ≡ Some class → (text used rest : List ℕ) (n : ℕ) → AreIn class used → length used ≤ most_of phase - length text
+pub scan_stays : (phase : Phase) (class : Class) → class_of phase ≡ Some class → (text used rest : List ℕ) (n : ℕ) → AreIn class used → length used ≤ most_of phase - length text
     → scan_at phase text n (used ++ rest) ≡ scan_at phase (text ++ used) (n + length used) rest
 scan_stays phase class is text [] rest n all most = ap (λ (xs : List ℕ). scan_at phase xs n rest) (sym (append-nil text)) ∙ ap (λ (k : ℕ). scan_at phase (text ++ []) k rest) (sym (add-zero n))
 scan_stays phase class is text (b ∷ bs) rest n all most =

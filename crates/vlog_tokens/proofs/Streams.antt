@@ -117,7 +117,7 @@ unknown : (old new : Window) (l l' : Option (List ℕ)) (n : ℕ) → l' ≡ lef
 unknown old new None l' n suffix e = ap (λ (o : Option (List ℕ)). input new o) suffix
 unknown old new (Some bs) l' n suffix e = absurd cc
 
-Uses-unknown : {old new : Window} {l l' : Option (List ℕ)} {used : List ℕ} → Uses old new l l' used → input old l ≡ None → input new l' ≡ None
+pub Uses-unknown : {old new : Window} {l l' : Option (List ℕ)} {used : List ℕ} → Uses old new l l' used → input old l ≡ None → input new l' ≡ None
 Uses-unknown {old} {new} {l} {l'} u e = unknown old new l l' (given new - given old) u.suffix e
 
 -- what was told of the tokens ahead

@@ -9,3 +9,4 @@ pub mod Spelling
 pub mod Parts
 pub mod Language
 pub mod Finding
+pub mod Held

@@ -12,6 +12,10 @@ use crate::scan::refuse;
 use crate::start::{Start, start_of};
 use crate::string::string;
 use crate::token::{VFound, VToken};
+use crate::whole::{
+    escaped_length, held_escaped, held_number, held_pair, held_word, is_near, is_pair,
+    number_length, word_length,
+};
 use nl_base::{Place, ReadError, Reason};
 use nl_bytes::bytes::LIMIT;
 use nl_bytes::{Bytes, Class, Halt};
@@ -80,8 +84,9 @@ fn found_or_late(place: Place, stop: u64, token: VToken) -> Result<Option<VFound
     Ok(Some(VFound { place, stop, token }))
 }
 
-/// Reads the next token.
-pub fn found<S: Source>(
+/// Reads the next token from any pieces.
+#[inline(never)]
+fn pieced<S: Source>(
     bytes: &mut Bytes,
     alloc: Global,
     source: &mut S,
@@ -106,4 +111,47 @@ pub fn found<S: Source>(
             return Ok(found);
         }
     }
+}
+
+/// Reads the next token.
+#[inline(always)]
+#[tactic(auto, using(crate::proofs::Held::letter_begins, crate::proofs::Held::digit_begins))]
+pub fn found<S: Source>(
+    bytes: &mut Bytes,
+    alloc: Global,
+    source: &mut S,
+) -> Result<Option<VFound>, ReadError>
+    ensures finds { Finds bytes.old bytes.new (S.left source.old) (S.left source.new) result }
+    ensures never_spent { IsErrOf result ReadError.Spent → ⊥ }
+    ensures bounded { OnText result (λ t. bytes.new.place.offset ≤ t.stop) }
+    ensures count { S.faults source.old ≤ S.faults source.new }
+    ensures cause { IsErrOf result ReadError.ReadFault → Rose (S.faults source.old) (S.faults source.new) }
+{
+    let next = bytes.skip(Class::VerilogSpace, source)?;
+    let Some(byte) = next else {
+        return Ok(None);
+    };
+    if !is_near(bytes) {
+        return pieced(bytes, alloc, source);
+    }
+    if byte.is_ascii_alphabetic() {
+        let count = word_length(bytes.held());
+        if count > 0 {
+            return held_word(bytes, alloc, byte, count);
+        }
+    } else if byte.is_ascii_digit() {
+        let count = number_length(bytes.held());
+        if count > 0 {
+            return held_number(bytes, byte, count);
+        }
+    } else if byte == b'\\' {
+        let (_, name) = bytes.held().split_at(1);
+        let count = escaped_length(name);
+        if count > 0 {
+            return held_escaped(bytes, alloc, count);
+        }
+    } else if is_pair(bytes.held()) {
+        return held_pair(bytes, byte);
+    }
+    pieced(bytes, alloc, source)
 }

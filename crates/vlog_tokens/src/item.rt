@@ -29,13 +29,13 @@ pub struct Spot {
 }
 
 /// A simple name or a keyword.
-fn word_item(alloc: Global, text: Vec<u8>) -> Item
-    ensures { result ≡ word_item text.items }
+pub fn word_token(text: Text) -> VToken
+    ensures { Item.Token result ≡ word_item text }
 {
-    if is_keyword(text.as_slice()) {
-        return Item::Token(VToken::Keyword(Text::compact(alloc, text)));
+    if is_keyword(text.bytes()) {
+        return VToken::Keyword(text);
     }
-    Item::Token(VToken::Name(Text::compact(alloc, text)))
+    VToken::Name(text)
 }
 
 fn number_item(text: &[u8]) -> Option<Item>
@@ -138,7 +138,7 @@ pub fn item_of(alloc: Global, phase: Phase, text: Vec<u8>) -> Result<Option<Item
     ensures { IfOk result (λ item. item ≡ item_of phase text.items) }
 {
     match phase {
-        Phase::Word => Ok(Some(word_item(alloc, text))),
+        Phase::Word => Ok(Some(Item::Token(word_token(Text::compact(alloc, text))))),
         Phase::Escaped => Ok(Some(Item::Token(VToken::Name(Text::compact(alloc, text))))),
         Phase::Whole => Ok(number_item(text.as_slice())),
         Phase::Fraction => Ok(real_item(text.as_slice())),

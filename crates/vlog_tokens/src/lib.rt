@@ -21,6 +21,7 @@ pub mod start;
 pub mod string;
 pub mod token;
 pub mod tokens;
+pub mod whole;
 
 pub use keyword::is_keyword;
 pub use token::{VFound, VToken};

@@ -27,7 +27,9 @@ pub enum Start {
     Other,
 }
 
-fn is_mark(b: u8) -> bool
+/// Whether a byte is punctuation that begins no longer token.
+#[inline]
+pub fn is_mark(b: u8) -> bool
     ensures { result ≡ is_mark b }
 {
     matches!(

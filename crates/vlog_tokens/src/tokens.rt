@@ -1,7 +1,8 @@
-ghost use Rattle.std.specs.Prelude.{◌≡◌, ◌≤◌, length, IfOk};
+ghost use Rattle.std.specs.Prelude.{◌≡◌, ◌≤◌, ℕ, Some, length, IfOk, IsFalse};
 
 use crate::finding::found;
 use crate::token::VFound;
+use crate::whole::{held_mark, pass_mark};
 use nl_base::{NoMemory, Place, ReadError};
 use nl_bytes::Bytes;
 use nl_io::Source;
@@ -27,8 +28,10 @@ impl Model for VTokens {
 }
 
 impl VTokens {
-    ghost use Rattle.readers.specs.Sources.{ReadsToken, supply};
+    ghost use Rattle.readers.specs.Sources.{ReadsToken, Supply, supply};
+    ghost use Rattle.vlog_tokens.specs.declared.token.VToken.TheVariants.{Punct};
     ghost use Rattle.vlog_tokens.specs.Language.{vlog, fresh};
+    ghost use Rattle.vlog_tokens.specs.Held.{held_mark, past_mark};
 
     /// A reader at the start of a text.
     ///
@@ -58,6 +61,31 @@ impl VTokens {
         ensures { result ≡ self.now.spent }
     {
         self.spent
+    }
+
+    /// The punctuation mark that is next, where the bytes that are held show it.
+    #[inline(always)]
+    pub fn held_mark(&self) -> Option<u8>
+        ensures mark { result ≡ held_mark self.now.window }
+        ensures held { length self.now.window.held ≤ 4096 }
+    {
+        // The buffer holds at most 4,096 bytes, as its call says.
+        let _here = self.bytes.place();
+        held_mark(&self.bytes)
+    }
+
+    /// Takes the mark that is next.
+    ///
+    /// A reader that is not spent then stands as after a call of `next` that answers this mark.
+    #[inline(always)]
+    pub fn take_mark(&mut self)
+        requires { (mark : ℕ) × (held_mark self.old.window ≡ Some mark) }
+        ensures left { self.new ≡ record { window = past_mark self.old.window; spent = self.old.spent } }
+        ensures reads { (mark : ℕ) → held_mark self.old.window ≡ Some mark → IsFalse self.old.spent → (i : Supply) → (x : VFound) × (x.token ≡ Punct mark) × ReadsToken vlog (Ok (Some x)) self.old.window self.old.spent self.new.window self.new.spent i i }
+    {
+        // The buffer holds at most 4,096 bytes, as its call says.
+        let _here = self.bytes.place();
+        pass_mark(&mut self.bytes)
     }
 
     /// Reads the next token, or `None` at the end of the input.

@@ -1,14 +1,18 @@
-use Rattle.std.proofs.Common.{None, refl}
+use Rattle.std.proofs.Common.{None, refl, sym}
 use Rattle.readers.specs.Readers.{same}
 use Rattle.vlog_exprs.specs.Reasons.{at_digits}
+use Rattle.vlog_exprs.proofs.HeldMarks.{mark_none}
 use Rattle.vlog_exprs.proofs.Glances.{seen_says, seen_none, seen_fails}
 use Rattle.vlog_exprs.proofs.constant.takes_digits.Goals as goal
 
 pub returns-in_err-next : goal.returns-in_err-next
 returns-in_err-next g c = seen_fails (λ _ x. at_digits c.args.number x.token) _ _ _ _ same _ _ c.in_err-next.ensures c.from_residual.ensures.1
 
-pub returns-in_default : goal.returns-in_default
-returns-in_default g c = seen_none (λ _ x. at_digits c.args.number x.token) _ _ _ _ same None refl (rw c.in_default.is at c.in_ok-next.ensures)
+pub returns-in_default-next : goal.returns-in_default-next
+returns-in_default-next g c = seen_none (λ _ x. at_digits c.args.number x.token) _ _ _ _ same None refl (rw c.in_default-next.is at c.in_ok-next.ensures)
 
 pub returns : goal.returns
-returns g c = seen_says (λ _ x. at_digits c.args.number x.token) _ _ _ _ _ (rw c.in-Some.is at c.in_ok-next.ensures) _ _ _ c.at_digits.ensures c.settled.ensures.answer c.settled.ensures.left
+returns g c = seen_says (λ _ x. at_digits c.args.number x.token) _ _ _ _ _ (rw c.in-Some-next.is at c.in_ok-next.ensures) _ _ _ c.at_digits.ensures c.settled.ensures.answer c.settled.ensures.left
+
+pub returns-in-Some : goal.returns-in-Some
+returns-in-Some g c = mark_none same (at_digits c.args.number) c.args.cursor.now c.args.cursor.now c.in-Some.mark (sym c.in-Some.ensures.mark) c.held_mark.ensures.held _ None refl refl

@@ -1,5 +1,5 @@
 use Rattle.std.proofs.lemmas.Result.{err_from_is_err_and}
-use Rattle.std.proofs.Common.{rules, ◌∙◌, sym}
+use Rattle.std.proofs.Common.{rules, ◌≡◌, None, false, refl}
 use Rattle.readers.proofs.Taking.{reads_spent, takes_ahead, takes_next, takes_end, takes_error, not_spent, none_of}
 use Rattle.vlog_tokens.specs.Language.{vlog}
 use Rattle.vlog_exprs.proofs.cursor.VCursor.take.Goals as goal
@@ -8,22 +8,24 @@ pub returns-then-self-clause-reads : goal.returns-then-self-clause-reads
 returns-then-self-clause-reads g c = reads_spent vlog _ _ _ _ (search (rules, c.self.view_is, c.if-self.true))
 
 pub returns-in-Some-clause-reads : goal.returns-in-Some-clause-reads
-returns-in-Some-clause-reads g c = takes_ahead vlog _ _ c.self.inside.ahead _ _ _ _ _ c.self.view_is c.if-self.false (sym c.take.ensures.value ∙ c.in-Some.is) c.take.ensures.after
+returns-in-Some-clause-reads g c =
+    let live : c.args.self.now.spent ≡ false = search (rules, c.self.view_is, c.if-self.false) in
+    rw c.take_ahead.ensures.left (takes_ahead vlog c.args.self.now _ c.args.self.now.ahead None _ _ _ _ refl live c.take_ahead.ensures.token refl)
 
 pub returns-in_err-next-clause-reads : goal.returns-in_err-next-clause-reads
 returns-in_err-next-clause-reads g c =
     let p = err_from_is_err_and c.from_residual.result c.from_residual.ensures.1 in
-    let none = sym c.take.ensures.value ∙ none_of _ (λ x e. search (rules, c.in_default)) in
-    rw (p.1, p.2) (takes_error vlog _ _ _ _ _ c.self.inside.ahead _ _ _ _ _ c.self.view_is c.if-self.false none (not_spent _ _ c.self.invariant.0 c.if-self.false) c.take.ensures.after _ c.in_err-next.ensures)
+    let none : c.self.inside.ahead ≡ None = none_of _ (λ x e. search (rules, c.in_default)) in
+    rw (p.1, p.2) (takes_error vlog _ _ _ _ _ c.self.inside.ahead _ _ _ _ _ c.self.view_is c.if-self.false none (not_spent _ _ c.self.invariant.0 c.if-self.false) none _ c.in_err-next.ensures)
 
 pub returns-in_default-next-clause-reads : goal.returns-in_default-next-clause-reads
 returns-in_default-next-clause-reads g c =
-    let none = sym c.take.ensures.value ∙ none_of _ (λ x e. search (rules, c.in_default)) in
-    takes_end vlog _ _ _ _ _ c.self.inside.ahead _ _ _ _ _ c.self.view_is c.if-self.false none (not_spent _ _ c.self.invariant.0 c.if-self.false) c.take.ensures.after _
-    ((rw c.in_default-next.is at c.in_ok-next.ensures)) c.here-end.ensures.place
+    let none : c.self.inside.ahead ≡ None = none_of _ (λ x e. search (rules, c.in_default)) in
+    takes_end vlog _ _ _ _ _ c.self.inside.ahead _ _ _ _ _ c.self.view_is c.if-self.false none (not_spent _ _ c.self.invariant.0 c.if-self.false) none _
+    (rw c.in_default-next.is at c.in_ok-next.ensures) c.here-end.ensures.place
 
 pub returns-clause-reads : goal.returns-clause-reads
 returns-clause-reads g c =
-    let none = sym c.take.ensures.value ∙ none_of _ (λ x e. search (rules, c.in_default)) in
-    takes_next vlog _ _ _ _ _ c.self.inside.ahead _ _ _ _ _ c.self.view_is c.if-self.false none (not_spent _ _ c.self.invariant.0 c.if-self.false) c.take.ensures.after _
+    let none : c.self.inside.ahead ≡ None = none_of _ (λ x e. search (rules, c.in_default)) in
+    takes_next vlog _ _ _ _ _ c.self.inside.ahead _ _ _ _ _ c.self.view_is c.if-self.false none (not_spent _ _ c.self.invariant.0 c.if-self.false) none _
     (rw c.in-Some-next.is at c.in_ok-next.ensures)

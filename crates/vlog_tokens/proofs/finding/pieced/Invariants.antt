@@ -1,7 +1,7 @@
 use Rattle.std.proofs.Common.{◌-◌, ◌+◌, ◌≤◌}
 use Rattle.nl_bytes.specs.declared.bytes.TheConstants.{LIMIT}
 use Rattle.vlog_tokens.specs.Finding.{Passes}
-use Rattle.vlog_tokens.proofs.finding.found.Given as goal
+use Rattle.vlog_tokens.proofs.finding.pieced.Given as goal
 
 abbrev pub invariant-items : goal.invariant-items
 invariant-items g l = record {

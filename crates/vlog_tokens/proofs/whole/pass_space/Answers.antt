@@ -1,0 +1,16 @@
+use Rattle.std.proofs.Common.{ℕ, List, ◌∙◌, ap, arith, length}
+use Rattle.std.proofs.lemmas.List.Sums.{prefix_len-le-length}
+use Rattle.std.specs.List.{prefix_len}
+use Rattle.nl_bytes.proofs.Fronts.{front-all}
+use Rattle.nl_bytes.specs.Classes.{is_verilog_space}
+use Rattle.vlog_tokens.proofs.Held.{held_within}
+use Rattle.vlog_tokens.proofs.whole.pass_space.Goals as goal
+
+pub pass-requires-clause-held : goal.pass-requires-clause-held
+pass-requires-clause-held c = omega (arith, c.front-count.ensures ∙ ap (prefix_len is_verilog_space) c.held.ensures, prefix_len-le-length is_verilog_space c.args.bytes.now.held)
+
+pub pass-requires-clause-within : goal.pass-requires-clause-within
+pass-requires-clause-within c = omega (arith, c.front-count.ensures ∙ ap (prefix_len is_verilog_space) c.held.ensures, prefix_len-le-length is_verilog_space c.args.bytes.now.held, held_within c.args.bytes.now c.requires.near)
+
+pub pass-requires-clause-each : goal.pass-requires-clause-each
+pass-requires-clause-each c = rw (c.front-count.ensures, c.held.ensures) (front-all is_verilog_space c.args.bytes.now.held)
