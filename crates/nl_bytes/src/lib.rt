@@ -5,7 +5,7 @@
 // uses it, and `run` and `skip` use all bytes of a class. Each call says which bytes were used:
 // they stood at the front of what was held and what the source had left, and the place went past
 // them. At most one byte past 268,435,456 is answered and used, which tells that the input is
-// longer, and at most 4,096 bytes are held behind the place. `Class` has the classes of bytes of
+// longer, and at most 4,096 bytes are held from the place on. `Class` has the classes of bytes of
 // which tokens of EDIF 2 0 0 and of Verilog (IEEE 1364-2005, 3) have runs, each a bit in a table.
 #![tactic(auto)]
 
