@@ -4,9 +4,10 @@
 // as the definition `vlog` says with no pieces and no buffer: names, keywords, numbers, reals, the digits of based literals,
 // strings, attribute brackets, punctuation, symbols and directives, each as long as possible and with its place and stop; or
 // the first fault of the bytes with its place, stop and reason; or that the input ends. Comments and the directives
-// `timescale`, `celldefine` and `endcelldefine` are white space. All that it answers but an error without a place has its stop
-// within 268,435,456 bytes. It uses at most one byte past them, which tells that the input is longer, and holds at most 4,096
-// bytes behind its place. It takes at most 4,096 bytes behind the stop of what it answers. After any error it answers `Spent`.
+// `timescale`, `celldefine` and `endcelldefine` are white space. Each token, fault or end that it answers has its stop within
+// 268,435,456 bytes. It uses at most one byte past them, which tells that the input is longer, and holds at most 4,096 bytes
+// from its place on. It takes at most 4,096 bytes behind the stop of what it answers, and whatever it answers no more than
+// 4,096 past the limit. After any error it answers `Spent`.
 #![tactic(auto)]
 
 pub mod finding;
