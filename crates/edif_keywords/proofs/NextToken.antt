@@ -59,7 +59,7 @@ pub reads_token : (r : Result (Option Found) ReadError) (old new : streams.State
     → ReadsToken edif r old.window old.spent new.window new.spent (record { left = left; faults = faults }) (record { left = left'; faults = faults' })
 unfolding skip
 reads_token r old new left left' faults faults' h = record {
-  moves = record { place = h.moves.place; taken = h.moves.taken; left = h.moves.suffix; faults = h.moves.count };
+  moves = record { place = h.moves.place; taken = h.moves.taken; left = h.moves.suffix; faults = h.moves.count; within = h.moves.within };
   told = λ fresh. rw (ahead_known old.window (record { left = left; faults = faults }), ahead_known new.window (record { left = left'; faults = faults' }))
       (tells_known (streams.stream_ahead stream_from old.window left) r new.window (streams.stream_ahead stream_from new.window left') (h.told fresh));
   unspent = h.unspent;
