@@ -2,10 +2,11 @@ pub mod BitCounts
 pub mod Capped
 pub mod Examples
 pub mod ExprLemmas
-pub mod JoinSteps
+pub mod JoinLaws
 pub mod NameSets
 pub mod Parts
 pub mod Positions
+pub mod RunLaws
 pub mod SmallFiles
 pub mod Steps
 pub mod Tables

@@ -1,8 +1,7 @@
 -- Steps of loops that move a part from the front of what is left to the end of what is made.
-use Rattle.std.proofs.Common.{◌≡◌, Option, Some, ℕ, suc, zero, ◌+◌, ◌-◌, ◌<◌, ◌≤◌, List, [], ◌∷◌, ◌++◌, drop, flat_map, get_or, length, append_assoc, append-nil, ap, sym, ◌∙◌, arith, refl, add-one, drop-cons}
+use Rattle.std.proofs.Common.{◌≡◌, Option, ℕ, suc, ◌+◌, ◌-◌, ◌<◌, ◌≤◌, List, [], ◌++◌, drop, flat_map, get_or, length, append_assoc, append-nil, ap, sym, ◌∙◌, arith, add-one, drop-cons}
 use Rattle.net_hier.specs.declared.nodes.Node.{Node}
-use Rattle.vlog_design.specs.Exprs.{node_at, repeated, span_bits}
-use Rattle.vlog_design.specs.declared.signals.Place.{Place}
+use Rattle.vlog_design.specs.Exprs.{repeated}
 
 -- a part moves
 pub moved : {A : Type 0} (made part rest : List A) {left goal : List A} → made ++ left ≡ goal → left ≡ part ++ rest → (made ++ part) ++ rest ≡ goal
@@ -23,16 +22,3 @@ repeated_left n i once h = let e : n - i ≡ suc (n - (i + 1)) = omega arith in 
 pub repeated_none : (n i : ℕ) (once : List (Option Node)) → n ≤ i → repeated (n - i) once ≡ []
 unfolding repeated
 repeated_none n i once h = let e : n - i ≡ 0 = omega arith in ap (λ k. repeated k once) e
-
-pub repeated_nothing : (n : ℕ) (once : List (Option Node)) → length once ≡ 0 → repeated n once ≡ []
-unfolding repeated
-repeated_nothing zero once h = refl
-repeated_nothing (suc n) [] h = repeated_nothing n [] h
-repeated_nothing (suc n) (x ∷ once) h = absurd (omega arith)
-
-pub span_left : (place : Place) (first count i : ℕ) → i < count →
-    span_bits place (record { first = first + i; count = count - i }) ≡ Some (node_at place (first + i)) ∷ span_bits place (record { first = first + (i + 1); count = count - (i + 1) })
-span_left place first count i h =
-    let e : count - i ≡ suc (count - (i + 1)) = omega arith in
-    let f : first + i + 1 ≡ first + (i + 1) = omega arith in
-    ap (λ k. span_bits place (record { first = first + i; count = k })) e ∙ ap (λ k. Some (node_at place (first + i)) ∷ span_bits place (record { first = k; count = count - (i + 1) })) f

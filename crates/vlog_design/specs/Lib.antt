@@ -5,5 +5,6 @@ pub mod Numbers
 pub mod Ranges
 pub mod Reach
 pub mod Rules
+pub mod Runs
 pub mod Tables
 pub mod Uses

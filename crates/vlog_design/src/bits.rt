@@ -1,19 +1,19 @@
 // The bits of an expression.
-ghost use Rattle.std.specs.Prelude.{◌≡◌, ◌+◌, ◌≤◌, ◌<◌, ◌^◌, ◌++◌, All, flat_map, map, OnOk, IfOk, OnSome, IfSome, Some, None};
-ghost use Rattle.std.specs.List.{range_with_len};
+ghost use Rattle.std.specs.Prelude.{◌≡◌, ◌+◌, ◌≤◌, ◌<◌, ◌^◌, ◌++◌, All, flat_map, map, replicate, OnOk, IfOk, OnSome, IfSome, Some, None};
 ghost use Rattle.vlog_design.specs.Exprs.{bits, constant_bit, literals, node_at, repeated, signal_bits, span_bits};
 ghost use Rattle.vlog_design.specs.Names.{signal_named};
 ghost use Rattle.vlog_design.specs.Ranges.{selected};
 ghost use Rattle.net_hier.specs.Cells.{width_of};
 ghost use Rattle.vlog_design.specs.Numbers.{HasDigits, HasNumbers, first_number};
 
+use crate::runs::Runs;
 use crate::signals::{Place, Slot, Span};
 use crate::table::Table;
 use crate::widths::{position, times};
 use net_hier::Node;
 use nl_base::{NoMemory, Range};
 use std::alloc::Global;
-use vlog_literals::bits_of;
+use vlog_literals::{Bits, bits_of};
 use vlog_values::{Bit, Expr, Select};
 
 /// The positions that a select means.
@@ -22,6 +22,7 @@ pub fn select_span(range: Option<Range>, select: Select) -> Option<Span>
     requires { width_of range ≤ 65536 }
     ensures value { result ≡ selected range select }
     ensures within { IfSome result (λ span. span.first + span.count ≤ width_of range) }
+    ensures some { IfSome result (λ span. 1 ≤ span.count) }
 {
     match select {
         Select::All => match range {
@@ -57,7 +58,8 @@ pub fn select_span(range: Option<Range>, select: Select) -> Option<Span>
     }
 }
 
-fn node(place: Place, bit: u32) -> Node
+/// The node of a bit of a port or net, by its position from the left.
+pub fn node(place: Place, bit: u32) -> Node
     requires { first_number place + bit < 2 ^ 32 }
     ensures { result ≡ node_at place bit }
 {
@@ -67,64 +69,43 @@ fn node(place: Place, bit: u32) -> Node
     }
 }
 
-fn push_span(place: Place, span: Span, out: &mut Vec<Option<Node>>) -> Result<(), NoMemory>
-    requires short { span.first + span.count < 2 ^ 32 }
+fn push_span(place: Place, span: Span, out: &mut Runs) -> Result<(), NoMemory>
+    requires some { 1 ≤ span.count }
     requires fits { first_number place + (span.first + span.count) ≤ 2 ^ 32 }
-    ensures added { OnOk result (out.new.items ≡ out.old.items ++ span_bits place span) }
+    ensures added { OnOk result (out.new ≡ out.old ++ span_bits place span) }
 {
-    for i in 0..span.count {
-        out.push(Some(node(place, span.first + i)))?;
-    }
-    Ok(())
+    out.push_nodes(node(place, span.first), span.count)
 }
 
-fn constant(bit: Bit) -> Option<Node>
-    ensures { result ≡ constant_bit bit }
+/// Adds so many bits of one kind.
+fn push_constants(bit: Bit, count: u32, out: &mut Runs) -> Result<(), NoMemory>
+    ensures added { OnOk result (out.new ≡ out.old ++ replicate count (constant_bit bit)) }
 {
     match bit {
-        Bit::Zero => Some(Node::Zero),
-        Bit::One => Some(Node::One),
-        Bit::X => None,
-        Bit::Z => None,
+        Bit::Zero => out.push_nodes(Node::Zero, count),
+        Bit::One => out.push_nodes(Node::One, count),
+        Bit::X => out.push_nothing(u64::from(count)),
+        Bit::Z => out.push_nothing(u64::from(count)),
     }
 }
 
-fn push_constants(bits: &[Bit], out: &mut Vec<Option<Node>>) -> Result<(), NoMemory>
-    ensures added { OnOk result (out.new.items ≡ out.old.items ++ map constant_bit bits.now) }
+/// Adds the bits of a literal.
+fn push_literal(bits: &Bits, out: &mut Runs) -> Result<(), NoMemory>
+    ensures added { OnOk result (out.new ≡ out.old ++ map constant_bit (replicate bits.now.filled bits.now.fill ++ bits.now.own.items)) }
 {
-    for bit in bits {
-        out.push(constant(*bit))?;
-    }
-    Ok(())
-}
-
-fn push_repeated(
-    once: &[Option<Node>],
-    count: u64,
-    out: &mut Vec<Option<Node>>,
-) -> Result<(), NoMemory>
-    ensures added { OnOk result (out.new.items ≡ out.old.items ++ repeated count once.now) }
-{
-    if once.is_empty() {
-        return Ok(());
-    }
-    for _i in 0..count {
-        out.extend_from_slice(once)?;
+    push_constants(bits.fill, bits.filled, out)?;
+    for bit in &bits.own {
+        push_constants(*bit, 1, out)?;
     }
     Ok(())
 }
 
 /// Adds the bits of an expression, from the left.
 #[cycle(bits)]
-pub fn push_bits(
-    alloc: Global,
-    table: &Table,
-    expr: &Expr,
-    out: &mut Vec<Option<Node>>,
-) -> Result<(), NoMemory>
+pub fn push_bits(alloc: Global, table: &Table, expr: &Expr, out: &mut Runs) -> Result<(), NoMemory>
     requires digits { All HasDigits (literals expr.now) }
     requires numbers { All (λ signal. HasNumbers signal.slot) table.now }
-    ensures added { OnOk result (out.new.items ≡ out.old.items ++ bits table.now expr.now) }
+    ensures added { OnOk result (out.new ≡ out.old ++ bits table.now expr.now) }
 {
     match expr {
         Expr::Ref { name, select } => match table.find(name.bytes()) {
@@ -133,34 +114,44 @@ pub fn push_bits(
         },
         Expr::Lit(literal) => {
             let literal_bits = bits_of(alloc, literal)?;
-            push_constants(literal_bits.items(), out)
+            push_literal(&literal_bits, out)
         }
         Expr::LooseNumber(_) => Ok(()),
         Expr::Loose(_) => Ok(()),
         Expr::Cat(parts) => push_parts(alloc, table, parts.items(), out),
-        Expr::Rep(count, parts) => {
-            let count = times(count);
-            // What stands no times is not made, whatever its width.
-            if count == 0 {
-                return Ok(());
-            }
-            let mut once = Vec::new(alloc);
-            push_parts(alloc, table, parts.items(), &mut once)?;
-            push_repeated(&once, count, out)
-        }
+        Expr::Rep(count, parts) => push_replication(alloc, table, times(count), parts.items(), out),
     }
 }
 
+/// Adds the bits of parts so many times. Parts that stand no times are not made, and parts that stand once are not copied.
 #[cycle(bits)]
-fn push_parts(
+fn push_replication(
     alloc: Global,
     table: &Table,
+    count: u64,
     parts: &[Expr],
-    out: &mut Vec<Option<Node>>,
+    out: &mut Runs,
 ) -> Result<(), NoMemory>
     requires digits { All HasDigits (flat_map literals parts.now) }
     requires numbers { All (λ signal. HasNumbers signal.slot) table.now }
-    ensures added { OnOk result (out.new.items ≡ out.old.items ++ flat_map (bits table.now) parts.now) }
+    ensures added { OnOk result (out.new ≡ out.old ++ repeated count (flat_map (bits table.now) parts.now)) }
+{
+    if count == 0 {
+        return Ok(());
+    }
+    if count == 1 {
+        return push_parts(alloc, table, parts, out);
+    }
+    let mut once = Runs::empty(alloc);
+    push_parts(alloc, table, parts, &mut once)?;
+    out.push_repeated(&once, count)
+}
+
+#[cycle(bits)]
+fn push_parts(alloc: Global, table: &Table, parts: &[Expr], out: &mut Runs) -> Result<(), NoMemory>
+    requires digits { All HasDigits (flat_map literals parts.now) }
+    requires numbers { All (λ signal. HasNumbers signal.slot) table.now }
+    ensures added { OnOk result (out.new ≡ out.old ++ flat_map (bits table.now) parts.now) }
 {
     for part in parts {
         push_bits(alloc, table, part, out)?;
@@ -168,9 +159,9 @@ fn push_parts(
     Ok(())
 }
 
-fn push_selected(slot: Slot, select: Select, out: &mut Vec<Option<Node>>) -> Result<(), NoMemory>
+fn push_selected(slot: Slot, select: Select, out: &mut Runs) -> Result<(), NoMemory>
     requires { HasNumbers slot }
-    ensures added { OnOk result (out.new.items ≡ out.old.items ++ signal_bits (Some slot) select) }
+    ensures added { OnOk result (out.new ≡ out.old ++ signal_bits (Some slot) select) }
 {
     match select_span(slot.range, select) {
         None => Ok(()),

@@ -1,9 +1,31 @@
-// Joins of two sides, bit by bit.
-ghost use Rattle.std.specs.Prelude.{◌≡◌, ◌++◌, OnOk};
+// Joins of two sides, run by run.
+ghost use Rattle.std.specs.Prelude.{◌≡◌, ◌+◌, ◌≤◌, ◌<◌, ◌^◌, ◌++◌, All, drop, flat_map, get_or, None, IfOk, OnOk};
 ghost use Rattle.vlog_design.specs.Design.{join_of, joins_between};
+ghost use Rattle.vlog_design.specs.Runs.{HasFitting, bits_behind, run_bits};
 
+use crate::runs::{Run, Runs, node_after};
 use net_hier::{Join, Node};
 use nl_base::NoMemory;
+use std::marker::Model;
+
+/// What is left of one side: runs, of whose bits so many are passed. One run can have more than 2^64 bits.
+#[derive(Drop)]
+struct Rest<'a> {
+    passed: u128,
+    runs: &'a [Run],
+}
+
+impl<'a> Model for Rest<'a> {
+    ghost use Rattle.std.specs.Prelude.{List, Option};
+    ghost use Rattle.net_hier.specs.declared.nodes.Node.{Node};
+    ghost use Rattle.vlog_design.specs.Runs.{ArePassed, bits_behind};
+
+    ghost Value = { List (Option Node) };
+
+    ghost view = { λ r. bits_behind r.passed r.runs.now };
+
+    ghost invariant = { λ r. ArePassed r.passed r.runs.now };
+}
 
 fn push_join(a: Option<Node>, b: Option<Node>, out: &mut Vec<Join>) -> Result<(), NoMemory>
     ensures added { OnOk result (out.new.items ≡ out.old.items ++ join_of a b) }
@@ -20,17 +42,86 @@ fn push_join(a: Option<Node>, b: Option<Node>, out: &mut Vec<Join>) -> Result<()
     }
 }
 
-/// Adds the joins of two sides.
-pub fn push_joins(
-    left: &[Option<Node>],
-    right: &[Option<Node>],
-    out: &mut Vec<Join>,
-) -> Result<(), NoMemory>
-    ensures added { OnOk result (out.new.items ≡ out.old.items ++ joins_between left.now right.now) }
+/// What is left of runs behind so many bits.
+fn behind<'a>(count: u128, all: &'a [Run]) -> Rest<'a>
+    requires { All HasFitting all.now }
+    ensures { result ≡ bits_behind count all.now }
 {
-    let count = left.len().min(right.len());
-    for i in 0..count {
-        push_join(left[i], right[i], out)?;
+    let mut passed = count;
+    let mut runs = all;
+    while let [run, later @ ..] = runs {
+        let length = u128::from(run.gap) + u128::from(run.count);
+        if passed < length {
+            return Rest { passed, runs };
+        }
+        passed -= length;
+        runs = later;
+    }
+    Rest { passed: 0, runs }
+}
+
+/// A bit of a run, by its position from the left.
+fn bit_at(run: Run, position: u128) -> Option<Node>
+    requires fits { HasFitting run }
+    requires within { position < run.gap + run.count }
+    ensures { result ≡ get_or (run_bits run) position None }
+{
+    let gap = u128::from(run.gap);
+    if position < gap {
+        return None;
+    }
+    Some(node_after(run.first, (position - gap) as u32))
+}
+
+impl<'a> Rest<'a> {
+    /// The first bit, or nothing where no bit is left.
+    fn first(&self) -> Option<Node>
+        ensures { result ≡ get_or self.now 0 None }
+    {
+        match self.runs {
+            [] => None,
+            [run, ..] => bit_at(*run, self.passed),
+        }
+    }
+
+    /// What is left behind so many bits.
+    fn skip(self, count: u64) -> Rest<'a>
+        ensures { result ≡ drop count self.entry }
+    {
+        behind(self.passed + u128::from(count), self.runs)
+    }
+}
+
+/// Adds the joins of a run with the bits of the other side that stand there, and answers what is left of that side.
+fn push_run_joins<'a>(left: Rest<'a>, run: Run, out: &mut Vec<Join>) -> Result<Rest<'a>, NoMemory>
+    requires { HasFitting run }
+    ensures added { OnOk result (out.new.items ≡ out.old.items ++ joins_between left.entry (run_bits run)) }
+    ensures left { IfOk result (λ rest. rest ≡ drop (run.gap + run.count) left.entry) }
+{
+    let mut rest = left.skip(run.gap);
+    for i in 0..run.count {
+        push_join(rest.first(), Some(node_after(run.first, i)), out)?;
+        rest = rest.skip(1);
+    }
+    Ok(rest)
+}
+
+/// Adds the joins of runs.
+fn push_runs_joins(left: &[Run], right: &[Run], out: &mut Vec<Join>) -> Result<(), NoMemory>
+    requires left { All HasFitting left.now }
+    requires right { All HasFitting right.now }
+    ensures added { OnOk result (out.new.items ≡ out.old.items ++ joins_between (flat_map run_bits left.now) (flat_map run_bits right.now)) }
+{
+    let mut rest = behind(0, left);
+    for run in right {
+        rest = push_run_joins(rest, *run, out)?;
     }
     Ok(())
+}
+
+/// Adds the joins of two sides. The time is in proportion to the runs of the left and the nodes of the right.
+pub fn push_joins(left: &Runs, right: &Runs, out: &mut Vec<Join>) -> Result<(), NoMemory>
+    ensures added { OnOk result (out.new.items ≡ out.old.items ++ joins_between left.now right.now) }
+{
+    push_runs_joins(&left.runs, &right.runs, out)
 }

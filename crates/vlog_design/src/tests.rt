@@ -1,6 +1,7 @@
 // Names, widths and joins. No clause says that memory is found.
 use crate::joins::push_joins;
 use crate::names::Names;
+use crate::runs::Runs;
 use crate::signals::{Place, Slot};
 use crate::table::Table;
 use crate::uses::uses_in;
@@ -54,12 +55,29 @@ fn names(rt: HostRuntime) -> Result<(), Fail> {
     Ok(())
 }
 
+/// A net, nothing and a net.
+fn two_nets(alloc: Global) -> Result<Runs, Fail> {
+    let mut bits = Runs::empty(alloc);
+    bits.push_nodes(Node::Net(0), 1)?;
+    bits.push_nothing(1)?;
+    bits.push_nodes(Node::Net(2), 1)?;
+    Ok(bits)
+}
+
+/// Two ones and nothing.
+fn two_ones(alloc: Global) -> Result<Runs, Fail> {
+    let mut bits = Runs::empty(alloc);
+    bits.push_nodes(Node::One, 2)?;
+    bits.push_nothing(1)?;
+    Ok(bits)
+}
+
 #[test]
 fn joins(rt: HostRuntime) -> Result<(), Fail> {
-    let left = [Some(Node::Net(0)), None, Some(Node::Net(2))];
-    let right = [Some(Node::One), Some(Node::One), None];
+    let left = two_nets(rt.alloc())?;
+    let right = two_ones(rt.alloc())?;
     let mut joins = Vec::new(rt.alloc());
-    push_joins(left.as_slice(), right.as_slice(), &mut joins)?;
+    push_joins(&left, &right, &mut joins)?;
     let (a, b) = (Node::Net(0), Node::One);
     assert_eq!(rt; joins.len(), 1);
     assert!(rt; joins[0] == Join { a, b });

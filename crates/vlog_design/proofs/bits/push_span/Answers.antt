@@ -1,9 +1,11 @@
-use Rattle.std.proofs.Common.{ap, sym, ◌∙◌, ◌∷◌, ◌+◌, ◌-◌, Some}
-use Rattle.vlog_design.specs.Exprs.{span_bits}
-use Rattle.vlog_design.proofs.Steps.{moved, span_left}
+use Rattle.std.proofs.Common.{◌≡◌, ◌++◌, OnOk, ap, subst, ◌∙◌}
+use Rattle.vlog_design.specs.Runs.{nodes_from}
+use Rattle.vlog_design.proofs.RunLaws.{nodes_of_span}
 use Rattle.vlog_design.proofs.bits.push_span.Goals as goal
 
-pub loop-i-preserved : goal.loop-i-preserved
-loop-i-preserved c = rw c.in_ok-push.ensures.items (moved _ _ _ c.loop-i.invariant
-    (span_left c.args.place c.args.span.first c.args.span.count c.loop-i.i c.loop-i-test.true
-    ∙ ap (λ n. Some n ∷ span_bits c.args.place (record { first = c.args.span.first + (c.loop-i.i + 1); count = c.args.span.count - (c.loop-i.i + 1) })) (sym c.node.ensures)))
+pub returns : goal.returns
+returns c = record {
+  added = subst (λ all. OnOk c.push_nodes.result (c.push_nodes.new.self ≡ c.args.out.now ++ all))
+      (ap (λ n. nodes_from n c.args.span.count) c.node.ensures ∙ nodes_of_span c.args.place c.args.span.first c.args.span.count)
+      c.push_nodes.ensures.added;
+}

@@ -1,10 +1,12 @@
-use Rattle.std.proofs.Common.{arith}
-use Rattle.vlog_design.proofs.JoinSteps.{joins_left, joins_none}
-use Rattle.vlog_design.proofs.Steps.{done, moved}
+use Rattle.std.proofs.Common.{◌≡◌, ◌++◌, OnOk, ap, subst, ◌∙◌}
+use Rattle.vlog_design.specs.Runs.{runs_bits}
+use Rattle.vlog_design.proofs.JoinLaws.{whole_joined}
 use Rattle.vlog_design.proofs.joins.push_joins.Goals as goal
 
-pub loop-i-preserved : goal.loop-i-preserved
-loop-i-preserved c = rw c.in_ok-push_join.ensures.added (moved _ _ _ c.loop-i.invariant (joins_left c.args.left.now c.args.right.now c.loop-i.i _ _ (omega (arith, c.min-count.ensures)) (omega (arith, c.min-count.ensures))))
-
 pub returns : goal.returns
-returns c = record { added = done _ c.loop-i.invariant (joins_none c.args.left.now c.args.right.now c.loop-i.i (omega (arith, c.min-count.ensures))) }
+returns c = record {
+  added = subst (λ joins. OnOk c.push_runs_joins.result (c.push_runs_joins.new.out.items ≡ c.args.out.now.items ++ joins))
+      (whole_joined c.deref.result.now c.deref-2.result.now c.left.inside.gap c.right.inside.gap
+      (ap (λ l. runs_bits l c.left.inside.gap) c.deref.ensures.value ∙ c.left.view_is) (ap (λ l. runs_bits l c.right.inside.gap) c.deref-2.ensures.value ∙ c.right.view_is))
+      c.push_runs_joins.ensures.added;
+}

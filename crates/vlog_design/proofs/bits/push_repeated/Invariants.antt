@@ -1,6 +1,0 @@
-use Rattle.std.proofs.Common.{◌≡◌, ◌++◌, ◌-◌}
-use Rattle.vlog_design.specs.Exprs.{repeated}
-use Rattle.vlog_design.proofs.bits.push_repeated.Given as goal
-
-abbrev pub invariant-loop-i : goal.invariant-loop-i
-invariant-loop-i l = l.out.items ++ repeated (l.count - l._i) l.once ≡ l.initial.out.items ++ repeated l.count l.once
