@@ -33,6 +33,15 @@ impl Bits {
     }
 }
 
+/// The bits of a literal from the left: `filled` times the bit `fill`, and then `own`, which its digits give. The size of a literal may be
+/// far above the number of its digits, so what fills the left is counted and not made.
+#[derive(Drop)]
+pub struct FilledBits {
+    pub fill: Bit,
+    pub filled: u32,
+    pub own: Vec<Bit>,
+}
+
 fn push_copies(bits: &mut Vec<Bit>, bit: Bit, count: usize) -> Result<(), NoMemory>
     ensures added { OnOk result (bits.new.items ≡ bits.old.items ++ replicate count bit) }
 {
@@ -140,19 +149,31 @@ fn fill(bits: &[Bit]) -> Bit
     }
 }
 
-/// The bits of a literal, from the left, as many as its size says.
+/// The bits of a literal, as many as its size says, of which those that fill the left are counted and not made.
 #[tactic(auto, unfolding(vlog_values::specs::Bits::literal_bits, vlog_values::specs::Bits::fitted))]
+pub fn filled_bits_of(alloc: Global, literal: &Literal) -> Result<FilledBits, NoMemory>
+    requires { AreDigits literal.now.based.base literal.now.based.digits }
+    ensures value { IfOk result (λ bits. replicate bits.filled bits.fill ++ bits.own.items ≡ literal_bits literal.now) }
+{
+    let mut digits = Vec::new(alloc);
+    push_own(&mut digits, &literal.based)?;
+    let size = literal.size as usize;
+    let filled = size.saturating_sub(digits.len()) as u32;
+    let dropped = digits.len().saturating_sub(size);
+    let fill = fill(&digits);
+    let mut own = Vec::new(alloc);
+    own.extend_from_slice(&digits[dropped..])?;
+    Ok(FilledBits { fill, filled, own })
+}
+
+/// The bits of a literal, from the left, as many as its size says.
 pub fn bits_of(alloc: Global, literal: &Literal) -> Result<Bits, NoMemory>
     requires { AreDigits literal.now.based.base literal.now.based.digits }
     ensures value { IfOk result (λ bits. bits ≡ literal_bits literal.now) }
 {
-    let mut own = Vec::new(alloc);
-    push_own(&mut own, &literal.based)?;
-    let size = literal.size as usize;
-    let filled = size.saturating_sub(own.len());
-    let dropped = own.len().saturating_sub(size);
+    let bits = filled_bits_of(alloc, literal)?;
     let mut items = Vec::new(alloc);
-    push_copies(&mut items, fill(&own), filled)?;
-    items.extend_from_slice(&own[dropped..])?;
+    push_copies(&mut items, bits.fill, bits.filled as usize)?;
+    items.extend_from_slice(&bits.own)?;
     Ok(Bits { items })
 }
