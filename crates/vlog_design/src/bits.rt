@@ -13,7 +13,7 @@ use crate::widths::{position, times};
 use net_hier::Node;
 use nl_base::{NoMemory, Range};
 use std::alloc::Global;
-use vlog_literals::{Bits, bits_of};
+use vlog_literals::{FilledBits, filled_bits_of};
 use vlog_values::{Bit, Expr, Select};
 
 /// The positions that a select means.
@@ -90,7 +90,7 @@ fn push_constants(bit: Bit, count: u32, out: &mut Runs) -> Result<(), NoMemory>
 }
 
 /// Adds the bits of a literal.
-fn push_literal(bits: &Bits, out: &mut Runs) -> Result<(), NoMemory>
+fn push_literal(bits: &FilledBits, out: &mut Runs) -> Result<(), NoMemory>
     ensures added { OnOk result (out.new ≡ out.old ++ map constant_bit (replicate bits.now.filled bits.now.fill ++ bits.now.own.items)) }
 {
     push_constants(bits.fill, bits.filled, out)?;
@@ -113,7 +113,7 @@ pub fn push_bits(alloc: Global, table: &Table, expr: &Expr, out: &mut Runs) -> R
             Some(slot) => push_selected(slot, *select, out),
         },
         Expr::Lit(literal) => {
-            let literal_bits = bits_of(alloc, literal)?;
+            let literal_bits = filled_bits_of(alloc, literal)?;
             push_literal(&literal_bits, out)
         }
         Expr::LooseNumber(_) => Ok(()),

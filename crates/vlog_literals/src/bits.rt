@@ -6,12 +6,37 @@ ghost use Rattle.vlog_values.specs.Bits.{AreDigits, binary_digits, bit_of, decim
 use crate::digits::{decimal_number, is_x_digit, is_z_digit, value_of_digit};
 use nl_base::NoMemory;
 use std::alloc::Global;
+use std::marker::Model;
 use vlog_values::{Base, Based, Bit, Literal};
+
+/// Bits from the left, which contracts see as the list of them.
+#[derive(Drop)]
+pub struct Bits {
+    items: Vec<Bit>,
+}
+
+impl Model for Bits {
+    ghost use Rattle.std.specs.Prelude.{List};
+    ghost use Rattle.vlog_values.specs.declared.literal.Bit.{Bit};
+
+    ghost Value = { List Bit };
+
+    ghost view = { λ b. b.items.items };
+}
+
+impl Bits {
+    /// The bits.
+    pub fn items(&self) -> &[Bit]
+        ensures { result.now ≡ self.now }
+    {
+        self.items.as_slice()
+    }
+}
 
 /// The bits of a literal from the left: `filled` times the bit `fill`, and then `own`, which its digits give. The size of a literal may be
 /// far above the number of its digits, so what fills the left is counted and not made.
 #[derive(Drop)]
-pub struct Bits {
+pub struct FilledBits {
     pub fill: Bit,
     pub filled: u32,
     pub own: Vec<Bit>,
@@ -124,9 +149,9 @@ fn fill(bits: &[Bit]) -> Bit
     }
 }
 
-/// The bits of a literal, as many as its size says.
+/// The bits of a literal, as many as its size says, of which those that fill the left are counted and not made.
 #[tactic(auto, unfolding(vlog_values::specs::Bits::literal_bits, vlog_values::specs::Bits::fitted))]
-pub fn bits_of(alloc: Global, literal: &Literal) -> Result<Bits, NoMemory>
+pub fn filled_bits_of(alloc: Global, literal: &Literal) -> Result<FilledBits, NoMemory>
     requires { AreDigits literal.now.based.base literal.now.based.digits }
     ensures value { IfOk result (λ bits. replicate bits.filled bits.fill ++ bits.own.items ≡ literal_bits literal.now) }
 {
@@ -138,5 +163,17 @@ pub fn bits_of(alloc: Global, literal: &Literal) -> Result<Bits, NoMemory>
     let fill = fill(&digits);
     let mut own = Vec::new(alloc);
     own.extend_from_slice(&digits[dropped..])?;
-    Ok(Bits { fill, filled, own })
+    Ok(FilledBits { fill, filled, own })
+}
+
+/// The bits of a literal, from the left, as many as its size says.
+pub fn bits_of(alloc: Global, literal: &Literal) -> Result<Bits, NoMemory>
+    requires { AreDigits literal.now.based.base literal.now.based.digits }
+    ensures value { IfOk result (λ bits. bits ≡ literal_bits literal.now) }
+{
+    let bits = filled_bits_of(alloc, literal)?;
+    let mut items = Vec::new(alloc);
+    push_copies(&mut items, bits.fill, bits.filled as usize)?;
+    items.extend_from_slice(&bits.own)?;
+    Ok(Bits { items })
 }

@@ -9,7 +9,7 @@ pub mod bits;
 pub mod digits;
 pub mod spelled;
 
-pub use bits::{Bits, bits_of};
+pub use bits::{Bits, FilledBits, bits_of, filled_bits_of};
 pub use spelled::literal_of;
 
 #[cfg(test)]

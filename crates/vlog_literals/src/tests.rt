@@ -19,10 +19,7 @@ fn shown(alloc: Global, text: &[u8]) -> Result<Text, Fail> {
     let mut bits = Vec::new(alloc);
     if let Some(literal) = literal_of(alloc, text)? {
         let found = bits_of(alloc, &literal)?;
-        for _i in 0..found.filled {
-            bits.push(letter(found.fill))?;
-        }
-        for bit in &found.own {
+        for bit in found.items() {
             bits.push(letter(*bit))?;
         }
     }

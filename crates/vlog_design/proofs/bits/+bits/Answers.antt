@@ -10,8 +10,8 @@ use Rattle.vlog_design.proofs.bits.+bits.Goals as goal
 pub push_bits-push_selected-requires : goal.push_bits-push_selected-requires
 push_bits-push_selected-requires t c = all_found HasNumbers _ _ _ c.requires.numbers (sym c.find.ensures ∙ c.in-Some.is)
 
-pub push_bits-bits_of-requires : goal.push_bits-bits_of-requires
-push_bits-bits_of-requires t c = (rw (c.in-Lit.is, literals-Lit) at c.requires.digits) 0 c.in-Lit.literal (omega arith)
+pub push_bits-filled_bits_of-requires : goal.push_bits-filled_bits_of-requires
+push_bits-filled_bits_of-requires t c = (rw (c.in-Lit.is, literals-Lit) at c.requires.digits) 0 c.in-Lit.literal (omega arith)
 
 pub push_bits-push_parts-requires : goal.push_bits-push_parts-requires
 push_bits-push_parts-requires t c = (search (rules, the_lemmas), ((rw (c.in-Cat.is, literals-Cat, ← c.items.ensures) at c.requires.digits), c.requires.numbers))
