@@ -8,7 +8,7 @@ use nl_io::Source;
 use std::alloc::{AllocError, Global};
 use std::marker::Model;
 
-/// How many bytes of an input are answered.
+/// How many bytes an input may have. The byte behind them is answered too, which tells that an input is longer.
 pub const LIMIT: u64 = 268_435_456;
 
 const ROOM: usize = 4096;

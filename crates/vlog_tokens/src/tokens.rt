@@ -1,4 +1,5 @@
-ghost use Rattle.std.specs.Prelude.{◌≡◌, ◌≤◌, ℕ, Some, length, IfOk, IsFalse};
+ghost use Rattle.std.specs.Prelude.{◌≡◌, ◌+◌, ◌≤◌, ℕ, Some, length, IfOk, IsFalse};
+ghost use Rattle.nl_bytes.specs.declared.bytes.TheConstants.{LIMIT};
 
 use crate::finding::found;
 use crate::token::VFound;
@@ -51,6 +52,7 @@ impl VTokens {
     pub fn here(&self) -> Place
         ensures place { result ≡ self.now.window.place }
         ensures held { length self.now.window.held ≤ 4096 }
+        ensures limit { self.now.window.place.offset ≤ LIMIT + 1 }
     {
         self.bytes.place()
     }
