@@ -31,6 +31,16 @@ fn is_checked(
     ends_from(alloc, &format_of(text), &words, &wanted)
 }
 
+/// A module that assigns as many bits x to a port of 65,536 bits that stands a thousand times on the left.
+fn module_of_unknown_bits(alloc: Global) -> Result<Vec<u8>, Fail> {
+    let mut text = Vec::from_slice(alloc, b"module m (output [65535:0] a); assign {a")?;
+    for _i in 1..1000 {
+        text.extend_from_slice(b", a")?;
+    }
+    text.extend_from_slice(b"} = {65536000{1'bx}}; endmodule")?;
+    Ok(text)
+}
+
 #[test]
 fn files_of_modules_are_checked(rt: HostRuntime) -> Result<(), Fail> {
     for text in [
@@ -44,6 +54,8 @@ fn files_of_modules_are_checked(rt: HostRuntime) -> Result<(), Fail> {
     ] {
         assert_eq!(rt; is_checked(rt.alloc(), text, 0, b"ok\n", b"")?, true);
     }
+    let text = module_of_unknown_bits(rt.alloc())?;
+    assert_eq!(rt; is_checked(rt.alloc(), text.as_slice(), 0, b"ok\n", b"")?, true);
     Ok(())
 }
 

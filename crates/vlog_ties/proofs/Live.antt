@@ -1,5 +1,5 @@
 -- How many bits of an expression are something.
-use Rattle.std.proofs.Common.{◌≡◌, ℕ, ℤ, zero, suc, ◌+◌, ◌*◌, true, false, cond, List, [], ◌∷◌, ◌++◌, Option, None, Some, flat_map, length, map, sum, sum_by, ap, refl, subst, sym, ◌∙◌, arith}
+use Rattle.std.proofs.Common.{◌≡◌, ℕ, ℤ, zero, suc, ◌+◌, ◌*◌, true, false, cond, List, [], ◌∷◌, ◌++◌, Option, None, Some, flat_map, length, map, replicate, sum, sum_by, ap, refl, subst, sym, ◌∙◌, arith}
 use Rattle.std.specs.Prelude.{count_by, is_some}
 use Rattle.std.specs.List.{AllByRecursion, list_all, range_with_len}
 use Rattle.std.specs.Option.{option_map_or}
@@ -85,6 +85,22 @@ use_there (Some slot) select = span_there slot.place (selected slot.range select
 constants_there : (list : List Bit) → somes (map constant_bit list) ≡ count_by is_live list
 constants_there [] = refl
 constants_there (b ∷ list) = omega (arith, sum_by-cons there (constant_bit b) (map constant_bit list), sum_by-cons (λ y. cond (is_live y) 1 0) b list, constants_there list)
+
+-- bits of one kind
+pub live_copied : (bit : Bit) (count : ℕ) → is_live bit ≡ true → count ≡ count_by is_live (replicate count bit)
+live_copied bit zero h = refl
+live_copied bit (suc count) h =
+    let one : ◌≡◌ {A = ℕ} (cond (is_live bit) 1 0) 1 = ap (λ b. cond {A = ℕ} b 1 0) h in
+    omega (arith, sum_by-cons (λ y. cond (is_live y) 1 0) bit (replicate count bit), live_copied bit count h, one)
+
+pub open_copied : (bit : Bit) (count : ℕ) → is_live bit ≡ false → 0 ≡ count_by is_live (replicate count bit)
+open_copied bit zero h = refl
+open_copied bit (suc count) h =
+    let none : ◌≡◌ {A = ℕ} (cond (is_live bit) 1 0) 0 = ap (λ b. cond {A = ℕ} b 1 0) h in
+    omega (arith, sum_by-cons (λ y. cond (is_live y) 1 0) bit (replicate count bit), open_copied bit count h, none)
+
+pub live-append : (xs ys : List Bit) → count_by is_live (xs ++ ys) ≡ count_by is_live xs + count_by is_live ys
+live-append xs ys = sum_by-append (λ y. cond (is_live y) 1 0) xs ys
 
 somes-repeated : (n : ℕ) (once : List (Option Node)) → somes (repeated n once) ≡ n * somes once
 unfolding repeated

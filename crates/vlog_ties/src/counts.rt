@@ -1,5 +1,5 @@
 // The number of joins of a module, before any is made.
-ghost use Rattle.std.specs.Prelude.{◌≡◌, ◌≤◌, ◌-◌, ◌^◌, [], All, count_by, flat_map, length, map, min, sum, IfOk};
+ghost use Rattle.std.specs.Prelude.{◌≡◌, ◌≤◌, ◌-◌, ◌^◌, [], All, count_by, flat_map, length, map, min, replicate, sum, IfOk};
 ghost use Rattle.vlog_design.specs.Design.{module_joins};
 ghost use Rattle.vlog_design.specs.Exprs.{is_live, literals, live_width};
 ghost use Rattle.vlog_design.specs.Numbers.{HasDigits};
@@ -30,6 +30,13 @@ fn is_live(bit: Bit) -> bool
     }
 }
 
+/// How many of so many bits of one kind are 0 or 1.
+fn live_copies(bit: Bit, count: u32) -> u64
+    ensures { result ≡ count_by is_live (replicate count bit) }
+{
+    if is_live(bit) { u64::from(count) } else { 0 }
+}
+
 /// How many of the bits are 0 or 1.
 fn live_bits(bits: &[Bit]) -> u64
     ensures { result ≡ count_by is_live bits.now }
@@ -56,7 +63,7 @@ fn live_width(alloc: Global, table: &Table, expr: &Expr) -> Result<u64, NoMemory
         },
         Expr::Lit(literal) => {
             let bits = bits_of(alloc, literal)?;
-            Ok(live_bits(bits.items()))
+            Ok(live_copies(bits.fill, bits.filled).saturating_add(live_bits(&bits.own)))
         }
         Expr::LooseNumber(_) => Ok(0),
         Expr::Loose(_) => Ok(0),

@@ -1,11 +1,8 @@
 // The joins of what is tied.
-ghost use Rattle.std.specs.Prelude.{◌≡◌, ◌++◌, ◌+◌, ◌≤◌, ◌<◌, ◌^◌, All, Some, flat_map, map, IfOk, OnOk};
-ghost use Rattle.std.specs.List.{range_with_len};
-ghost use Rattle.net_hier.specs.declared.nodes.Node.TheVariants.{Pin};
-ghost use Rattle.net_hier.specs.Cells.{width_of};
+ghost use Rattle.std.specs.Prelude.{◌≡◌, ◌++◌, ◌≤◌, All, flat_map, map, IfOk, OnOk};
 ghost use Rattle.vlog_design.specs.Design.{module_joins, pairing_of_assign, slot_joins};
-ghost use Rattle.vlog_design.specs.Exprs.{literals, node_at};
-ghost use Rattle.vlog_design.specs.Numbers.{HasDigits, HasNumbers, first_number};
+ghost use Rattle.vlog_design.specs.Exprs.{literals};
+ghost use Rattle.vlog_design.specs.Numbers.{HasDigits, HasNumbers};
 ghost use Rattle.vlog_values.specs.Sizes.{module_size};
 ghost use Rattle.vlog_values.specs.Values.{IsModule};
 ghost use Rattle.vlog_ties.specs.Ties.{modules_in, pairing_joins, tie_joins, tie_literals};
@@ -15,44 +12,15 @@ use crate::ties::ties_of;
 use net_hier::{Join, Node};
 use nl_base::NoMemory;
 use std::alloc::Global;
-use vlog_design::bits::push_bits;
+use vlog_design::bits::{node, push_bits};
 use vlog_design::joins::push_joins;
 use vlog_design::names::Names;
-use vlog_design::signals::{Place, Slot};
+use vlog_design::runs::Runs;
+use vlog_design::signals::Slot;
 use vlog_design::table::Table;
 use vlog_design::widths::range_width;
 use vlog_rules::passes::Scope;
 use vlog_values::Expr;
-
-/// Adds the bits of a pin, from the left.
-fn push_pin_bits(
-    instance: u32,
-    port: u32,
-    width: u32,
-    out: &mut Vec<Option<Node>>,
-) -> Result<(), NoMemory>
-    ensures added { OnOk result (out.new.items ≡ out.old.items ++ map (λ bit. Some (Pin instance port bit)) (range_with_len 0 width)) }
-{
-    for bit in 0..width {
-        out.push(Some(Node::Pin {
-            instance,
-            port,
-            bit,
-        }))?;
-    }
-    Ok(())
-}
-
-/// The node of a bit of a port or net, by its position from the left.
-fn node(place: Place, bit: u32) -> Node
-    requires { first_number place + bit < 2 ^ 32 }
-    ensures { result ≡ node_at place bit }
-{
-    match place {
-        Place::AtPort(number) => Node::Port { port: number, bit },
-        Place::AtNet(first) => Node::Net(first as u32 + bit),
-    }
-}
 
 /// Adds the joins of each bit of a port or net to a constant.
 fn push_supply(slot: Slot, constant: Node, out: &mut Vec<Join>) -> Result<(), NoMemory>
@@ -81,9 +49,9 @@ fn push_assign(
     requires numbers { All (λ signal. HasNumbers signal.slot) table.now }
     ensures added { OnOk result (out.new.items ≡ out.old.items ++ pairing_joins (pairing_of_assign table.now left.now right.now)) }
 {
-    let mut left_bits = Vec::new(alloc);
+    let mut left_bits = Runs::empty(alloc);
     push_bits(alloc, table, left, &mut left_bits)?;
-    let mut right_bits = Vec::new(alloc);
+    let mut right_bits = Runs::empty(alloc);
     push_bits(alloc, table, right, &mut right_bits)?;
     push_joins(&left_bits, &right_bits, out)
 }
@@ -103,9 +71,14 @@ fn push_tie(alloc: Global, table: &Table, tie: &Tie, out: &mut Vec<Join>) -> Res
             width,
             value,
         } => {
-            let mut pin_bits = Vec::new(alloc);
-            push_pin_bits(number, port_number, width, &mut pin_bits)?;
-            let mut value_bits = Vec::new(alloc);
+            let first = Node::Pin {
+                instance: number,
+                port: port_number,
+                bit: 0,
+            };
+            let mut pin_bits = Runs::empty(alloc);
+            pin_bits.push_nodes(first, width)?;
+            let mut value_bits = Runs::empty(alloc);
             push_bits(alloc, table, value, &mut value_bits)?;
             push_joins(&pin_bits, &value_bits, out)
         }

@@ -1,18 +1,18 @@
-use Rattle.std.proofs.Common.{◌*◌, ◌∙◌, All, ap, sym, subst, arith, map, min, refl, rules, sum}
-use Rattle.vlog_design.specs.Exprs.{literals, live_width}
+use Rattle.std.proofs.Common.{◌*◌, ◌∙◌, All, ap, count_by, sym, subst, arith, map, min, refl, replicate, rules, sum}
+use Rattle.vlog_design.specs.Exprs.{is_live, literals, live_width}
 use Rattle.vlog_design.specs.Numbers.{HasDigits}
 use Rattle.vlog_design.proofs.Capped.{capped_mul}
 use Rattle.vlog_design.proofs.ExprLemmas.{literals-Cat, literals-Lit, literals-Rep}
 use Rattle.vlog_design.proofs.Parts.{all_of_part}
 use Rattle.vlog_values.specs.declared.expression.Expr.TheViews.{the_lemmas}
-use Rattle.vlog_ties.proofs.Live.{live-Cat, live-Lit, live-Loose, live-LooseNumber, live-Ref, live-Rep}
+use Rattle.vlog_ties.proofs.Live.{live-append, live-Cat, live-Lit, live-Loose, live-LooseNumber, live-Ref, live-Rep}
 use Rattle.vlog_ties.proofs.counts.+live.Goals as goal
 
 pub live_width-bits_of-requires : goal.live_width-bits_of-requires
 live_width-bits_of-requires t c = (rw (c.in-Lit.is, literals-Lit) at c.requires) 0 c.in-Lit.literal (omega arith)
 
 pub live_width-live_width_in-requires : goal.live_width-live_width_in-requires
-live_width-live_width_in-requires t c = (search (rules, the_lemmas), (rw (c.in-Cat.is, literals-Cat, ← c.items-in-Cat.ensures) at c.requires))
+live_width-live_width_in-requires t c = (search (rules, the_lemmas), (rw (c.in-Cat.is, literals-Cat, ← c.items.ensures) at c.requires))
 
 pub live_width-live_width_in-requires-in-Rep : goal.live_width-live_width_in-requires-in-Rep
 live_width-live_width_in-requires-in-Rep t c = (search (rules, the_lemmas), (rw (c.in-Rep.is, literals-Rep, ← c.items-in-Rep.ensures) at c.requires))
@@ -28,7 +28,10 @@ pub live_width-returns-in-Some : goal.live_width-returns-in-Some
 live_width-returns-in-Some t c = rw (c.in-Ref.is, live-Ref, ← c.bytes.ensures, ← c.find.ensures, c.in-Some.is) (omega (arith, c.selected_width.ensures))
 
 pub live_width-returns-in_ok-bits-in-Lit : goal.live_width-returns-in_ok-bits-in-Lit
-live_width-returns-in_ok-bits-in-Lit t c = rw (c.in-Lit.is, live-Lit, ← c.in_ok-bits-in-Lit.ensures.value, ← c.items.ensures) (omega (arith, c.live_bits.ensures))
+live_width-returns-in_ok-bits-in-Lit t c =
+    let bits = c.in_ok-bits-in-Lit.bits in
+    rw (c.in-Lit.is, live-Lit, ← c.in_ok-bits-in-Lit.ensures.value)
+    (omega (arith, c.saturating_add.ensures, c.live_copies.ensures, c.live_bits.ensures ∙ ap (count_by is_live) c.deref.ensures.value, live-append (replicate bits.filled bits.fill) bits.own.items))
 
 pub live_width-returns-in-LooseNumber : goal.live_width-returns-in-LooseNumber
 live_width-returns-in-LooseNumber t c = rw (c.in-LooseNumber.is, live-LooseNumber) refl
@@ -37,7 +40,7 @@ pub live_width-returns-in-Loose : goal.live_width-returns-in-Loose
 live_width-returns-in-Loose t c = rw (c.in-Loose.is, live-Loose) refl
 
 pub live_width-returns-in-Cat : goal.live_width-returns-in-Cat
-live_width-returns-in-Cat t c = rw (c.in-Cat.is, live-Cat, ← c.items-in-Cat.ensures) c.live_width_in.ensures
+live_width-returns-in-Cat t c = rw (c.in-Cat.is, live-Cat, ← c.items.ensures) c.live_width_in.ensures
 
 pub live_width-returns-in_ok-once-in-Rep : goal.live_width-returns-in_ok-once-in-Rep
 live_width-returns-in_ok-once-in-Rep t c = rw (c.in-Rep.is, live-Rep, ← c.items-in-Rep.ensures)
