@@ -15,7 +15,7 @@ use std::alloc::Global;
 use vlog_design::names::Names;
 use vlog_design::table::Table;
 use vlog_design::widths::{range_width, selected_width, times};
-use vlog_literals::bits_of;
+use vlog_literals::filled_bits_of;
 use vlog_rules::passes::Scope;
 use vlog_values::{Bit, Expr};
 
@@ -62,7 +62,7 @@ fn live_width(alloc: Global, table: &Table, expr: &Expr) -> Result<u64, NoMemory
             Some(slot) => Ok(selected_width(slot.range, *select)),
         },
         Expr::Lit(literal) => {
-            let bits = bits_of(alloc, literal)?;
+            let bits = filled_bits_of(alloc, literal)?;
             Ok(live_copies(bits.fill, bits.filled).saturating_add(live_bits(&bits.own)))
         }
         Expr::LooseNumber(_) => Ok(0),

@@ -169,11 +169,19 @@ past_less : (w : Window) → length (past_mark w).held ≤ length w.held
 unfolding past_mark
 past_less w = omega (arith, length-drop 1 (drop (space_length w.held) w.held), length-drop (space_length w.held) w.held)
 
+-- no more was taken than lies within the limit
+past_given : (w : Window) (mark : ℕ) → held_mark w ≡ Some mark → given (past_mark w) ≤ LIMIT + 4096
+unfolding past_mark
+past_given w mark e =
+    let n = mark_next w mark e in
+    let a = past_space w in
+    omega (arith, place_past-offset a.place (take 1 a.held), length-take 1 a.held, length-drop 1 a.held, ap (λ (xs : List ℕ). length xs) n.at.ahead, space_offset w, held_within w n.near)
+
 -- a reader that is not spent reads the mark as its next token
 pub mark_reads : (w : Window) (mark : ℕ) → held_mark w ≡ Some mark → length w.held ≤ 4096 → (i : Supply) → (x : VFound) × (x.token ≡ Punct mark) × ReadsToken vlog (Ok (Some x)) w false (past_mark w) false i i
 mark_reads w mark e small i =
     let m = mark_found w mark e in
-    (m.found, m.is, reads_found (m.finds i.left) (λ h. absurd cc) tt (omega arith) (λ h. absurd cc) (omega (arith, past_less w, small)))
+    (m.found, m.is, reads_found (m.finds i.left) (λ h. absurd cc) tt (omega arith) (λ h. absurd cc) (omega (arith, past_less w, small)) (past_given w mark e))
 
 -- the same of a reader that is made of a window and whether it is spent
 pub mark_taken : (s : State) (w : Window) (spent : Bool) → record { window = w; spent = spent } ≡ s → length w.held ≤ 4096 → (mark : ℕ) → held_mark s.window ≡ Some mark → IsFalse s.spent → (i : Supply)

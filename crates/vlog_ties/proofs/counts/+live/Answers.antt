@@ -8,8 +8,8 @@ use Rattle.vlog_values.specs.declared.expression.Expr.TheViews.{the_lemmas}
 use Rattle.vlog_ties.proofs.Live.{live-append, live-Cat, live-Lit, live-Loose, live-LooseNumber, live-Ref, live-Rep}
 use Rattle.vlog_ties.proofs.counts.+live.Goals as goal
 
-pub live_width-bits_of-requires : goal.live_width-bits_of-requires
-live_width-bits_of-requires t c = (rw (c.in-Lit.is, literals-Lit) at c.requires) 0 c.in-Lit.literal (omega arith)
+pub live_width-filled_bits_of-requires : goal.live_width-filled_bits_of-requires
+live_width-filled_bits_of-requires t c = (rw (c.in-Lit.is, literals-Lit) at c.requires) 0 c.in-Lit.literal (omega arith)
 
 pub live_width-live_width_in-requires : goal.live_width-live_width_in-requires
 live_width-live_width_in-requires t c = (search (rules, the_lemmas), (rw (c.in-Cat.is, literals-Cat, ← c.items.ensures) at c.requires))
