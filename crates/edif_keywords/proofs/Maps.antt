@@ -84,7 +84,7 @@ moves_then a b c i j m h n = record {
   taken = omega (arith, h.taken, n.taken);
   left = n.left ∙ ap (skip (given c) (given b)) h.left ∙ skip_skip (given a) (given b) (given c) i.left h.taken n.taken;
   faults = omega (arith, h.faults, n.faults);
-  within = λ x. n.within (h.within x);
+  within = omega (arith, h.within, n.within);
 }
 
 rose_since : (a b c : ℕ) → a ≤ b → Rose b c → Rose a c

@@ -6,7 +6,7 @@ use Rattle.nl_bytes.specs.Bytes.{Window, input}
 use Rattle.edif_tokens.specs.declared.token.Found.{Found}
 use Rattle.edif_tokens.specs.Streams as streams
 use Rattle.edif_tokens.specs.Stream.{stream_from, stop_of}
-use Rattle.readers.specs.Sources.{Supply, ReadsToken, TellsKnown, NearError, NearToken, EndsInput, Shortens, skip, tokens_ahead}
+use Rattle.readers.specs.Sources.{Supply, ReadsToken, TellsKnown, NearError, NearToken, EndsInput, Shortens, excess, skip, tokens_ahead}
 use Rattle.edif_keywords.specs.Language.{edif, ahead_of}
 
 ahead_known : (w : Window) (i : Supply) → tokens_ahead edif w i ≡ option_map ahead_of (streams.stream_ahead stream_from w i.left)
@@ -57,7 +57,7 @@ ends_input (Err e) left faults h = tt
 
 pub reads_token : (r : Result (Option Found) ReadError) (old new : streams.State) (left left' : Option (List ℕ)) (faults faults' : ℕ) → streams.Reads stream_from stop_of r old new left left' faults faults'
     → ReadsToken edif r old.window old.spent new.window new.spent (record { left = left; faults = faults }) (record { left = left'; faults = faults' })
-unfolding skip
+unfolding skip excess
 reads_token r old new left left' faults faults' h = record {
   moves = record { place = h.moves.place; taken = h.moves.taken; left = h.moves.suffix; faults = h.moves.count; within = h.moves.within };
   told = λ fresh. rw (ahead_known old.window (record { left = left; faults = faults }), ahead_known new.window (record { left = left'; faults = faults' }))

@@ -1,5 +1,5 @@
 -- What the reader of tokens answers, from what was found.
-use Rattle.std.proofs.Common.{◌≡◌, ℕ, ◌+◌, ◌≤◌, Bool, true, false, List, length, Option, Some, None, Result, Ok, Err, IsTrue, refl, ap, arith}
+use Rattle.std.proofs.Common.{◌≡◌, ℕ, ◌+◌, ◌-◌, ◌≤◌, Bool, true, false, List, length, Option, Some, None, Result, Ok, Err, IsTrue, refl, ap, arith}
 use Rattle.std.specs.Prelude.{◌↔◌, IfOk, IfErr, OnOk, IsErrOf, IsFalse, is_err}
 use Rattle.nl_base.specs.declared.fault.ReadError.{ReadError}
 use Rattle.nl_base.specs.declared.fault.ReadError.TheVariants.{Text, ReadFault, TooLong, NoMemory, Spent}
@@ -14,7 +14,7 @@ use Rattle.edif_tokens.specs.Stream.{ReadsToken, stop_of}
 use Rattle.edif_tokens.specs.Scan.{Finds, UsesTo}
 use Rattle.edif_tokens.proofs.Spans.{offset_grows}
 
-uses_moves : {old new : Window} {l l' : Option (List ℕ)} {used : List ℕ} → Uses old new l l' used → (f f' : ℕ) → f ≤ f' → (given old ≤ LIMIT + 4096 → given new ≤ LIMIT + 4096) → Moves old new l l' f f'
+uses_moves : {old new : Window} {l l' : Option (List ℕ)} {used : List ℕ} → Uses old new l l' used → (f f' : ℕ) → f ≤ f' → given new - (LIMIT + 4096) ≤ given old - (LIMIT + 4096) → Moves old new l l' f f'
 uses_moves u f f' count within = record { place = omega (arith, offset_grows u); taken = u.taken; suffix = u.suffix; count = count; within = within }
 
 near_fault : (r : Result (Option Found) ReadError) (w : Window) → OnText r (λ t. w.place.offset ≤ t.stop) → length w.held ≤ 4096 → IfErr r (λ e. NearError e w)
@@ -55,7 +55,7 @@ state w spent = record { window = w; spent = spent }
 pub reads_found : {old new : Window} {l l' : Option (List ℕ)} {r : Result (Option Found) ReadError} {f f' : ℕ} → Finds old new l l' r → (IsErrOf r Spent → ⊥)
     → OnText r (λ t. new.place.offset ≤ t.stop) → f ≤ f' → (IsErrOf r ReadFault → Rose f f') → length new.held ≤ 4096 → given new ≤ LIMIT + 4096 → ReadsToken r (state old false) (state new (is_err r)) l l' f f'
 reads_found {old} {new} {l} {l'} {r} {f} {f'} finds free to count cause held taken = record {
-  moves = uses_moves finds.uses f f' count (λ _. taken);
+  moves = uses_moves finds.uses f f' count (omega (arith, taken));
   told = λ _. finds.told;
   unspent = unspent_ok r;
   spent = spent_not r free;
@@ -70,7 +70,7 @@ reads_found {old} {new} {l} {l'} {r} {f} {f'} finds free to count cause held tak
 -- the reader that was spent
 pub reads_spent : (w : Window) (l : Option (List ℕ)) (f : ℕ) → ReadsToken (Err Spent) (state w true) (state w true) l l f f
 reads_spent w l f = record {
-  moves = uses_moves (Uses-none w l) f f (omega arith) (λ h. h);
+  moves = uses_moves (Uses-none w l) f f (omega arith) (omega arith);
   told = λ h. absurd cc;
   unspent = tt;
   spent = (λ _. refl, λ _. refl);

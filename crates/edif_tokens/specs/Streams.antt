@@ -79,7 +79,7 @@ pub record Moves (old new : Window) (left left' : Option (List ℕ)) (faults fau
   pub suffix : left' ≡ left_past (given new - given old) left
   pub count : faults ≤ faults'
   -- no more than 4,096 bytes past the limit are ever taken
-  pub within : given old ≤ LIMIT + 4096 → given new ≤ LIMIT + 4096
+  pub within : given new - (LIMIT + 4096) ≤ given old - (LIMIT + 4096)
 
 -- all bytes that were ever taken end at most 4,096 bytes behind an offset
 abbrev pub IsNear : Window → ℕ → Type 0

@@ -7,7 +7,7 @@ use Rattle.nl_base.specs.declared.fault.TextFault.{TextFault}
 use Rattle.nl_base.specs.declared.fault.ReadError.TheVariants as errors
 use Rattle.nl_bytes.specs.Bytes.{Window, Uses, given}
 use Rattle.nl_bytes.specs.declared.bytes.TheConstants.{LIMIT}
-use Rattle.readers.specs.Sources.{Supply, Moves, skip, IsNear, NearError}
+use Rattle.readers.specs.Sources.{Supply, Moves, excess, skip, IsNear, NearError}
 use Rattle.readers.specs.Readers.{Reader, room}
 
 pub skip_skip : (a b c : ℕ) (bs : Option (List ℕ)) → a ≤ b → b ≤ c → skip c b (skip b a bs) ≡ skip c a bs
@@ -24,14 +24,14 @@ skip_none n (Some bs) = let e : n - n ≡ 0 = omega arith in rw e refl
 
 -- nothing is taken and nothing is used
 pub still : (w : Window) (i : Supply) → Moves w w i i
-still w i = record { place = omega arith; taken = omega arith; left = sym (skip_none (given w) i.left); faults = omega arith; within = λ h. h }
+still w i = record { place = omega arith; taken = omega arith; left = sym (skip_none (given w) i.left); faults = omega arith; within = omega arith }
 
 -- a reader of bytes that used some moved so
 pub uses_move : (old new : Window) (i j : Supply) (used : List ℕ) → Uses old new i.left j.left used → i.faults ≤ j.faults → given new ≤ LIMIT + 4096 → Moves old new i j
-unfolding skip
+unfolding skip excess
 uses_move old new i j used u f most =
     let p : new.place.offset ≡ old.place.offset + length used = ap (λ (z : Place). z.offset) u.place ∙ place_past-offset old.place used in
-    record { place = omega arith; taken = u.taken; left = u.suffix; faults = f; within = λ _. most }
+    record { place = omega arith; taken = u.taken; left = u.suffix; faults = f; within = omega (arith, most) }
 
 -- ---- how far bytes were taken
 

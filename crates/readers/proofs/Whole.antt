@@ -1,5 +1,5 @@
 -- A whole input is read as its value, or refused by its first fault.
-use Rattle.std.proofs.Common.{◌≡◌, ℕ, true, false, List, [], Option, Some, None, IfSome, Result, Ok, Err, refl, sym, ap, subst, ◌∙◌, arith}
+use Rattle.std.proofs.Common.{◌≡◌, ℕ, ◌+◌, ◌≤◌, true, false, List, [], Option, Some, None, IfSome, Result, Ok, Err, refl, sym, ap, subst, ◌∙◌, arith}
 use Rattle.grammar.specs.Part.{gives, sequence}
 use Rattle.grammar.specs.Reading.{Stop, refused, ended, read}
 use Rattle.grammar.specs.Clear.{IsClosed, IsLive, IsClear}
@@ -12,8 +12,9 @@ use Rattle.nl_base.specs.declared.fault.Reason.{Reason}
 use Rattle.nl_base.specs.declared.fault.ReadError.{ReadError}
 use Rattle.nl_base.specs.declared.fault.ReadError.TheVariants as errors
 use Rattle.nl_bytes.specs.Bytes.{Window, given}
+use Rattle.nl_bytes.specs.declared.bytes.TheConstants.{LIMIT}
 use Rattle.readers.specs.Parts.{PartOf}
-use Rattle.readers.specs.Sources.{Supply, Ahead, Language, NearError, skip, only_end}
+use Rattle.readers.specs.Sources.{Supply, Ahead, Language, NearError, excess, skip, only_end}
 use Rattle.readers.specs.Readers.{Reader, ReadsWhole, Ends, stream, stream_of, reading, then_left, on, result_of, finish_error, fault_at, emptied, IsEnd, IsCause}
 use Rattle.readers.specs.Texts.{tokens_of, Comes, TakesTo, ReadsText}
 use Rattle.readers.proofs.Moving.{skip_skip}
@@ -30,6 +31,11 @@ takes_to errors.TooLong w h = tt
 takes_to errors.NoMemory w h = tt
 takes_to errors.ReadFault w h = tt
 takes_to errors.Spent w h = tt
+
+-- from a new reader on no more is taken
+taken_within : (w : Window) → excess w ≤ excess (record { held = []; place = place_at_start }) → given w ≤ LIMIT + 4096
+unfolding excess
+taken_within w h = omega (arith, h)
 
 -- a part that is live, and clear where the end of the input follows it
 module _ {K X A : Type 0} (L : Language X) (trailing : X → Reason) (k : K) (part : PartOf K X A) (live : IsLive k part) (clear : IsClear k part (λ _ t. (p : Place) × (t ≡ end p))) where
@@ -123,7 +129,7 @@ module _ {K X A : Type 0} (L : Language X) (trailing : X → Reason) (k : K) (pa
       taken = given b.window;
       left = h.moves.left;
       near = takes_to e b.window h.near;
-      within = h.moves.within (omega arith);
+      within = taken_within b.window h.moves.within;
     }
 
     pub end_fails : (x : V) (e : ReadError) (b c : Reader K X) (i j m : Supply) → ReadsWhole L view part (Ok x) (fresh X k) b i j → Ends L trailing (Err e) b c j m → ReadsText L trailing k view part (Err e) i m
@@ -138,7 +144,7 @@ module _ {K X A : Type 0} (L : Language X) (trailing : X → Reason) (k : K) (pa
       taken = given c.window;
       left = n.moves.left ∙ ap (skip (given c.window) (given b.window)) h.moves.left ∙ skip_skip 0 (given b.window) (given c.window) i.left (omega arith) n.moves.taken;
       near = takes_to e c.window n.near;
-      within = n.moves.within (h.moves.within (omega arith));
+      within = taken_within c.window (omega (arith, h.moves.within, n.moves.within));
     }
 
     pub text_is_read : (x : V) (b c : Reader K X) (i j m : Supply) → ReadsWhole L view part (Ok x) (fresh X k) b i j → Ends L trailing (Ok tt) b c j m → ReadsText L trailing k view part (Ok x) i m
@@ -154,7 +160,7 @@ module _ {K X A : Type 0} (L : Language X) (trailing : X → Reason) (k : K) (pa
       taken = given c.window;
       left = n.moves.left ∙ ap (skip (given c.window) (given b.window)) h.moves.left ∙ skip_skip 0 (given b.window) (given c.window) i.left (omega arith) n.moves.taken;
       near = tt;
-      within = n.moves.within (h.moves.within (omega arith));
+      within = taken_within c.window (omega (arith, h.moves.within, n.moves.within));
     }
 
     -- the same from a reader that is a new one

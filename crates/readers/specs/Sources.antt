@@ -34,6 +34,10 @@ pub record Language (X : Type 0) : Type 0 where
 unfoldable pub skip : ℕ → ℕ → Option (List ℕ) → Option (List ℕ)
 skip now before left = left_past (now - before) left
 
+-- how many bytes were ever taken more than 4,096 past the limit of an input; of a new reader it is 0
+unfoldable pub excess : Window → ℕ
+excess w = given w - (LIMIT + 4096)
+
 -- Bytes are taken from the source, and some of the bytes that were taken are used; the count of faults never falls.
 pub record Moves (old new : Window) (i j : Supply) : Type 0 where
   pub place : old.place.offset ≤ new.place.offset
@@ -41,7 +45,7 @@ pub record Moves (old new : Window) (i j : Supply) : Type 0 where
   pub left : j.left ≡ skip (given new) (given old) i.left
   pub faults : i.faults ≤ j.faults
   -- no more than 4,096 bytes past the limit are ever taken
-  pub within : given old ≤ LIMIT + 4096 → given new ≤ LIMIT + 4096
+  pub within : excess new ≤ excess old
 
 -- all bytes that were ever taken end at most 4,096 bytes behind an offset
 abbrev pub IsNear : Window → ℕ → Type 0

@@ -178,6 +178,7 @@ impl VCursor {
         stop: u64,
         said: Result<Result<T, Reason>, NoMemory>,
     ) -> Result<T, ReadError>
+        requires unspent { IsFalse self.old.spent }
         ensures answer { result ≡ answer place stop said }
         ensures left { self.new ≡ left_after said self.old }
     {

@@ -8,7 +8,7 @@ use Rattle.nl_io.specs.Causes.{Rose}
 use Rattle.nl_bytes.specs.Bytes.{Window, Uses, given}
 use Rattle.nl_bytes.specs.declared.bytes.TheConstants.{LIMIT}
 use Rattle.nl_bytes.proofs.Uses.{Uses-none}
-use Rattle.readers.specs.Sources.{Supply, Moves, NearError, NearToken, EndsInput, ReadsToken, skip}
+use Rattle.readers.specs.Sources.{Supply, Moves, NearError, NearToken, EndsInput, ReadsToken, excess, skip}
 use Rattle.vlog_tokens.specs.declared.token.VFound.{VFound}
 use Rattle.vlog_tokens.specs.Language.{vlog, State}
 use Rattle.vlog_tokens.specs.Finding.{Finds, UsesTo, EndsAt}
@@ -17,7 +17,11 @@ use Rattle.vlog_tokens.proofs.Parts.{offset_grows}
 abbrev pub supplied : Option (List ℕ) → ℕ → Supply
 supplied left faults = record { left = left; faults = faults }
 
-uses_moves : {old new : Window} {l l' : Option (List ℕ)} {used : List ℕ} → Uses old new l l' used → (f f' : ℕ) → f ≤ f' → (given old ≤ LIMIT + 4096 → given new ≤ LIMIT + 4096) → Moves old new (supplied l f) (supplied l' f')
+none_past : (old new : Window) → given new ≤ LIMIT + 4096 → excess new ≤ excess old
+unfolding excess
+none_past old new taken = omega (arith, taken)
+
+uses_moves : {old new : Window} {l l' : Option (List ℕ)} {used : List ℕ} → Uses old new l l' used → (f f' : ℕ) → f ≤ f' → excess new ≤ excess old → Moves old new (supplied l f) (supplied l' f')
 unfolding skip
 uses_moves u f f' count within = record { place = omega (arith, offset_grows u); taken = u.taken; left = u.suffix; faults = count; within = within }
 
@@ -69,7 +73,7 @@ Nexts r old new l l' f f' = ReadsToken vlog r old.window old.spent new.window ne
 pub reads_found : {old new : Window} {l l' : Option (List ℕ)} {r : Result (Option VFound) ReadError} {f f' : ℕ} → Finds old new l l' r → (IsErrOf r Spent → ⊥)
     → OnText r (λ t. new.place.offset ≤ t.stop) → f ≤ f' → (IsErrOf r ReadFault → Rose f f') → length new.held ≤ 4096 → given new ≤ LIMIT + 4096 → Nexts r (state old false) (state new (is_err r)) l l' f f'
 reads_found {old} {new} {l} {l'} {r} {f} {f'} finds free to count cause held taken = record {
-  moves = uses_moves finds.uses f f' count (λ _. taken);
+  moves = uses_moves finds.uses f f' count (none_past old new taken);
   told = λ _. finds.told;
   unspent = unspent_ok r;
   spent = spent_not r free;
@@ -85,7 +89,7 @@ reads_found {old} {new} {l} {l'} {r} {f} {f'} finds free to count cause held tak
 pub reads_spent : (w : Window) (l : Option (List ℕ)) (f : ℕ) → Nexts (Err Spent) (state w true) (state w true) l l f f
 unfolding NearError
 reads_spent w l f = record {
-  moves = uses_moves (Uses-none w l) f f (omega arith) (λ h. h);
+  moves = uses_moves (Uses-none w l) f f (omega arith) (omega arith);
   told = λ h. absurd cc;
   unspent = tt;
   spent = (λ _. refl, λ _. refl);
