@@ -20,4 +20,4 @@ returns g c =
     stands_says (λ _ x. at_group x.token) _ _ _ _ _ _ c.is_some.ensures (seen_says (λ _ x. at_group x.token) _ _ _ _ _ (rw c.in-Some-next.is at c.in_ok-next.ensures) _ _ _ c.at_group.ensures c.in_ok-taken.ensures.answer c.in_ok-taken.ensures.left)
 
 pub returns-in-Some : goal.returns-in-Some
-returns-in-Some g c = mark_none stands at_group c.args.cursor.now c.args.cursor.now c.in-Some.mark (sym c.in-Some.ensures.mark) c.held_mark.ensures.held _ false refl refl
+returns-in-Some g c = mark_none stands at_group c.args.cursor.now c.args.cursor.now c.in-Some._mark (sym c.in-Some.ensures.mark) c.held_mark.ensures.held _ false refl refl

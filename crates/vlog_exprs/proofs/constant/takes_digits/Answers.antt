@@ -15,4 +15,4 @@ pub returns : goal.returns
 returns g c = seen_says (λ _ x. at_digits c.args.number x.token) _ _ _ _ _ (rw c.in-Some-next.is at c.in_ok-next.ensures) _ _ _ c.at_digits.ensures c.settled.ensures.answer c.settled.ensures.left
 
 pub returns-in-Some : goal.returns-in-Some
-returns-in-Some g c = mark_none same (at_digits c.args.number) c.args.cursor.now c.args.cursor.now c.in-Some.mark (sym c.in-Some.ensures.mark) c.held_mark.ensures.held _ None refl refl
+returns-in-Some g c = mark_none same (at_digits c.args.number) c.args.cursor.now c.args.cursor.now c.in-Some._mark (sym c.in-Some.ensures.mark) c.held_mark.ensures.held _ None refl refl
