@@ -1,9 +1,9 @@
-use crate::run::run;
-use crate::status::Status;
 use crate::texts::{
     ALIASED, BLINKER, BLINKER_MODULES, BLINKER_WRITTEN, CHAINED, CHAINED_WRITTEN, ESCAPED,
     ESCAPED_WRITTEN, LITERALS, LITERALS_WRITTEN, PARTS, PARTS_WRITTEN, SMALL, WRITTEN,
 };
+use netlist_cli::run::run;
+use netlist_cli::status::Status;
 use nl_base::{Seq, Text};
 use nl_io::{MemSink, MemSource};
 use std::alloc::Global;
