@@ -33,6 +33,7 @@ no_memory_first i = record {
   taken = 0;
   left = sym (skip_none 0 i.left);
   near = tt;
+  within = omega arith;
 }
   where
     by : (left : Option (List ℕ)) → IfSome left (λ bs. Comes edif trailing [] (file []) errors.NoMemory (tokens_of edif bs))

@@ -51,7 +51,8 @@ pub struct EdifFile {
     pub items: Seq<FileItem>,
 }
 
-/// Reads a text to its end as an EDIF file. The text has at most 268,435,456 bytes.
+/// Reads a text to its end as an EDIF file. The text has at most 268,435,456 bytes. Whatever it answers, at
+/// most 4,096 bytes more than these are taken from the source.
 ///
 /// # Errors
 /// `Text`: the first fault, with its place, where its stop lies within so many bytes. `TooLong`: the text is longer, and it has no such

@@ -29,6 +29,7 @@ too_large v i j lt h = record {
   taken = h.taken;
   left = h.left;
   near = tt;
+  within = h.within;
 }
   where
     by : (left : Option (List ℕ)) → IfSome left (λ bs. EdifReads bs v) → IfSome left (λ bs. Comes edif trailing [] (file []) errors.TooLong (tokens_of edif bs))

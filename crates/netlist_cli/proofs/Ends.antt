@@ -22,7 +22,7 @@ ending (Err f) = status_of f
 
 -- no byte is taken
 pub takes_none : (i : Supply) → TakesFrom i i
-takes_none i = record { taken = 0; left = sym (skip_none 0 i.left); faults = omega arith }
+takes_none i = record { taken = 0; left = sym (skip_none 0 i.left); within = omega arith; faults = omega arith }
 
 -- ---- what the bytes are decides
 

@@ -36,7 +36,7 @@ use Rattle.netlist_cli.proofs.Told.{if_told}
 module _ {K X V : Type 0} (L : Language X) (trail : X → Reason) (k : K) (part : PartOf K X V) where
   -- bytes are taken by a reader of a whole text
   pub text_takes : (i j : Supply) (r : Result V ReadError) → ReadsText L trail k same part r i j → TakesFrom i j
-  text_takes i j r h = record { taken = h.taken; left = h.left; faults = h.faults }
+  text_takes i j r h = record { taken = h.taken; left = h.left; within = h.within; faults = h.faults }
 
 -- What the command says of an input that is no text is what the language says of it: its first fault, or that it is too long.
 record Refuses {K X V : Type 0} (L : Language X) (trail : X → Reason) (k : K) (part : PartOf K X V) (c : Command) : Type 0 where

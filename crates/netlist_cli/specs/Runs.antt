@@ -4,6 +4,7 @@ use Rattle.std.specs.Io.KnownBytes.{IsAtEnd}
 use Rattle.nl_base.specs.declared.fault.TextFault.{TextFault}
 use Rattle.nl_io.specs.Causes.{Rose}
 use Rattle.nl_io.specs.declared.source.Failed.{Failed}
+use Rattle.nl_bytes.specs.declared.bytes.TheConstants.{LIMIT}
 use Rattle.nl_output.specs.Writing.{Writes}
 use Rattle.readers.specs.Sources.{Supply, skip}
 use Rattle.netlist_cli.specs.declared.command.Command.{Command}
@@ -41,11 +42,12 @@ pub record HasFault (c : Command) (i j : Supply) (fault : TextFault) : Type 0 wh
   pub left : j.left ≡ skip taken 0 i.left
   pub near : taken ≤ fault.stop + 4096
 
--- Bytes were taken from the front of the input, and its count of faults did not fall.
+-- Bytes were taken from the front of the input, at most 4,096 past the limit of an input, and its count of faults did not fall.
 pub record TakesFrom (i j : Supply) : Type 0 where
   -- as many bytes were taken
   pub taken : ℕ
   pub left : j.left ≡ skip taken 0 i.left
+  pub within : taken ≤ LIMIT + 4096
   pub faults : i.faults ≤ j.faults
 
 -- The text was written to a sink, or a front of it where a put failed.

@@ -32,6 +32,7 @@ no_memory_first i = record {
   taken = 0;
   left = sym (skip_none 0 i.left);
   near = tt;
+  within = omega arith;
 }
   where
     by : (left : Option (List ℕ)) → IfSome left (λ bs. Comes vlog trailing tt file errors.NoMemory (tokens_of vlog bs))

@@ -32,7 +32,8 @@ pub(crate) struct SoFar {
     pub(crate) implicit: bool,
 }
 
-/// Reads a text to its end as a Verilog file. The text has at most 268,435,456 bytes.
+/// Reads a text to its end as a Verilog file. The text has at most 268,435,456 bytes. Whatever it answers, at
+/// most 4,096 bytes more than these are taken from the source.
 ///
 /// # Errors
 /// `Text`: the first fault, with its place, where its stop lies within so many bytes. `TooLong`: the text is longer, and it has no such

@@ -34,6 +34,7 @@ too_large v i j lt h = record {
   taken = h.taken;
   left = h.left;
   near = tt;
+  within = h.within;
 }
   where
     by : (left : Option (List ℕ)) → IfSome left (λ bs. VlogReads bs v) → IfSome left (λ bs. Comes vlog trailing tt file errors.TooLong (tokens_of vlog bs))
