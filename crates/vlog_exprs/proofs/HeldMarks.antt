@@ -1,5 +1,5 @@
 -- The calls that take or leave the punctuation mark that is next, where the bytes that are held show it.
-use Rattle.std.proofs.Common.{◌≡◌, ◌∙◌, sym, ap, subst, refl, ℕ, ◌<◌, ◌≤◌, eq-eqb, Bool, true, false, cond, List, [], ◌∷◌, length, Option, Some, None, is_some, Result, Ok, Err, arith}
+use Rattle.std.proofs.Common.{◌≡◌, ◌∙◌, sym, ap, subst, refl, ℕ, ◌≤◌, eq-eqb, Bool, true, false, cond, List, [], ◌∷◌, length, Option, Some, None, is_some, Ok, arith}
 use Rattle.std.proofs.lemmas.Bool.{ne_eqb}
 use Rattle.grammar.specs.Part.{Glance, takes, leaves}
 use Rattle.grammar.specs.Reading.{look_ahead, take_token}
@@ -8,10 +8,10 @@ use Rattle.nl_base.specs.declared.place.Place.{Place}
 use Rattle.nl_base.specs.declared.fault.Reason.{Reason}
 use Rattle.nl_bytes.specs.Bytes.{Window}
 use Rattle.readers.specs.Parts.{of_token, at_token, any, one, maybe}
-use Rattle.readers.specs.Sources.{Supply, Ahead, Language, IsNear, ReadsToken}
+use Rattle.readers.specs.Sources.{Supply, Ahead, Language, IsNear}
 use Rattle.readers.specs.Readers.{Reader, Reads, TakesNext, same, result_of, reading, then_left, stream}
 use Rattle.readers.proofs.Choices.{took}
-use Rattle.readers.proofs.Looking.{ok_first, ok_second}
+use Rattle.readers.proofs.Looking.{ok_first}
 use Rattle.readers.proofs.Moving.{still}
 use Rattle.readers.proofs.Taking.{takes_next}
 use Rattle.vlog_tokens.specs.declared.token.VFound.{VFound}

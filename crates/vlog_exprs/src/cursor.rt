@@ -59,14 +59,15 @@ impl VCursor {
         ensures mark { result ≡ held_mark self.now }
         ensures held { length self.now.window.held ≤ 4096 }
     {
-        let mark = self.tokens.held_mark();
+        // The buffer holds at most 4,096 bytes, as this call says.
+        let _here = self.tokens.here();
         if self.spent {
             return None;
         }
         if let Some(_) = self.ahead {
             return None;
         }
-        mark
+        self.tokens.held_mark()
     }
 
     /// Takes the mark that is next.

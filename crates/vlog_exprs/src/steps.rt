@@ -50,6 +50,19 @@ impl VCursor {
                 return Ok(());
             }
         }
+        self.mark_token(alloc, due, source)
+    }
+
+    /// Takes any token, which has to be this punctuation mark.
+    #[inline(never)]
+    fn mark_token<S: Source>(
+        &mut self,
+        alloc: Global,
+        due: u8,
+        source: &mut S,
+    ) -> Result<(), ReadError>
+        ensures { Reads vlog same (mark due) result self.old self.new (supply S.left S.faults source.old) (supply S.left S.faults source.new) }
+    {
         let VFound { place, stop, token } = self.take(alloc, source)?;
         let said = mark_of(alloc, due, token);
         self.judged(place, stop, said)
@@ -99,6 +112,19 @@ impl VCursor {
             self.take_mark();
             return Ok(true);
         }
+        self.takes_token(alloc, mark, source)
+    }
+
+    /// Looks at any token, and takes it where it is this punctuation mark.
+    #[inline(never)]
+    fn takes_token<S: Source>(
+        &mut self,
+        alloc: Global,
+        mark: u8,
+        source: &mut S,
+    ) -> Result<bool, ReadError>
+        ensures { TakesNext vlog stands (λ _ x. say.at_mark mark x.token) result self.old self.new (supply S.left S.faults source.old) (supply S.left S.faults source.new) }
+    {
         let next = self.next_out(alloc, source)?;
         let Some(VFound { place, stop, token }) = next else {
             return Ok(false);

@@ -1,9 +1,9 @@
 -- Tokens that are held whole, with the byte that shows their end.
-use Rattle.std.proofs.Common.{◌≡◌, ℕ, zero, suc, ◌+◌, ◌-◌, ◌<◌, ◌≤◌, Bool, true, false, cond, leb, ltb, eqb, ◌||◌, List, [], ◌∷◌, ◌++◌, length, get_or, take, drop, drop-cons, Option, Some, None, Result, Ok, Err, refl, sym, ap, ◌∙◌, subst, arith, length-take, option_map}
+use Rattle.std.proofs.Common.{◌≡◌, ℕ, zero, suc, ◌+◌, ◌<◌, ◌≤◌, Bool, true, false, cond, leb, ltb, eqb, ◌||◌, List, [], ◌∷◌, ◌++◌, length, get_or, take, drop, drop-cons, Option, Some, None, Result, Ok, Err, refl, sym, ap, ◌∙◌, subst, arith, length-take, option_map}
 use Rattle.std.specs.Prelude.{IfOk, OnOk, ℤ}
 use Rattle.std.specs.Char.{is_ascii_digit, is_ascii_alphabetic}
 use Rattle.std.specs.List.{prefix_len}
-use Rattle.std.proofs.lemmas.Bool.{le-ltb, ltb-false, leb-true, leb-false, eqb-true, eqb-false}
+use Rattle.std.proofs.lemmas.Bool.{le-ltb, ltb-false, leb-true, leb-false, eqb-true}
 use Rattle.std.proofs.lemmas.List.Sums.{prefix_len_stops}
 use Rattle.nl_base.specs.declared.place.Place.{Place}
 use Rattle.nl_base.specs.declared.fault.Reason.TheVariants.{NumberRange}
@@ -14,10 +14,9 @@ use Rattle.nl_base.specs.Place.{place_past}
 use Rattle.nl_base.proofs.Places.{place_past-offset}
 use Rattle.nl_bytes.specs.declared.bytes.TheConstants.{LIMIT}
 use Rattle.nl_bytes.specs.declared.class.Class.{Class}
-use Rattle.nl_bytes.specs.declared.class.Class.TheVariants.{VerilogSpace, NameByte, NumberByte, Graphic}
-use Rattle.nl_bytes.specs.declared.halt.Halt.{Halt}
+use Rattle.nl_bytes.specs.declared.class.Class.TheVariants.{NameByte, NumberByte, Graphic}
 use Rattle.nl_bytes.specs.Classes.{AreIn, in_class, is_verilog_space, is_name_byte, is_number_byte, is_graphic}
-use Rattle.nl_bytes.specs.Bytes.{Window, Uses, Skips, IsAhead, input, first, given}
+use Rattle.nl_bytes.specs.Bytes.{Window, Uses, IsAhead, input}
 use Rattle.nl_bytes.proofs.Uses.{Uses-front, Uses-none, Uses-trans}
 use Rattle.nl_bytes.proofs.Known.{Uses-known, IsAhead-known}
 use Rattle.nl_bytes.proofs.Fronts.{front-all}
@@ -25,15 +24,13 @@ use Rattle.readers.specs.Sources.{Ahead, TellsKnown, Shortens}
 use Rattle.vlog_tokens.specs.declared.item.Item.{Item}
 use Rattle.vlog_tokens.specs.declared.item.Item.TheVariants.{Token}
 use Rattle.vlog_tokens.specs.declared.item.Spot.{Spot}
-use Rattle.vlog_tokens.specs.declared.mark.Twin.TheVariants as twins
 use Rattle.vlog_tokens.specs.declared.phase.Phase.{Phase}
 use Rattle.vlog_tokens.specs.declared.phase.Phase.TheVariants.{Word, Escape, Escaped, Whole}
-use Rattle.vlog_tokens.specs.declared.phase.Step.TheVariants.{Keep, Ends}
-use Rattle.vlog_tokens.specs.declared.start.Start.{Start}
-use Rattle.vlog_tokens.specs.declared.start.Start.TheVariants.{Lexeme, Mark, Open, Star}
+use Rattle.vlog_tokens.specs.declared.phase.Step.TheVariants.{Ends}
+use Rattle.vlog_tokens.specs.declared.start.Start.TheVariants.{Lexeme}
 use Rattle.vlog_tokens.specs.declared.token.VFound.{VFound}
 use Rattle.vlog_tokens.specs.declared.token.VToken.{VToken}
-use Rattle.vlog_tokens.specs.declared.token.VToken.TheVariants.{Name, Number, Punct, AttrStart, AttrStop}
+use Rattle.vlog_tokens.specs.declared.token.VToken.TheVariants.{Name, Number}
 use Rattle.vlog_tokens.specs.Flaws.{Piece, Flaw, ◌>>=◌}
 use Rattle.vlog_tokens.specs.Phases.{next_step, most_of, class_of}
 use Rattle.vlog_tokens.specs.Phases as phases
@@ -41,16 +38,16 @@ use Rattle.vlog_tokens.specs.Scanning as scanning
 use Rattle.vlog_tokens.specs.Scanning.{begun, kept, scan_at, ended}
 use Rattle.vlog_tokens.specs.Items.{item_of, finish, finished, word_item, number_item}
 use Rattle.vlog_tokens.specs.Numbers.{number_of}
-use Rattle.vlog_tokens.specs.Spelling.{item_by, start_of, lexeme_spelled, is_mark, alone, pair_by}
-use Rattle.vlog_tokens.specs.Parts.{Answers, GivesSpot, Reads, refusal, spot_of}
-use Rattle.vlog_tokens.specs.Finding.{ahead_of, Passes, Finds, found_or_late, UsesTo, EndsAt}
+use Rattle.vlog_tokens.specs.Spelling.{item_by, start_of, lexeme_spelled}
+use Rattle.vlog_tokens.specs.Parts.{Answers, GivesSpot, Reads, spot_of}
+use Rattle.vlog_tokens.specs.Finding.{ahead_of, Passes, Finds}
 use Rattle.vlog_tokens.specs.Language.{stream_from}
-use Rattle.vlog_tokens.specs.Held.{is_near, open_mark, front_mark, space_length, held_mark, past, past_space, past_mark, name_length, word_length, makes_real, number_by, number_length, escaped_by, escaped_length, begins_by, is_pair, pair_token, number_at}
-use Rattle.vlog_tokens.proofs.Parts.{Steps, offset_grows}
+use Rattle.vlog_tokens.specs.Held.{is_near, name_length, word_length, makes_real, number_by, number_length, escaped_by, escaped_length, is_pair, pair_token, number_at}
+use Rattle.vlog_tokens.proofs.Parts.{offset_grows}
 use Rattle.vlog_tokens.proofs.Scanning.{keep_step, scan_stays, front_of}
 use Rattle.vlog_tokens.proofs.Reading.{gives_spot}
-use Rattle.vlog_tokens.proofs.Marks.{reads_told, mark_read, pair_other}
-use Rattle.vlog_tokens.proofs.Streams.{Uses-unknown, passes_none, passes_space, finds_token, finds_err}
+use Rattle.vlog_tokens.proofs.Marks.{reads_told}
+use Rattle.vlog_tokens.proofs.Streams.{Uses-unknown, passes_none, finds_token, finds_err}
 
 -- ---- white space before a token
 

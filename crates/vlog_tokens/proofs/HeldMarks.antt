@@ -1,34 +1,30 @@
 -- The punctuation mark that is next, where the bytes that are held show it.
-use Rattle.std.proofs.Common.{◌≡◌, ℕ, zero, suc, ◌+◌, ◌<◌, ◌≤◌, Bool, true, false, cond, eqb, ◌||◌, List, [], ◌∷◌, length, get_or, take, drop, Option, Some, None, Result, Ok, Err, refl, sym, ap, ◌∙◌, subst, arith, length-drop, length-take}
-use Rattle.std.specs.Prelude.{IsErrOf, IsFalse}
+use Rattle.std.proofs.Common.{◌≡◌, ℕ, zero, suc, ◌+◌, ◌<◌, ◌≤◌, Bool, true, false, cond, eqb, ◌||◌, List, [], ◌∷◌, length, get_or, take, drop, Option, Some, None, Result, Ok, refl, sym, ap, ◌∙◌, subst, arith, length-drop, length-take}
+use Rattle.std.specs.Prelude.{IsFalse}
 use Rattle.std.proofs.lemmas.Bool.{eqb-true, eqb-false}
 use Rattle.std.proofs.lemmas.List.Sums.{prefix_len_stops, prefix_len-le-length}
 use Rattle.nl_base.specs.declared.place.Place.{Place}
-use Rattle.nl_base.specs.declared.fault.ReadError.{ReadError}
 use Rattle.nl_base.specs.Place.{place_after, place_past}
 use Rattle.nl_base.proofs.Places.{place_past-offset}
 use Rattle.nl_bytes.specs.declared.bytes.TheConstants.{LIMIT}
 use Rattle.nl_bytes.specs.declared.class.Class.TheVariants.{VerilogSpace}
 use Rattle.nl_bytes.specs.declared.halt.Halt.{Halt}
-use Rattle.nl_bytes.specs.Classes.{AreIn, is_verilog_space}
-use Rattle.nl_bytes.specs.Bytes.{Window, Uses, Skips, IsAhead, given}
+use Rattle.nl_bytes.specs.Classes.{is_verilog_space}
+use Rattle.nl_bytes.specs.Bytes.{Window, Skips}
 use Rattle.nl_bytes.proofs.Uses.{Uses-front, Uses-none}
 use Rattle.nl_bytes.proofs.Fronts.{front-all}
 use Rattle.readers.specs.Sources.{Supply, ReadsToken}
-use Rattle.vlog_tokens.specs.declared.item.Item.{Item}
 use Rattle.vlog_tokens.specs.declared.item.Item.TheVariants.{Token}
 use Rattle.vlog_tokens.specs.declared.item.Spot.{Spot}
-use Rattle.vlog_tokens.specs.declared.start.Start.{Start}
 use Rattle.vlog_tokens.specs.declared.start.Start.TheVariants.{Mark}
 use Rattle.vlog_tokens.specs.declared.token.VFound.{VFound}
-use Rattle.vlog_tokens.specs.declared.token.VToken.{VToken}
 use Rattle.vlog_tokens.specs.declared.token.VToken.TheVariants.{Punct, AttrStart}
 use Rattle.vlog_tokens.specs.Spelling.{item_by, start_of, is_mark}
 use Rattle.vlog_tokens.specs.Parts.{Reads}
 use Rattle.vlog_tokens.specs.Finding.{Passes, Finds}
 use Rattle.vlog_tokens.specs.Language.{vlog, State}
 use Rattle.vlog_tokens.specs.Held.{is_near, open_mark, front_mark, space_length, held_mark, past, past_space, past_mark}
-use Rattle.vlog_tokens.proofs.Parts.{Steps, offset_grows}
+use Rattle.vlog_tokens.proofs.Parts.{Steps}
 use Rattle.vlog_tokens.proofs.Marks.{mark_read, pair_other}
 use Rattle.vlog_tokens.proofs.Streams.{passes_space}
 use Rattle.vlog_tokens.proofs.Readers.{reads_found}

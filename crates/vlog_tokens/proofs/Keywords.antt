@@ -48,6 +48,14 @@ all_within = refl
 pub start_most : (n : ℕ) → n < 27 → start_at n ≤ 124
 start_most n lt = let h : starts_within n ≡ true = below starts_within 27 n all_within lt in grind (arith, nat_tests, h)
 
+-- bytes of another length are other bytes
+pub other_length : (bs cs : List ℕ) → (length bs ≡ length cs → ⊥) → same_bytes bs cs ≡ false
+other_length bs cs other = go (same_bytes bs cs) refl
+  where
+    go : (t : Bool) → same_bytes bs cs ≡ t → t ≡ false
+    go true e = absurd (other (ap (λ (xs : List ℕ). length xs) ((bytes_eq-Decides bs cs).0 e)))
+    go false e = refl
+
 -- ---- words of one letter
 
 abbrev begins : ℕ → List ℕ → Bool
@@ -157,7 +165,5 @@ by_table name d letter start end some small letter-is start-is end-is = rw (star
 pub end_most : (name : List ℕ) (d letter end : ℕ) → is_small (get_or name 0 d) ≡ true → letter ≡ get_or name 0 d - 97 → end ≡ start_at (letter + 1) → end ≤ 124
 end_most name d letter end small letter-is end-is = let w = small_within (get_or name 0 d) small in omega (arith, end-is, start_most (letter + 1) (omega (arith, w)))
 
-pub turn_on : (name : List ℕ) (end i : ℕ) (w : List ℕ) → i < end → w ≡ word i → same_bytes name w ≡ false → list_any (same_bytes name) (words_from (end - (i + 1)) (i + 1)) ≡ list_any (same_bytes name) (words_from (end - i) i)
-turn_on name end i w lt is other =
-    let e : same_bytes name (word i) ≡ false = ap (same_bytes name) (sym is) ∙ other in
-    sym (turn name end i lt ∙ ap (λ t. t || list_any (same_bytes name) (words_from (end - (i + 1)) (i + 1))) e)
+pub turn_on : (name : List ℕ) (end i : ℕ) → i < end → same_bytes name (word i) ≡ false → list_any (same_bytes name) (words_from (end - (i + 1)) (i + 1)) ≡ list_any (same_bytes name) (words_from (end - i) i)
+turn_on name end i lt other = sym (turn name end i lt ∙ ap (λ t. t || list_any (same_bytes name) (words_from (end - (i + 1)) (i + 1))) other)

@@ -1,5 +1,5 @@
 -- What the bytes that are held show of the next token.
-use Rattle.std.specs.Prelude.{ℕ, ℤ, Result, Ok, Err, ◌+◌, Bool, true, false, ◌||◌, ◌==◌, nat_lt, nat_le, if◌then◌else◌, List, [], ◌∷◌, take, drop, length, slice_index, Option, Some, None}
+use Rattle.std.specs.Prelude.{ℕ, ℤ, Result, Ok, Err, Bool, false, ◌||◌, ◌==◌, nat_lt, nat_le, if◌then◌else◌, List, [], ◌∷◌, take, drop, length, slice_index, Option, Some, None}
 use Rattle.std.specs.List.{prefix_len}
 use Rattle.nl_base.specs.Place.{place_past}
 use Rattle.nl_base.specs.declared.place.Place.{Place}

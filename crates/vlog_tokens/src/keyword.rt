@@ -70,13 +70,27 @@ fn word(number: usize) -> &'static [u8]
     part(bound(number), bound(number + 1))
 }
 
+/// Whether a name is the keyword of a number. Most have another length, which is compared first.
+#[inline(always)]
+#[tactic(auto, using(crate::proofs::Keywords::other_length))]
+fn is_word(name: &[u8], number: usize) -> bool
+    requires { number < 124 }
+    ensures { result ≡ same_bytes name.now (word number) }
+{
+    let word = word(number);
+    if name.len() != word.len() {
+        return false;
+    }
+    name == word
+}
+
 /// Whether a name is one of the keywords from a number to another.
 fn is_among(name: &[u8], start: usize, end: usize) -> bool
     requires { end ≤ 124 }
     ensures { result ≡ list_any (same_bytes name.now) (words_from (end - start) start) }
 {
     for number in start..end {
-        if name == word(number) {
+        if is_word(name, number) {
             return true;
         }
     }

@@ -3,4 +3,4 @@ use Rattle.vlog_tokens.proofs.Keywords.{turn_on}
 use Rattle.vlog_tokens.proofs.keyword.is_among.Goals as goal
 
 pub loop-number-preserved : goal.loop-number-preserved
-loop-number-preserved c = turn_on _ _ _ _ c.loop-number-test.true c.word.ensures (sym c.eq.ensures ∙ c.if-eq.false) ∙ c.loop-number.invariant
+loop-number-preserved c = turn_on _ _ _ c.loop-number-test.true (sym c.is_word.ensures ∙ c.if-is_word.false) ∙ c.loop-number.invariant

@@ -1,4 +1,4 @@
-use Rattle.std.proofs.Common.{arith, length}
+use Rattle.std.proofs.Common.{arith}
 use Rattle.std.proofs.lemmas.List.Sums.{prefix_len-le-length}
 use Rattle.nl_bytes.specs.Classes.{is_verilog_space}
 use Rattle.vlog_tokens.proofs.whole.held_mark.Goals as goal

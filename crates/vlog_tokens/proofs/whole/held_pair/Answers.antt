@@ -1,4 +1,4 @@
-use Rattle.std.proofs.Common.{◌≡◌, List, ℕ, ◌∙◌, ap, take, length, arith}
+use Rattle.std.proofs.Common.{List, ℕ, ap, length, arith}
 use Rattle.vlog_tokens.proofs.Held.{paired, pair_found}
 use Rattle.vlog_tokens.proofs.whole.held_pair.Goals as goal
 

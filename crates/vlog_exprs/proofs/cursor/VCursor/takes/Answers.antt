@@ -1,23 +1,8 @@
 use Rattle.std.proofs.Common.{true, false, refl, sym}
 use Rattle.vlog_exprs.specs.Calls.{stands}
 use Rattle.vlog_exprs.specs.Reasons.{at_mark}
-use Rattle.vlog_exprs.proofs.Glances.{seen_says, seen_none, seen_fails, stands_says, stands_fails}
 use Rattle.vlog_exprs.proofs.HeldMarks.{mark_some, mark_none, mark_leaves, mark_takes}
 use Rattle.vlog_exprs.proofs.cursor.VCursor.takes.Goals as goal
-
-pub returns-in_err-next : goal.returns-in_err-next
-returns-in_err-next g c = seen_fails (λ _ x. at_mark c.args.mark x.token) _ _ _ _ stands _ _ c.in_err-next.ensures c.from_residual.ensures.1
-
-pub returns-in_default-next : goal.returns-in_default-next
-returns-in_default-next g c = seen_none (λ _ x. at_mark c.args.mark x.token) _ _ _ _ stands false refl (rw c.in_default-next.is at c.in_ok-next.ensures)
-
-pub returns-in_err-taken : goal.returns-in_err-taken
-returns-in_err-taken g c =
-    stands_fails (λ _ x. at_mark c.args.mark x.token) _ _ _ _ _ _ (seen_says (λ _ x. at_mark c.args.mark x.token) _ _ _ _ _ (rw c.in-Some-next.is at c.in_ok-next.ensures) _ _ _ c.at_mark.ensures c.in_err-taken.ensures.answer c.in_err-taken.ensures.left) c.from_residual-in_err-taken.ensures.1
-
-pub returns : goal.returns
-returns g c =
-    stands_says (λ _ x. at_mark c.args.mark x.token) _ _ _ _ _ _ c.is_some.ensures (seen_says (λ _ x. at_mark c.args.mark x.token) _ _ _ _ _ (rw c.in-Some-next.is at c.in_ok-next.ensures) _ _ _ c.at_mark.ensures c.in_ok-taken.ensures.answer c.in_ok-taken.ensures.left)
 
 pub returns-then-next-mark : goal.returns-then-next-mark
 returns-then-next-mark g c =
