@@ -10,7 +10,7 @@ use Rattle.nl_bytes.specs.declared.bytes.TheConstants.{LIMIT}
 use Rattle.nl_bytes.specs.declared.class.Class.TheVariants.{VerilogSpace}
 use Rattle.nl_bytes.specs.declared.halt.Halt.{Halt}
 use Rattle.nl_bytes.specs.Classes.{is_verilog_space}
-use Rattle.nl_bytes.specs.Bytes.{Window, Skips}
+use Rattle.nl_bytes.specs.Bytes.{Window, Skips, given}
 use Rattle.nl_bytes.proofs.Uses.{Uses-front, Uses-none}
 use Rattle.nl_bytes.proofs.Fronts.{front-all}
 use Rattle.readers.specs.Sources.{Supply, ReadsToken}
