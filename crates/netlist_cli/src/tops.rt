@@ -55,7 +55,10 @@ fn files_of_modules_are_checked(rt: HostRuntime) -> Result<(), Fail> {
         assert_eq!(rt; is_checked(rt.alloc(), text, 0, b"ok\n", b"")?, true);
     }
     let text = module_of_unknown_bits(rt.alloc())?;
-    assert_eq!(rt; is_checked(rt.alloc(), text.as_slice(), 0, b"ok\n", b"")?, true);
+    assert_eq!(rt;
+        is_checked(rt.alloc(), text.as_slice(), 0, b"ok\n", b"")?,
+        true
+    );
     Ok(())
 }
 
