@@ -9,7 +9,7 @@ use Rattle.std.specs.List.{range_with_len}
 use Rattle.vlog_design.proofs.Parts.{all_right}
 use Rattle.vlog_design.proofs.Steps.{done, flat_map_left, moved}
 use Rattle.vlog_design.specs.Exprs.{constant_bit, node_at, repeated, span_bits}
-use Rattle.vlog_design.specs.Runs.{ArePassed, HasFitting, IsWithin, bits_behind, node_after, nodes_from, run_bits, runs_bits}
+use Rattle.vlog_design.specs.Runs.{ArePassed, IsRun, IsWithin, bits_behind, node_after, nodes_from, run_bits, runs_bits}
 use Rattle.vlog_design.specs.declared.runs.Run.{Run}
 use Rattle.vlog_design.specs.declared.signals.Place.{Place}
 use Rattle.vlog_design.specs.declared.signals.Place.TheVariants.{AtPort, AtNet}
@@ -174,12 +174,12 @@ run_passed (run ∷ later) passed d h k =
     sym (drop-append-add (run_bits run) (flat_map run_bits later) (passed - (run.gap + run.count))) ∙ ap (λ n. drop n (run_bits run ++ flat_map run_bits later)) e
 
 -- the state behind a run that is passed
-pub later_fitting : (runs : List Run) → All HasFitting runs → All HasFitting (take (length runs - 1) (drop 1 runs))
-later_fitting runs h = subst (All HasFitting) (sym (take_rest runs 1)) (by runs h)
+pub later_runs : (runs : List Run) → All IsRun runs → All IsRun (take (length runs - 1) (drop 1 runs))
+later_runs runs h = subst (All IsRun) (sym (take_rest runs 1)) (by runs h)
   where
-    by : (runs : List Run) → All HasFitting runs → All HasFitting (drop 1 runs)
+    by : (runs : List Run) → All IsRun runs → All IsRun (drop 1 runs)
     by [] h = h
-    by (run ∷ later) h = all_right HasFitting (run ∷ []) later h
+    by (run ∷ later) h = all_right IsRun (run ∷ []) later h
 
 pub later_bits : (runs : List Run) (passed gap count : ℕ) (d : Run) → 1 ≤ length runs → gap ≡ (get_or runs 0 d).gap → count ≡ (get_or runs 0 d).count → gap + count ≤ passed →
     bits_behind (passed - (gap + count)) (take (length runs - 1) (drop 1 runs)) ≡ bits_behind passed runs
@@ -188,15 +188,15 @@ later_bits runs passed gap count d h e f k =
     let within : (get_or runs 0 d).gap + (get_or runs 0 d).count ≤ passed = omega arith in
     ap (bits_behind (passed - (gap + count))) (take_rest runs 1) ∙ (ap (λ n. bits_behind (passed - n) (drop 1 runs)) same ∙ run_passed runs passed d h within)
 
-pub length_bound : (runs : List Run) (gap count : ℕ) (d : Run) → All HasFitting runs → 1 ≤ length runs → gap ≡ (get_or runs 0 d).gap → count ≡ (get_or runs 0 d).count → gap + count < 2 ^ 65
+pub length_bound : (runs : List Run) (gap count : ℕ) (d : Run) → All IsRun runs → 1 ≤ length runs → gap ≡ (get_or runs 0 d).gap → count ≡ (get_or runs 0 d).count → gap + count < 2 ^ 65
 length_bound runs gap count d h k e f =
-    let fits : HasFitting (get_or runs 0 d) = h 0 d k in
+    let fits : IsRun (get_or runs 0 d) = h 0 d k in
     omega (arith, fits.gap_fits, fits.numbers)
 
 pub passed_bound : (passed : ℕ) (runs : List Run) → ArePassed passed runs → passed < 2 ^ 65
 passed_bound passed [] h = omega (arith, h.within)
 passed_bound passed (run ∷ later) h =
-    let fits : HasFitting run = h.fitting 0 run (omega arith) in
+    let fits : IsRun run = h.are_runs 0 run (omega arith) in
     omega (arith, h.within, fits.gap_fits, fits.numbers)
 
 -- one node more of those that are joined

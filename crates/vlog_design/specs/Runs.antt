@@ -1,5 +1,5 @@
 -- Bits as runs of nodes that follow one another, with so many bits that are nothing before each run.
-use Rattle.std.specs.Prelude.{ℕ, zero, suc, ◌+◌, ◌≤◌, ◌<◌, ◌^◌, List, [], ◌∷◌, ◌++◌, All, drop, flat_map, replicate, Option, Some, None}
+use Rattle.std.specs.Prelude.{◌≡◌, ℕ, zero, suc, ◌+◌, ◌≤◌, ◌<◌, ◌^◌, List, [], ◌∷◌, ◌++◌, All, drop, flat_map, replicate, Option, Some, None}
 use Rattle.net_hier.specs.declared.nodes.Node.{Node}
 use Rattle.net_hier.specs.declared.nodes.Node.TheVariants.{Port, Pin, Net, Zero, One}
 use Rattle.vlog_design.specs.declared.runs.Run.{Run}
@@ -29,8 +29,8 @@ node_number One = 0
 unfoldable pub run_bits : Run → List (Option Node)
 run_bits run = replicate run.gap None ++ nodes_from run.first run.count
 
--- the numbers of the nodes of a run fit, and so does the number of bits before them
-pub record HasFitting (run : Run) : Type 0 where
+-- a run whose numbers fit: those of its nodes, and that of the bits before them
+pub record IsRun (run : Run) : Type 0 where
   pub numbers : node_number run.first + run.count ≤ 2 ^ 32
   pub gap_fits : run.gap < 2 ^ 64
 
@@ -44,10 +44,10 @@ bits_behind passed runs = drop passed (flat_map run_bits runs)
 
 -- fewer bits are passed than the first run has, and none where no run is left
 abbrev pub IsWithin : ℕ → List Run → Type 0
-IsWithin passed [] = passed < 1
+IsWithin passed [] = passed ≡ 0
 IsWithin passed (run ∷ runs) = passed < run.gap + run.count
 
 -- runs of which so many bits are passed
 pub record ArePassed (passed : ℕ) (runs : List Run) : Type 0 where
-  pub fitting : All HasFitting runs
+  pub are_runs : All IsRun runs
   pub within : IsWithin passed runs

@@ -1,7 +1,7 @@
 // Joins of two sides, run by run.
 ghost use Rattle.std.specs.Prelude.{◌≡◌, ◌+◌, ◌≤◌, ◌<◌, ◌^◌, ◌++◌, All, drop, flat_map, get_or, None, IfOk, OnOk};
 ghost use Rattle.vlog_design.specs.Design.{join_of, joins_between};
-ghost use Rattle.vlog_design.specs.Runs.{HasFitting, bits_behind, run_bits};
+ghost use Rattle.vlog_design.specs.Runs.{IsRun, bits_behind, run_bits};
 
 use crate::runs::{Run, Runs, node_after};
 use net_hier::{Join, Node};
@@ -44,7 +44,7 @@ fn push_join(a: Option<Node>, b: Option<Node>, out: &mut Vec<Join>) -> Result<()
 
 /// What is left of runs behind so many bits.
 fn behind<'a>(count: u128, all: &'a [Run]) -> Rest<'a>
-    requires { All HasFitting all.now }
+    requires { All IsRun all.now }
     ensures { result ≡ bits_behind count all.now }
 {
     let mut passed = count;
@@ -62,7 +62,7 @@ fn behind<'a>(count: u128, all: &'a [Run]) -> Rest<'a>
 
 /// A bit of a run, by its position from the left.
 fn bit_at(run: Run, position: u128) -> Option<Node>
-    requires fits { HasFitting run }
+    requires fits { IsRun run }
     requires within { position < run.gap + run.count }
     ensures { result ≡ get_or (run_bits run) position None }
 {
@@ -94,7 +94,7 @@ impl<'a> Rest<'a> {
 
 /// Adds the joins of a run with the bits of the other side that stand there, and answers what is left of that side.
 fn push_run_joins<'a>(left: Rest<'a>, run: Run, out: &mut Vec<Join>) -> Result<Rest<'a>, NoMemory>
-    requires { HasFitting run }
+    requires { IsRun run }
     ensures added { OnOk result (out.new.items ≡ out.old.items ++ joins_between left.entry (run_bits run)) }
     ensures left { IfOk result (λ rest. rest ≡ drop (run.gap + run.count) left.entry) }
 {
@@ -108,8 +108,8 @@ fn push_run_joins<'a>(left: Rest<'a>, run: Run, out: &mut Vec<Join>) -> Result<R
 
 /// Adds the joins of runs.
 fn push_runs_joins(left: &[Run], right: &[Run], out: &mut Vec<Join>) -> Result<(), NoMemory>
-    requires left { All HasFitting left.now }
-    requires right { All HasFitting right.now }
+    requires left { All IsRun left.now }
+    requires right { All IsRun right.now }
     ensures added { OnOk result (out.new.items ≡ out.old.items ++ joins_between (flat_map run_bits left.now) (flat_map run_bits right.now)) }
 {
     let mut rest = behind(0, left);

@@ -26,13 +26,13 @@ pub struct Runs {
 impl Model for Runs {
     ghost use Rattle.std.specs.Prelude.{All, List, Option};
     ghost use Rattle.net_hier.specs.declared.nodes.Node.{Node};
-    ghost use Rattle.vlog_design.specs.Runs.{HasFitting, runs_bits};
+    ghost use Rattle.vlog_design.specs.Runs.{IsRun, runs_bits};
 
     ghost Value = { List (Option Node) };
 
     ghost view = { λ r. runs_bits r.runs.items r.gap };
 
-    ghost invariant = { λ r. All HasFitting r.runs.items };
+    ghost invariant = { λ r. All IsRun r.runs.items };
 }
 
 /// The node so many places to the right.
