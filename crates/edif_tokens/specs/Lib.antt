@@ -5,3 +5,4 @@ pub mod Streams
 pub mod Stream
 pub mod Scan
 pub mod Proper
+pub mod Held

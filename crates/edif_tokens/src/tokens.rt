@@ -1,7 +1,8 @@
-ghost use Rattle.std.specs.Prelude.{◌≡◌, ◌+◌, ◌≤◌, length, IfOk};
+ghost use Rattle.std.specs.Prelude.{◌≡◌, ◌+◌, ◌<◌, ◌≤◌, ℕ, List, Option, Some, Ok, length, IfOk, IsFalse};
 ghost use Rattle.nl_bytes.specs.declared.bytes.TheConstants.{LIMIT};
 
 use crate::finding::found;
+use crate::next::{held_mark, held_word, pass_mark, pass_word};
 use crate::token::Found;
 use nl_base::{NoMemory, Place, ReadError};
 use nl_bytes::Bytes;
@@ -28,7 +29,9 @@ impl Model for Tokens {
 }
 
 impl Tokens {
+    ghost use Rattle.edif_tokens.specs.declared.token.Token.TheVariants.{Word};
     ghost use Rattle.edif_tokens.specs.Stream.{ReadsToken, fresh};
+    ghost use Rattle.edif_tokens.specs.Held.{held_mark, mark_token, past_mark, held_word, past_word};
 
     /// A reader at the start of a text.
     ///
@@ -59,6 +62,57 @@ impl Tokens {
         ensures { result ≡ self.now.spent }
     {
         self.spent
+    }
+
+    /// The parenthesis that is next, where the bytes that are held show it.
+    #[inline(always)]
+    pub fn held_mark(&self) -> Option<u8>
+        ensures mark { result ≡ held_mark self.now.window }
+        ensures held { length self.now.window.held ≤ 4096 }
+    {
+        // The buffer holds at most 4,096 bytes, as its call says.
+        let _here = self.bytes.place();
+        held_mark(&self.bytes)
+    }
+
+    /// Takes the parenthesis that is next.
+    ///
+    /// A reader that is not spent then stands as after a call of `next` that answers this parenthesis.
+    #[inline(always)]
+    pub fn take_mark(&mut self)
+        requires { (mark : ℕ) × (held_mark self.old.window ≡ Some mark) }
+        ensures left { self.new ≡ record { window = past_mark self.old.window; spent = self.old.spent } }
+        ensures reads { (mark : ℕ) → held_mark self.old.window ≡ Some mark → IsFalse self.old.spent → (left : Option (List ℕ)) → (faults : ℕ) → (x : Found) × (x.token ≡ mark_token mark) × ReadsToken (Ok (Some x)) self.old self.new left left faults faults }
+    {
+        // The buffer holds at most 4,096 bytes, as its call says.
+        let _here = self.bytes.place();
+        pass_mark(&mut self.bytes)
+    }
+
+    /// The word that is next, where the bytes that are held show it and its end; no bytes where not.
+    #[inline(always)]
+    pub fn held_word(&self) -> &[u8]
+        ensures word { result.now ≡ held_word self.now.window }
+        ensures held { length self.now.window.held ≤ 4096 }
+    {
+        // The buffer holds at most 4,096 bytes, as its call says.
+        let _here = self.bytes.place();
+        held_word(&self.bytes)
+    }
+
+    /// Takes the word that is next, which has so many bytes.
+    ///
+    /// A reader that is not spent then stands as after a call of `next` that answers this word.
+    #[inline(always)]
+    pub fn take_word(&mut self, count: usize)
+        requires some { 0 < count }
+        requires word { count ≡ length (held_word self.old.window) }
+        ensures left { self.new ≡ record { window = past_word self.old.window; spent = self.old.spent } }
+        ensures reads { IsFalse self.old.spent → (left : Option (List ℕ)) → (faults : ℕ) → (x : Found) × (x.token ≡ Word (held_word self.old.window)) × ReadsToken (Ok (Some x)) self.old self.new left left faults faults }
+    {
+        // The buffer holds at most 4,096 bytes, as its call says.
+        let _here = self.bytes.place();
+        pass_word(&mut self.bytes, count)
     }
 
     /// Reads the next token, or `None` at the end of the input.
