@@ -6,5 +6,6 @@ pub mod Quoted
 pub mod Held
 pub mod Words
 pub mod Readers
+pub mod HeldTokens
 pub mod Limits
 pub mod Proper
