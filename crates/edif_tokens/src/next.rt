@@ -1,4 +1,4 @@
-// The token that is next, where the bytes that are held show it: it is then taken without being made.
+// The parenthesis or the word that is next, where the bytes that are held show it. It is taken with no token made.
 ghost use Rattle.std.specs.Prelude.{◌≡◌, ◌<◌, ℕ, true, length, Some};
 ghost use Rattle.edif_tokens.specs.Held.{is_near, front_mark, held_mark, past_space, past_mark, word_by, word_length, held_word, past_word};
 

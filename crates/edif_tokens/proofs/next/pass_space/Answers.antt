@@ -1,4 +1,4 @@
-use Rattle.std.proofs.Common.{◌≡◌, ◌∙◌, ap}
+use Rattle.std.proofs.Common.{◌∙◌, ap}
 use Rattle.std.specs.List.{prefix_len}
 use Rattle.nl_bytes.specs.Classes.{is_space}
 use Rattle.edif_tokens.proofs.HeldTokens.{space_room}
