@@ -1,5 +1,5 @@
 -- The calls that take the parenthesis or the word that is next, where the bytes that are held show it.
-use Rattle.std.proofs.Common.{◌≡◌, ◌∙◌, sym, ap, subst, refl, ℕ, ◌<◌, ◌≤◌, ◌==◌, Bool, true, false, cond, List, [], ◌∷◌, length, Option, Some, None, Result, Ok, Err, arith}
+use Rattle.std.proofs.Common.{◌≡◌, ◌∙◌, sym, ap, subst, refl, ℕ, ◌<◌, ◌≤◌, ◌==◌, Bool, true, false, cond, not, ◌&&◌, List, [], ◌∷◌, length, Option, Some, None, is_none, Result, Ok, Err, arith}
 use Rattle.grammar.specs.Reading.{take_token}
 use Rattle.grammar.specs.Whole.{Terminal, proper, end}
 use Rattle.nl_base.specs.Identifiers.{is_identifier}
@@ -25,7 +25,7 @@ use Rattle.edif_keywords.specs.declared.keyword.Keyword.{Keyword}
 use Rattle.edif_keywords.specs.Aliases.{Alias, means, or_alias}
 use Rattle.edif_keywords.specs.Keywords.{has, allowed_keyword, if_allowed}
 use Rattle.edif_keywords.specs.Keywords as k
-use Rattle.edif_keywords.specs.Calls.{unlooked, held_mark, past_mark, held_word, past_word}
+use Rattle.edif_keywords.specs.Calls.{is_unlooked, held_mark, past_mark, held_word, past_word}
 use Rattle.edif_keywords.specs.Grammar.{word, opening, closing, keyword}
 use Rattle.edif_keywords.specs.Language.{edif}
 use Rattle.edif_keywords.specs.Reasons.{word_of, opening_of, closing_of, keyword_of, keyword_by, elsewhere, opens, is_opening}
@@ -41,16 +41,19 @@ pub record HeldTaken (t : Token) (a b : Reader (List Alias) Found) (i : Supply) 
   pub reads : Reads edif same any (Ok token) a b i i
   pub near : IsNear b.window token.stop
 
--- where something is held of a reader, it is not spent and has looked at no token
-held_live : {A : Type 0} (nothing held : A) (spent : Bool) (ahead : Option Found) → (cond spent nothing (unlooked nothing ahead held) ≡ nothing → ⊥) → (spent ≡ false) × (ahead ≡ None) × (cond spent nothing (unlooked nothing ahead held) ≡ held)
-held_live nothing held true ahead h = absurd (h refl)
-held_live nothing held false (Some x) h = absurd (h refl)
-held_live nothing held false None h = (refl, refl, refl)
+-- what is held of a reader is that of its bytes; such a reader is not spent, and has looked at no token
+held_live : {A : Type 0} (nothing held : A) (a : Reader (List Alias) Found) → (cond (is_unlooked a) held nothing ≡ nothing → ⊥) → (a.spent ≡ false) × (a.ahead ≡ None) × (cond (is_unlooked a) held nothing ≡ held)
+held_live nothing held a some = by a.spent a.ahead some
+  where
+    by : (spent : Bool) (ahead : Option Found) → (cond (not spent && is_none ahead) held nothing ≡ nothing → ⊥) → (spent ≡ false) × (ahead ≡ None) × (cond (not spent && is_none ahead) held nothing ≡ held)
+    by true ahead some = absurd (some refl)
+    by false (Some x) some = absurd (some refl)
+    by false None some = (refl, refl, refl)
 
 mark_live : (a : Reader (List Alias) Found) (mark : ℕ) → held_mark a ≡ Some mark → (a.spent ≡ false) × (a.ahead ≡ None) × (tokens.held_mark a.window ≡ Some mark)
 unfolding held_mark
 mark_live a mark e =
-    let l = held_live None (tokens.held_mark a.window) a.spent a.ahead (λ n. let m = sym n ∙ e in absurd cc) in
+    let l = held_live None (tokens.held_mark a.window) a (λ n. let m = sym n ∙ e in absurd cc) in
     (l.0, l.1, sym l.2 ∙ e)
 
 some_word : (w : List ℕ) → 0 < length w → w ≡ [] → ⊥
@@ -59,7 +62,7 @@ some_word (x ∷ xs) some e = absurd cc
 
 word_live : (a : Reader (List Alias) Found) → 0 < length (held_word a) → (a.spent ≡ false) × (a.ahead ≡ None) × (held_word a ≡ tokens.held_word a.window)
 unfolding held_word
-word_live a some = held_live [] (tokens.held_word a.window) a.spent a.ahead (some_word _ some)
+word_live a some = held_live [] (tokens.held_word a.window) a (some_word _ some)
 
 taken : (a : Reader (List Alias) Found) (w : Window) (t : Token) → a.spent ≡ false → a.ahead ≡ None → (i : Supply)
     → ((x : Found) × (x.token ≡ t) × ReadsToken (Ok (Some x)) (record { window = a.window; spent = false }) (record { window = w; spent = false }) i.left i.left i.faults i.faults)

@@ -1,5 +1,5 @@
 -- What a call answers for what a token says, and what the bytes that are held show of the next one.
-use Rattle.std.specs.Prelude.{ℕ, List, [], Option, Some, None, Result, Ok, Err, if◌then◌else◌}
+use Rattle.std.specs.Prelude.{ℕ, Bool, not, ◌&&◌, if◌then◌else◌, List, [], Option, None, is_none, Result, Ok, Err}
 use Rattle.nl_base.specs.declared.place.Place.{Place}
 use Rattle.nl_base.specs.declared.fault.Reason.{Reason}
 use Rattle.nl_base.specs.declared.fault.ReadError.{ReadError}
@@ -9,14 +9,13 @@ use Rattle.edif_tokens.specs.Held as tokens
 use Rattle.readers.specs.Readers.{Reader, spoilt}
 use Rattle.edif_keywords.specs.Aliases.{Alias}
 
--- what the bytes that are held show, and nothing where a token was looked at
-abbrev pub unlooked : {A : Type 0} → A → Option Found → A → A
-unlooked nothing None held = held
-unlooked nothing (Some x) held = nothing
+-- whether no error has spent a reader, and it has looked at no token
+abbrev pub is_unlooked : Reader (List Alias) Found → Bool
+is_unlooked r = not r.spent && is_none r.ahead
 
 -- the parenthesis that is next of a reader that has looked at no token, where the bytes that are held show it
 unfoldable pub held_mark : Reader (List Alias) Found → Option ℕ
-held_mark r = if r.spent then None else unlooked None r.ahead (tokens.held_mark r.window)
+held_mark r = if is_unlooked r then tokens.held_mark r.window else None
 
 -- the reader behind that parenthesis
 abbrev pub past_mark : Reader (List Alias) Found → Reader (List Alias) Found
@@ -24,7 +23,7 @@ past_mark r = record { window = tokens.past_mark r.window; ahead = r.ahead; cont
 
 -- the word that is next of a reader that has looked at no token, where the bytes that are held show it and its end
 unfoldable pub held_word : Reader (List Alias) Found → List ℕ
-held_word r = if r.spent then [] else unlooked [] r.ahead (tokens.held_word r.window)
+held_word r = if is_unlooked r then tokens.held_word r.window else []
 
 -- the reader behind that word
 abbrev pub past_word : Reader (List Alias) Found → Reader (List Alias) Found

@@ -3,7 +3,7 @@ ghost use Rattle.readers.specs.Parts.{any};
 ghost use Rattle.readers.specs.Sources.{supply, IsNear};
 ghost use Rattle.readers.specs.Readers.{same, fault_at, end_fault, spoilt, Reads, Looks, LooksAt, LooksFor, Ends, Adds};
 ghost use Rattle.grammar.specs.Whole.{proper};
-ghost use Rattle.edif_keywords.specs.Calls.{held_mark, past_mark, held_word, past_word, answer, left_after};
+ghost use Rattle.edif_keywords.specs.Calls.{is_unlooked, held_mark, past_mark, held_word, past_word, answer, left_after};
 ghost use Rattle.edif_keywords.specs.Language.{edif};
 ghost use Rattle.edif_keywords.specs.Reasons.{opens, has_string, trailing};
 
@@ -53,6 +53,14 @@ impl Cursor {
         }
     }
 
+    /// Whether no error has spent it, and no token was looked at.
+    #[inline(always)]
+    fn is_unlooked(&self) -> bool
+        ensures { result ≡ is_unlooked self.now }
+    {
+        !self.spent && self.ahead.is_none()
+    }
+
     /// The parenthesis that is next, where no token was looked at and the bytes that are held show it.
     #[inline(always)]
     #[tactic(auto, unfolding(crate::specs::Calls::held_mark))]
@@ -62,13 +70,10 @@ impl Cursor {
     {
         // The buffer holds at most 4,096 bytes, as this call says.
         let _here = self.tokens.here();
-        if self.spent {
-            return None;
+        if self.is_unlooked() {
+            return self.tokens.held_mark();
         }
-        if let Some(_) = self.ahead {
-            return None;
-        }
-        self.tokens.held_mark()
+        None
     }
 
     /// Takes the parenthesis that is next.
@@ -89,13 +94,10 @@ impl Cursor {
     {
         // The buffer holds at most 4,096 bytes, as this call says.
         let _here = self.tokens.here();
-        if self.spent {
-            return &[];
+        if self.is_unlooked() {
+            return self.tokens.held_word();
         }
-        if let Some(_) = self.ahead {
-            return &[];
-        }
-        self.tokens.held_word()
+        &[]
     }
 
     /// Takes the word that is next, which has so many bytes.
