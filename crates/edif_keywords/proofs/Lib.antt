@@ -1,5 +1,6 @@
 pub mod Forms
 pub mod Free
+pub mod HeldTokens
 pub mod Kept
 pub mod Letters
 pub mod Live

@@ -1,10 +1,33 @@
--- What a call answers for what a token says.
-use Rattle.std.specs.Prelude.{ℕ, Result, Ok, Err}
+-- What a call answers for what a token says, and what the bytes that are held show of the next one.
+use Rattle.std.specs.Prelude.{ℕ, Bool, not, ◌&&◌, if◌then◌else◌, List, [], Option, None, is_none, Result, Ok, Err}
 use Rattle.nl_base.specs.declared.place.Place.{Place}
 use Rattle.nl_base.specs.declared.fault.Reason.{Reason}
 use Rattle.nl_base.specs.declared.fault.ReadError.{ReadError}
 use Rattle.nl_base.specs.declared.fault.ReadError.TheVariants as errors
+use Rattle.edif_tokens.specs.declared.token.Found.{Found}
+use Rattle.edif_tokens.specs.Held as tokens
 use Rattle.readers.specs.Readers.{Reader, spoilt}
+use Rattle.edif_keywords.specs.Aliases.{Alias}
+
+-- whether no error has spent a reader, and it has looked at no token
+abbrev pub is_unlooked : Reader (List Alias) Found → Bool
+is_unlooked r = not r.spent && is_none r.ahead
+
+-- the parenthesis that is next of a reader that has looked at no token, where the bytes that are held show it
+unfoldable pub held_mark : Reader (List Alias) Found → Option ℕ
+held_mark r = if is_unlooked r then tokens.held_mark r.window else None
+
+-- the reader behind that parenthesis
+abbrev pub past_mark : Reader (List Alias) Found → Reader (List Alias) Found
+past_mark r = record { window = tokens.past_mark r.window; ahead = r.ahead; context = r.context; spent = r.spent }
+
+-- the word that is next of a reader that has looked at no token, where the bytes that are held show it and its end
+unfoldable pub held_word : Reader (List Alias) Found → List ℕ
+held_word r = if is_unlooked r then tokens.held_word r.window else []
+
+-- the reader behind that word
+abbrev pub past_word : Reader (List Alias) Found → Reader (List Alias) Found
+past_word r = record { window = tokens.past_word r.window; ahead = r.ahead; context = r.context; spent = r.spent }
 
 -- the value, or the refusal of the token at its place
 abbrev pub answer : {V : Type 0} → Place → ℕ → Result V Reason → Result V ReadError

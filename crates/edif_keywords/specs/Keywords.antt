@@ -1,5 +1,5 @@
 -- The keywords of EDIF 2 0 0, how they are spelled, and which keyword a word is.
-use Rattle.std.specs.Prelude.{ℕ, Bool, List, [], ◌∷◌, Option, codes}
+use Rattle.std.specs.Prelude.{ℕ, Bool, if◌then◌else◌, List, [], ◌∷◌, Option, Some, None, codes}
 use Rattle.std.specs.List.{find, list_any}
 use Rattle.nl_base.specs.Case.{same_bytes, same_up_to_case}
 use Rattle.edif_keywords.specs.declared.keyword.Keyword.{Keyword}
@@ -189,3 +189,12 @@ is_spelled word keyword = same_up_to_case word (spelling keyword)
 -- the keyword that a word is, up to case (EDIF 2 0 0 does not tell capital letters from small ones)
 unfoldable pub keyword_of : List ℕ → Option Keyword
 keyword_of word = find (is_spelled word) keywords
+
+-- a keyword, where it is one of some
+abbrev pub if_allowed : List Keyword → Option Keyword → Option Keyword
+if_allowed allowed None = None
+if_allowed allowed (Some keyword) = if has allowed keyword then Some keyword else None
+
+-- the keyword that a word is, where it is one of some
+abbrev pub allowed_keyword : List Keyword → List ℕ → Option Keyword
+allowed_keyword allowed word = if_allowed allowed (keyword_of word)

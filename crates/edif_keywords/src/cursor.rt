@@ -1,9 +1,9 @@
-ghost use Rattle.std.specs.Prelude.{◌≡◌, None, Some, [], IfOk, OnOk, IfSome, IsSome, IsNone, IsTrue, IsFalse, option_map};
+ghost use Rattle.std.specs.Prelude.{◌≡◌, ◌<◌, ◌≤◌, ℕ, length, None, Some, [], IfOk, OnOk, IfSome, IsSome, IsNone, IsTrue, IsFalse, option_map};
 ghost use Rattle.readers.specs.Parts.{any};
 ghost use Rattle.readers.specs.Sources.{supply, IsNear};
 ghost use Rattle.readers.specs.Readers.{same, fault_at, end_fault, spoilt, Reads, Looks, LooksAt, LooksFor, Ends, Adds};
 ghost use Rattle.grammar.specs.Whole.{proper};
-ghost use Rattle.edif_keywords.specs.Calls.{answer, left_after};
+ghost use Rattle.edif_keywords.specs.Calls.{is_unlooked, held_mark, past_mark, held_word, past_word, answer, left_after};
 ghost use Rattle.edif_keywords.specs.Language.{edif};
 ghost use Rattle.edif_keywords.specs.Reasons.{opens, has_string, trailing};
 
@@ -51,6 +51,63 @@ impl Cursor {
             aliases: Aliases::new(alloc),
             spent,
         }
+    }
+
+    /// Whether no error has spent it, and no token was looked at.
+    #[inline(always)]
+    fn is_unlooked(&self) -> bool
+        ensures { result ≡ is_unlooked self.now }
+    {
+        !self.spent && self.ahead.is_none()
+    }
+
+    /// The parenthesis that is next, where no token was looked at and the bytes that are held show it.
+    #[inline(always)]
+    #[tactic(auto, unfolding(crate::specs::Calls::held_mark))]
+    pub(crate) fn held_mark(&self) -> Option<u8>
+        ensures mark { result ≡ held_mark self.now }
+        ensures held { length self.now.window.held ≤ 4096 }
+    {
+        // The buffer holds at most 4,096 bytes, as this call says.
+        let _here = self.tokens.here();
+        if self.is_unlooked() {
+            return self.tokens.held_mark();
+        }
+        None
+    }
+
+    /// Takes the parenthesis that is next.
+    #[inline(always)]
+    pub(crate) fn take_mark(&mut self)
+        requires { (mark : ℕ) × (held_mark self.old ≡ Some mark) }
+        ensures { self.new ≡ past_mark self.old }
+    {
+        self.tokens.take_mark()
+    }
+
+    /// The word that is next, where no token was looked at and the bytes that are held show it and its end; no bytes where not.
+    #[inline(always)]
+    #[tactic(auto, unfolding(crate::specs::Calls::held_word))]
+    pub(crate) fn held_word(&self) -> &[u8]
+        ensures word { result.now ≡ held_word self.now }
+        ensures held { length self.now.window.held ≤ 4096 }
+    {
+        // The buffer holds at most 4,096 bytes, as this call says.
+        let _here = self.tokens.here();
+        if self.is_unlooked() {
+            return self.tokens.held_word();
+        }
+        &[]
+    }
+
+    /// Takes the word that is next, which has so many bytes.
+    #[inline(always)]
+    pub(crate) fn take_word(&mut self, count: usize)
+        requires some { 0 < count }
+        requires word { count ≡ length (held_word self.old) }
+        ensures { self.new ≡ past_word self.old }
+    {
+        self.tokens.take_word(count)
     }
 
     /// Takes the token ahead, which is there.
@@ -154,9 +211,20 @@ impl Cursor {
         self.ahead.as_ref()
     }
 
-    /// Makes the next token the one ahead, which has to be there, and answers whether it is `(`. It takes nothing.
-    #[tactic(auto, using(crate::proofs::Looks::forms_next))]
+    /// Answers whether the next token, which has to be there, is `(`. It takes nothing.
     pub fn at_form<S: Source>(&mut self, alloc: Global, source: &mut S) -> Result<bool, ReadError>
+        ensures looks { LooksAt edif opens result self.old self.new (supply S.left S.faults source.old) (supply S.left S.faults source.new) }
+    {
+        if let Some(mark) = self.held_mark() {
+            return Ok(mark == b'(');
+        }
+        self.look_form(alloc, source)
+    }
+
+    /// Makes the next token the one ahead, which has to be there, and answers whether it is `(`. It takes nothing.
+    #[inline(never)]
+    #[tactic(auto, using(crate::proofs::Looks::forms_next))]
+    pub fn look_form<S: Source>(&mut self, alloc: Global, source: &mut S) -> Result<bool, ReadError>
         ensures looks { LooksAt edif opens result self.old self.new (supply S.left S.faults source.old) (supply S.left S.faults source.new) }
         ensures ahead { OnOk result (IsSome self.new.ahead) }
     {

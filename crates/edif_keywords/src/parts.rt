@@ -7,6 +7,7 @@ ghost use Rattle.edif_keywords.specs.Grammar.{word, string, integer, opening, cl
 ghost use Rattle.edif_keywords.specs.Reasons.{rows};
 
 use crate::cursor::Cursor;
+use crate::find::find_allowed;
 use crate::keyword::Keyword;
 use crate::reasons::{
     choice_of, closing_of, integer_of, keyword_of, opening_of, string_of, view_type_of, word_of,
@@ -19,6 +20,23 @@ use std::alloc::Global;
 impl Cursor {
     /// Takes a token: a word.
     pub fn word<S: Source>(&mut self, alloc: Global, source: &mut S) -> Result<Ident, ReadError>
+        ensures { Reads edif same word result self.old self.new (supply S.left S.faults source.old) (supply S.left S.faults source.new) }
+    {
+        let held = self.held_word();
+        let count = held.len();
+        if count == 0 {
+            return self.word_token(alloc, source);
+        }
+        let Ok(text) = Text::copy(alloc, held) else {
+            return Err(self.no_memory());
+        };
+        self.take_word(count);
+        Ok(Ident::of(text))
+    }
+
+    /// Takes any token, which has to be a word.
+    #[inline(never)]
+    fn word_token<S: Source>(&mut self, alloc: Global, source: &mut S) -> Result<Ident, ReadError>
         ensures { Reads edif same word result self.old self.new (supply S.left S.faults source.old) (supply S.left S.faults source.new) }
     {
         let Found { place, stop, token } = self.take(alloc, source)?;
@@ -45,12 +63,40 @@ impl Cursor {
     pub fn begin_list<S: Source>(&mut self, alloc: Global, source: &mut S) -> Result<(), ReadError>
         ensures { Reads edif same opening result self.old self.new (supply S.left S.faults source.old) (supply S.left S.faults source.new) }
     {
+        if let Some(mark) = self.held_mark() {
+            if mark == b'(' {
+                self.take_mark();
+                return Ok(());
+            }
+        }
+        self.begin_token(alloc, source)
+    }
+
+    /// Takes any token, which has to be `(`.
+    #[inline(never)]
+    fn begin_token<S: Source>(&mut self, alloc: Global, source: &mut S) -> Result<(), ReadError>
+        ensures { Reads edif same opening result self.old self.new (supply S.left S.faults source.old) (supply S.left S.faults source.new) }
+    {
         let Found { place, stop, token } = self.take(alloc, source)?;
         self.judged(place, stop, opening_of(token))
     }
 
     /// Takes a token: the `)` of a form or a list.
     pub fn finish_form<S: Source>(&mut self, alloc: Global, source: &mut S) -> Result<(), ReadError>
+        ensures { Reads edif same closing result self.old self.new (supply S.left S.faults source.old) (supply S.left S.faults source.new) }
+    {
+        if let Some(mark) = self.held_mark() {
+            if mark == b')' {
+                self.take_mark();
+                return Ok(());
+            }
+        }
+        self.finish_token(alloc, source)
+    }
+
+    /// Takes any token, which has to be `)`.
+    #[inline(never)]
+    fn finish_token<S: Source>(&mut self, alloc: Global, source: &mut S) -> Result<(), ReadError>
         ensures { Reads edif same closing result self.old self.new (supply S.left S.faults source.old) (supply S.left S.faults source.new) }
     {
         let Found { place, stop, token } = self.take(alloc, source)?;
@@ -94,6 +140,27 @@ impl Cursor {
 
     /// Takes one of the allowed keywords, by the aliases.
     fn keyword<S: Source>(
+        &mut self,
+        alloc: Global,
+        allowed: &[Keyword],
+        source: &mut S,
+    ) -> Result<Keyword, ReadError>
+        ensures { Reads edif same (keyword allowed.now) result self.old self.new (supply S.left S.faults source.old) (supply S.left S.faults source.new) }
+    {
+        let held = self.held_word();
+        let count = held.len();
+        if count > 0 {
+            if let Some(keyword) = find_allowed(held, allowed) {
+                self.take_word(count);
+                return Ok(keyword);
+            }
+        }
+        self.keyword_token(alloc, allowed, source)
+    }
+
+    /// Takes any token, which has to be one of the allowed keywords, by the aliases.
+    #[inline(never)]
+    fn keyword_token<S: Source>(
         &mut self,
         alloc: Global,
         allowed: &[Keyword],

@@ -71,7 +71,7 @@ fn read_tree<S: Source>(
 ) -> Result<UserTree, ReadError>
     ensures { Reads edif same (user_tree room) result cursor.old cursor.new (supply S.left S.faults source.old) (supply S.left S.faults source.new) }
 {
-    if cursor.at_form(alloc, source)? {
+    if cursor.look_form(alloc, source)? {
         if room == 0 {
             return Err(cursor.refuse(Reason::TooDeep));
         }

@@ -1,9 +1,6 @@
-use Rattle.edif_keywords.specs.Reasons.{opening_of}
-use Rattle.edif_keywords.proofs.OneToken.{one_says, one_fails}
+use Rattle.std.proofs.Common.{◌∙◌, sym, ap, Some}
+use Rattle.edif_keywords.proofs.HeldTokens.{opening_taken}
 use Rattle.edif_keywords.proofs.cursor.Cursor.begin_list.Goals as goal
 
-pub returns-in_err-place : goal.returns-in_err-place
-returns-in_err-place g c = one_fails (λ _ x. opening_of x.token) _ _ _ _ _ _ c.in_err-place.ensures.reads c.from_residual.ensures.1
-
-pub returns : goal.returns
-returns g c = one_says (λ _ x. opening_of x.token) _ _ _ _ _ c.in_ok-place.ensures.reads c.in_ok-place.ensures.near _ _ _ c.opening_of.ensures c.judged.ensures.answer c.judged.ensures.left
+pub returns-then-mark-eq40 : goal.returns-then-mark-eq40
+returns-then-mark-eq40 g c = opening_taken c.args.self.now c.take_mark.new.self (sym c.in-Some.ensures.mark ∙ ap Some c.if-mark-eq40.true) c.held_mark.ensures.held _ c.take_mark.ensures
