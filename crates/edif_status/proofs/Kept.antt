@@ -1,5 +1,5 @@
 -- The user data, notes and statuses that a text spells are such as a text can have.
-use Rattle.std.proofs.Common.{◌≡◌, ◌∙◌, sym, refl, ap, subst, ℕ, zero, suc, ◌≤◌, true, false, Bool, cond, List, [], ◌∷◌, ◌++◌, map, Some, None, ℤ, arith}
+use Rattle.std.proofs.Common.{◌≡◌, ◌∙◌, sym, refl, ap, subst, ℕ, zero, suc, ◌≤◌, List, [], ◌∷◌, ◌++◌, map, Some, None, ℤ, arith}
 use Rattle.std.specs.Prelude.{fold, max}
 use Rattle.std.specs.List.{AllByRecursion}
 use Rattle.grammar.specs.Part.{gives, takes}
