@@ -6,7 +6,7 @@ use Rattle.net_hier.specs.Design.{Design, IsCell}
 use Rattle.net_hier.specs.Flat.{FlatNode, Constant, At, FlatLink, by_join, by_pin, by_constant, FlatStep, IsConnected, taken_at}
 use Rattle.net_hier.specs.Paths.{Path, CellAt}
 use Rattle.net_hier.specs.SameCells.{HasFirstCells, AddedAsNeeded, SameCells, stand_in, stand_or}
-use Rattle.net_hier.specs.Valid.{IsValid}
+use Rattle.net_hier.specs.Valid.{HasPaths}
 use Rattle.net_hier.proofs.PathLaws.{one_cell, same_element}
 use Rattle.net_graph.proofs.WalkLaws.{linked_along, linked_by, linked_itself, linked_alone, linked_back}
 use Rattle.net_hier.proofs.Near.{local_turn, taken_injective, IsNear, IsJoined, Bridges, connected_at, connected_back, connection_goes_over}
@@ -70,7 +70,7 @@ no_join names design other (Some m) cell partner added number first needed is_ce
     let free : (step.join.a ≢ constant_node value) × (step.join.b ≢ constant_node value) = first.1.no_join number partner step.join value is_cell step.is_join in
     elim step.has_both [ inl both ↦ free.0 both.0 | inr both ↦ free.1 both.1 ]
 
-module _ (names : ConstantNames) (design other : Design) (n : Option ℕ) (valid : IsValid design) (ovalid : IsValid other) (same : SameCells names design other n) (differ : AreConstantNames names) where
+module _ (names : ConstantNames) (design other : Design) (n : Option ℕ) (valid : HasPaths design) (ovalid : HasPaths other) (same : SameCells names design other n) (differ : AreConstantNames names) where
   constant_target : (value : Bool) (node target : FlatNode) → node ≡ Constant value → StandsFor names design other n node target → target ≡ Constant value
   constant_target value node target e (constant v) = e
   constant_target value node target e (inside pair x is_bit) = absurd (cc)

@@ -6,14 +6,14 @@ use Rattle.net_hier.specs.Constants.{ConstantNames}
 use Rattle.net_hier.specs.Design.{Design}
 use Rattle.net_hier.specs.Paths.{Path, CellAt}
 use Rattle.net_hier.specs.SameCells.{SameCells}
-use Rattle.net_hier.specs.Valid.{IsValid}
+use Rattle.net_hier.specs.Valid.{HasPaths}
 use Rattle.net_hier.proofs.PathLaws.{element_there, one_cell, one_number, same_element}
 use Rattle.net_hier.proofs.Pairs.{face_there, lt_or_le, PairAt, behind_constant, constant_back, constant_forth, instance_back, instance_forth, leads_forth, pair_here, pair_of, pair_there, path_back, pin_back, pin_forth, port_bit_same}
 use Rattle.net_hier.specs.declared.cells.HCell.{HCell}
 use Rattle.net_hier.specs.declared.cells.HInst.{HInst}
 use Rattle.net_hier.specs.Facts.{Fact, OfCell, OfPort, OfInstance, OfPortBit, OfPinBit, IsFact, IsConstantPath, CellFact, PortFact, InstanceFact, PortBitFact, PinBitFact, HasLastValue, cell_props}
 
-module _ (names : ConstantNames) (design other : Design) (n : Option ℕ) (valid : IsValid design) (ovalid : IsValid other) (same : SameCells names design other n) where
+module _ (names : ConstantNames) (design other : Design) (n : Option ℕ) (valid : HasPaths design) (ovalid : HasPaths other) (same : SameCells names design other n) where
   -- a path that is kept in one design is kept in the other
   kept_forth : (path : Path) (cell : HCell) → CellAt design path cell → ¬ IsConstantPath names design path → ¬ IsConstantPath names other path
   kept_forth path cell at kept c =

@@ -5,7 +5,7 @@ use Rattle.net_hier.specs.Design.{Design}
 use Rattle.net_hier.specs.Flat.{FlatNode, Constant, At, FlatLink, by_join, by_pin, by_constant, FlatStep, IsConnected, taken_at}
 use Rattle.net_hier.specs.Paths.{Path, CellAt}
 use Rattle.net_hier.specs.SameCells.{SameCells, stand_in, stand_or}
-use Rattle.net_hier.specs.Valid.{IsValid}
+use Rattle.net_hier.specs.Valid.{HasPaths}
 use Rattle.net_hier.proofs.PathLaws.{cell_there, one_cell}
 use Rattle.net_graph.proofs.WalkLaws.{linked_along, linked_by, linked_itself}
 use Rattle.net_hier.proofs.Near.{IsNear, IsJoined, Bridges, connected_at, connected_back, connection_goes_over}
@@ -33,7 +33,7 @@ pub constant_taken : (path : Path) (value : Bool) → Constant value ≡ taken_a
 constant_taken path false = refl
 constant_taken path true = refl
 
-module _ (design : Design) (valid : IsValid design) where
+module _ (design : Design) (valid : HasPaths design) where
   pub shared_near : (x : FlatNode) → IsShared design x → IsNear design x x
   shared_near (Constant value) h =
       let (cell, is_cell) = cell_there design valid [] design.top refl in
@@ -42,7 +42,7 @@ module _ (design : Design) (valid : IsValid design) where
   shared_near (At path node) h =
       record { path = path; cell = h.cell; at = h.at; a = node; b = node; x_is = h.is_taken; y_is = h.is_taken; connected = linked_itself (HasLocalStep h.cell) node }
 
-module _ (names : ConstantNames) (design other : Design) (n : Option ℕ) (valid : IsValid design) (ovalid : IsValid other) (same : SameCells names design other n) where
+module _ (names : ConstantNames) (design other : Design) (n : Option ℕ) (valid : HasPaths design) (ovalid : HasPaths other) (same : SameCells names design other n) where
   -- a constant is connected in the other design to what stands for it
   stands_for : (path : Path) (cell partner : HCell) (pair : PairAt names design other n path cell partner) (value : Bool) (place : Option ℕ) → pair.same.added value ≡ place →
       IsConnected names other (Constant value) (taken_at path (stand_or place (constant_node value)))

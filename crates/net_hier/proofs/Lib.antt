@@ -9,3 +9,4 @@ pub mod Near
 pub mod Pairs
 pub mod PathLaws
 pub mod Theorem
+pub mod Partners

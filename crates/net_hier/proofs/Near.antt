@@ -4,7 +4,7 @@ use Rattle.net_hier.specs.Constants.{ConstantNames}
 use Rattle.net_hier.specs.Design.{Design}
 use Rattle.net_hier.specs.Flat.{FlatNode, Constant, At, FlatLink, by_join, FlatStep, IsConnected, taken_at}
 use Rattle.net_hier.specs.Paths.{Path, CellAt}
-use Rattle.net_hier.specs.Valid.{IsValid}
+use Rattle.net_hier.specs.Valid.{HasPaths}
 use Rattle.net_hier.proofs.PathLaws.{one_cell}
 use Rattle.net_graph.proofs.WalkLaws.{Crosses, partners_linked, linked_along, linked_by, linked_map, linked_back}
 use Rattle.net_hier.specs.declared.cells.HCell.{HCell}
@@ -41,7 +41,7 @@ module _ (names : ConstantNames) (design : Design) where
   connected_at {path = path} {cell = cell} at link =
       linked_map (HasLocalStep cell) (FlatStep names design) (taken_at path) (λ a b s. linked_by (inl (by_join at s))) link
 
-module _ (design : Design) (valid : IsValid design) where
+module _ (design : Design) (valid : HasPaths design) where
   near_more : (from : FlatNode) (path : Path) (cell : HCell) (x y : Node) → IsNear design from (At path x) → CellAt design path cell → HasLocalStep cell x y → IsNear design from (taken_at path y)
   near_more from path cell x y near at step =
       let e : (near.path ≡ path) × (near.b ≡ x) = taken_injective near.path path near.b x near.y_is in
@@ -96,7 +96,7 @@ pub record Bridges (design : Design) (Linked Partner : FlatNode → FlatNode →
 pub local_turn : {cell : HCell} {x y : Node} → HasLocalStep cell x y → HasLocalStep cell y x
 local_turn step = record { join = step.join; is_join = step.is_join; has_both = elim step.has_both [ inl a ↦ inr a | inr b ↦ inl b ] }
 
-module _ (names : ConstantNames) (design : Design) (valid : IsValid design) (Linked Partner : FlatNode → FlatNode → Type 0)
+module _ (names : ConstantNames) (design : Design) (valid : HasPaths design) (Linked Partner : FlatNode → FlatNode → Type 0)
     (itself : (x : FlatNode) → Linked x x) (along : (x y z : FlatNode) → Linked x y → Linked y z → Linked x z) (constants : (v : Bool) → Partner (Constant v) (Constant v))
     (near : (b z b' z' : FlatNode) → Partner b b' → IsNear design b z → Partner z z' → Linked b' z')
     (bridge : (z w : FlatNode) → FlatLink names design z w → IsJoined design z w ⊎ Bridges design Linked Partner z w) where

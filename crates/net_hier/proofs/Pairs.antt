@@ -6,7 +6,7 @@ use Rattle.net_hier.specs.Design.{Design, IsCell}
 use Rattle.net_hier.specs.Paths.{Path, CellAt, HasInstance, LeadsTo}
 use Rattle.net_hier.specs.SameCells.{AddedAsNeeded, NeedsConstant, stand_or, IsPartner, SameCell, SameCells, SameInstance, stand_in}
 use Rattle.net_hier.specs.SameDesign.{SamePorts, face_of}
-use Rattle.net_hier.specs.Valid.{IsValid}
+use Rattle.net_hier.specs.Valid.{HasPaths}
 use Rattle.net_hier.proofs.PathLaws.{element_there, cell_there, one_cell, one_number, same_element}
 use Rattle.net_hier.specs.declared.cells.HCell.{HCell}
 use Rattle.net_hier.specs.declared.cells.HInst.{HInst}
@@ -208,7 +208,7 @@ module _ (names : ConstantNames) (design other : Design) (n : Option ℕ) where
       }
 
 -- paths
-module _ (names : ConstantNames) (design other : Design) (n : Option ℕ) (valid : IsValid design) (ovalid : IsValid other) (same : SameCells names design other n) where
+module _ (names : ConstantNames) (design other : Design) (n : Option ℕ) (valid : HasPaths design) (ovalid : HasPaths other) (same : SameCells names design other n) where
   -- an instance has a partner, and their cells are partners
   pub record BelowPair (cell partner : HCell) (place : ℕ) (instance : HInst) : Type 0 where
     pub twin : HInst
@@ -224,7 +224,7 @@ module _ (names : ConstantNames) (design other : Design) (n : Option ℕ) (valid
       (place : ℕ) (instance : HInst) → slice_get cell.instances place ≡ Some instance → BelowPair cell partner place instance
   below_pair number onumber cell partner is_cell sc place instance there =
       let (twin, twin_there, si) = sc.same_instances place instance there in
-      let (below, is_below) = element_there design.cells instance.cell ((valid.good_cells number cell is_cell).instances_in_range place instance there) in
+      let (below, is_below) = element_there design.cells instance.cell (valid.instances_in_range number cell is_cell place instance there) in
       let (obelow, is_obelow, sb) = same.same_cells instance.cell twin.cell below si.same_cell is_below in
       record { twin = twin; twin_there = twin_there; same_instance = si; below = below; is_below = is_below; obelow = obelow; is_obelow = is_obelow; same_below = sb }
 
@@ -375,7 +375,7 @@ module _ (names : ConstantNames) (design other : Design) (n : Option ℕ) (valid
       let c : i.cell ≡ behind.cell = same_element design.cells behind.pair.number i.cell behind.cell (subst (λ m. IsCell design.cells m i.cell) e i.is_cell) behind.pair.is_cell in
       let there : slice_get behind.cell.instances i.number ≡ Some i.instance = subst (λ w. slice_get w.instances i.number ≡ Some i.instance) c i.is_there in
       let (twin, tthere, si) = behind.pair.same.same_instances i.number i.instance there in
-      let p : i.number ≡ behind.place = (ovalid.good_cells behind.pair.onumber behind.partner behind.pair.is_ocell).instance_names i.number behind.place twin behind.instance tthere behind.is_there (sym si.same_name ∙ i.is_named) in
+      let p : i.number ≡ behind.place = ovalid.own_instances behind.pair.onumber behind.partner behind.pair.is_ocell i.number behind.place twin behind.instance tthere behind.is_there (sym si.same_name ∙ i.is_named) in
       let after : length behind.cell.instances ≤ behind.place = (behind.pair.same.added_after behind.value behind.place behind.is_added).0 in
       let within : i.number < length behind.cell.instances = slice_get_within behind.cell.instances i.number i.instance there in
       omega arith

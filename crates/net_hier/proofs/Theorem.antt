@@ -5,7 +5,7 @@ use Rattle.net_hier.specs.Flat.{FlatNode, IsTerminal, of_constant, of_top, of_le
 use Rattle.net_hier.specs.Paths.{Path, LeafAt}
 use Rattle.net_hier.specs.SameCells.{SameCell, SameCells}
 use Rattle.net_hier.specs.SameDesign.{SameDesign, SamePorts, HasLeaf}
-use Rattle.net_hier.specs.Valid.{IsValid}
+use Rattle.net_hier.specs.Valid.{HasPaths}
 use Rattle.net_hier.proofs.PathLaws.{one_cell, same_element}
 use Rattle.net_hier.proofs.Pairs.{PairAt, behind_constant, constant_back, constant_forth, leaf_back, leaf_forth, pair_here, pair_of, pair_there, path_back}
 use Rattle.net_hier.specs.declared.cells.HCell.{HCell}
@@ -13,7 +13,7 @@ use Rattle.net_hier.proofs.Back.{connection_back}
 use Rattle.net_hier.proofs.FactsAgree.{fact_back, fact_forth}
 use Rattle.net_hier.proofs.Forth.{IsShared, connection_forth}
 
-module _ (names : ConstantNames) (design other : Design) (n : Option ℕ) (valid : IsValid design) (ovalid : IsValid other) (same : SameCells names design other n) (differ : AreConstantNames names) where
+module _ (names : ConstantNames) (design other : Design) (n : Option ℕ) (valid : HasPaths design) (ovalid : HasPaths other) (same : SameCells names design other n) (differ : AreConstantNames names) where
   leaf_at_forth : (path : Path) (leaf : HCell) → LeafAt names design path leaf → (partner : HCell) × LeafAt names other path partner × PairAt names design other n path leaf partner
   leaf_at_forth path leaf h =
       let (partner, pair) = pair_of names design other n valid ovalid same path leaf h.at in

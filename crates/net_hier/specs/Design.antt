@@ -1,4 +1,5 @@
-use Rattle.std.specs.Prelude.{◌≡◌, ℕ, List, map, slice_get, Some}
+use Rattle.std.specs.Prelude.{◌≡◌, ℕ, List, [], map, slice_get, Some}
+use Rattle.std.specs.Option.{option_map_or}
 use Rattle.net_hier.specs.declared.cells.HCell.{HCell}
 use Rattle.net_hier.specs.declared.cells.HProp.{HProp}
 
@@ -12,6 +13,10 @@ pub record Design : Type 0 where
 -- the cell of this number
 abbrev pub IsCell : List HCell → ℕ → HCell → Type 0
 IsCell cells number cell = slice_get cells number ≡ Some cell
+
+-- the name of the cell of this number, or no byte where there is none
+abbrev pub top_name : List HCell → ℕ → List ℕ
+top_name cells top = option_map_or (λ cell. cell.name) (slice_get cells top) []
 
 -- the numbers of the cells of a cell's instances, in order
 abbrev pub below_of : HCell → List ℕ

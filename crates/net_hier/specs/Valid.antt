@@ -49,6 +49,16 @@ pub record IsValid (design : Design) : Type 0 where
   pub no_recursion : (number : ℕ) → ¬ ReachesItself (cells_below design.cells) number
   pub postorder : IsPostorder (cells_below design.cells) design.top design.order
 
+-- the instances of each cell have names of their own
+abbrev pub HaveOwnInstances : List HCell → Type 0
+HaveOwnInstances cells = (number : ℕ) (cell : HCell) → IsCell cells number cell → HaveOwnNames (λ instance. instance.name) cell.instances
+
+-- the top and the cells of the instances are there, and the instances of each cell have names of their own: what it takes that a path leads to one cell
+pub record HasPaths (design : Design) : Type 0 where
+  pub has_top : design.top < length design.cells
+  pub instances_in_range : (number : ℕ) (cell : HCell) → IsCell design.cells number cell → Each (λ instance. instance.cell < length design.cells) cell.instances
+  pub own_instances : HaveOwnInstances design.cells
+
 -- the greatest number of cells, and of instances of a cell
 abbrev pub count_limit : ℕ
 count_limit = 268435456

@@ -34,6 +34,3 @@ pub use spelling::spell_u64;
 pub use split::split_range;
 pub use text::Text;
 pub use value::{Dir, PropValue};
-
-#[cfg(test)]
-mod tests;

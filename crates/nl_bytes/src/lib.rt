@@ -17,6 +17,3 @@ pub mod halt;
 pub use bytes::{Bytes, LIMIT};
 pub use class::Class;
 pub use halt::Halt;
-
-#[cfg(test)]
-mod tests;

@@ -21,6 +21,3 @@ pub use mem_source::MemSource;
 pub use sink::{Sink, put_all};
 pub use source::{Failed, Source};
 pub use standard::{StdSink, StdSource};
-
-#[cfg(test)]
-mod tests;

@@ -12,6 +12,3 @@
 pub mod output;
 
 pub use output::Output;
-
-#[cfg(test)]
-mod tests;

@@ -13,7 +13,5 @@ pub mod names;
 pub mod runs;
 pub mod signals;
 pub mod table;
-#[cfg(test)]
-mod tests;
 pub mod uses;
 pub mod widths;

@@ -11,6 +11,3 @@ pub mod spelled;
 
 pub use bits::{Bits, FilledBits, bits_of, filled_bits_of};
 pub use spelled::literal_of;
-
-#[cfg(test)]
-mod tests;

@@ -1,0 +1,14 @@
+use Rattle.std.proofs.Common.{arith}
+use Rattle.readers.proofs.Reading.{sequences}
+use Rattle.edif_names.specs.Grammar.{plain}
+use Rattle.edif_names.proofs.name.plain.Goals as goal
+
+-- src/name.rt:68:17
+pub returns-in_err-ident : goal.returns-in_err-ident
+unfolding plain
+returns-in_err-ident g c = grind (arith, sequences)
+
+-- src/name.rt:60:1
+pub returns : goal.returns
+unfolding plain
+returns g c = grind (arith, sequences)

@@ -1,0 +1,44 @@
+use Rattle.std.proofs.Common.{arith}
+use Rattle.edif_keywords.proofs.Forms.{item_loops}
+use Rattle.edif_names.specs.Grammar.{tails, tail_item}
+use Rattle.edif_names.proofs.property.read_tails.Goals as goal
+
+-- src/property.rt:54:5
+pub loop-tail-init : goal.loop-tail-init
+unfolding tails tail_item
+loop-tail-init g c = grind (arith, item_loops)
+
+-- src/property.rt:54:11
+pub returns-in_err-at_form : goal.returns-in_err-at_form
+unfolding tails tail_item
+returns-in_err-at_form g c = grind (arith, item_loops)
+
+-- src/property.rt:55:20
+pub returns-in_err-item : goal.returns-in_err-item
+unfolding tails tail_item
+returns-in_err-item g c = grind (arith, item_loops)
+
+-- src/property.rt:54:5
+pub loop-tail-smaller : goal.loop-tail-smaller
+unfolding tails tail_item
+loop-tail-smaller g c = grind (arith, item_loops)
+
+-- src/property.rt:54:5
+pub loop-tail-preserved : goal.loop-tail-preserved
+unfolding tails tail_item
+loop-tail-preserved g c = grind (arith, item_loops)
+
+-- src/property.rt:56:9
+pub returns-in_err-add : goal.returns-in_err-add
+unfolding tails tail_item
+returns-in_err-add g c = grind (arith, item_loops)
+
+-- src/property.rt:58:5
+pub returns-in_err-finish_form : goal.returns-in_err-finish_form
+unfolding tails tail_item
+returns-in_err-finish_form g c = grind (arith, item_loops)
+
+-- src/property.rt:45:1
+pub returns : goal.returns
+unfolding tails tail_item
+returns g c = grind (arith, item_loops)

@@ -1,0 +1,19 @@
+use Rattle.std.proofs.Common.{arith}
+use Rattle.readers.proofs.Reading.{sequences}
+use Rattle.edif_names.specs.Grammar.{number_value}
+use Rattle.edif_names.proofs.value.number_value.Goals as goal
+
+-- src/value.rt:90:18
+pub returns-in_err-number : goal.returns-in_err-number
+unfolding number_value
+returns-in_err-number g c = grind (arith, sequences)
+
+-- src/value.rt:91:5
+pub returns-in_err-finish_form : goal.returns-in_err-finish_form
+unfolding number_value
+returns-in_err-finish_form g c = grind (arith, sequences)
+
+-- src/value.rt:82:1
+pub returns : goal.returns
+unfolding number_value
+returns g c = grind (arith, sequences)

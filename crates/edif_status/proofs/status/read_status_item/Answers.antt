@@ -1,0 +1,14 @@
+use Rattle.std.proofs.Common.{arith}
+use Rattle.readers.proofs.Reading.{sequences}
+use Rattle.edif_status.specs.Grammar.{status_part}
+use Rattle.edif_status.proofs.status.read_status_item.Goals as goal
+
+-- src/status.rt:69:19
+pub returns-in_err-keyword : goal.returns-in_err-keyword
+unfolding status_part
+returns-in_err-keyword g c = grind (arith, sequences)
+
+-- src/status.rt:60:1
+pub returns : goal.returns
+unfolding status_part
+returns g c = grind (arith, sequences)
