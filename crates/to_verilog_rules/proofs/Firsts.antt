@@ -9,6 +9,7 @@ use Rattle.std.proofs.lemmas.Slice.Eq.{bytes_eq-Decides}
 use Rattle.nl_base.specs.declared.rule.Refusal.{Refusal}
 use Rattle.nl_base.specs.declared.rule.Rule.{Rule}
 use Rattle.nl_base.specs.declared.rule.Rule.TheVariants.{V1, V3, V4, V5}
+use Rattle.net_hier.specs.Design.{top_name}
 use Rattle.net_hier.specs.declared.cells.HCell.{HCell}
 use Rattle.net_hier.specs.declared.cells.HInst.{HInst}
 use Rattle.net_hier.specs.declared.cells.HPort.{HPort}
@@ -17,7 +18,7 @@ use Rattle.vlog_design.specs.Names.{Name, has_name}
 use Rattle.vlog_design.specs.Rules.{each_alone, first_of, refused}
 use Rattle.vlog_rules.proofs.RuleLaws.{first_behind, first_filter, first_there}
 use Rattle.to_verilog_rules.specs.Found.{IsFirst, flagged_names, is_flag, object_of}
-use Rattle.to_verilog_rules.specs.Rules.{boolean_parameters, boolean_params_of, cells_twice, first_V, in_cells, is_boolean, is_name, refusals, shared_names, top_name, unwritable_names, unwritable_of_design, unwritable_props}
+use Rattle.to_verilog_rules.specs.Rules.{boolean_parameters, boolean_params_of, cells_twice, first_V, in_cells, is_boolean, is_name, refusals, shared_names, unwritable_names, unwritable_of_design, unwritable_props}
 use Rattle.to_verilog_rules.specs.declared.unwritable.Unwritable.{Unwritable}
 
 find_same : (p q : Name → Bool) → ((name : Name) → p name ≡ q name) → (names : List Name) → find p names ≡ find q names

@@ -1,7 +1,7 @@
 -- The rules of a design that is to be written in Verilog, as lists of the objects that break them.
-use Rattle.std.specs.Prelude.{ℕ, Bool, true, false, not, ◌&&◌, nat_le, List, [], ◌∷◌, ◌++◌, length, map, filter, flat_map, bytes_eq, codes, Option, slice_get, if◌then◌else◌}
+use Rattle.std.specs.Prelude.{ℕ, Bool, true, false, not, ◌&&◌, nat_le, List, [], ◌∷◌, ◌++◌, length, map, filter, flat_map, bytes_eq, codes, Option, if◌then◌else◌}
 use Rattle.std.specs.List.{list_all, list_any}
-use Rattle.std.specs.Option.{option_map_or}
+use Rattle.net_hier.specs.Design.{top_name}
 use Rattle.net_hier.specs.declared.cells.HCell.{HCell}
 use Rattle.net_hier.specs.declared.cells.HInst.{HInst}
 use Rattle.net_hier.specs.declared.cells.HNet.{HNet}
@@ -86,10 +86,6 @@ in_cells rule objects cells = flat_map (λ cell. map (refused rule cell.name) (o
 -- a second cell of one name, which is named alone
 abbrev pub cells_twice : List HCell → List Refusal
 cells_twice cells = map (λ name. refused V2 name []) (clashing bytes_eq [] (map (λ cell. cell.name) cells))
-
--- the name of the top, the cell of this number
-abbrev pub top_name : List HCell → ℕ → Name
-top_name cells top = option_map_or (λ cell. cell.name) (slice_get cells top) []
 
 -- the names of the design's properties that cannot be written
 abbrev pub unwritable_of_design : Name → List HProp → List Refusal

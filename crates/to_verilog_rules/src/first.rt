@@ -2,9 +2,10 @@
 ghost use Rattle.std.specs.Prelude.{◌≡◌, ◌∷◌, ◌++◌, [], map, flat_map, option_map, IfOk};
 ghost use Rattle.nl_base.specs.declared.rule.Rule.TheVariants.{V1, V2, V3, V4, V5};
 ghost use Rattle.net_bits.specs.Names.{has_name as set_has};
+ghost use Rattle.net_hier.specs.Design.{top_name};
 ghost use Rattle.vlog_design.specs.Rules.{first_of, refused};
 ghost use Rattle.to_verilog_rules.specs.Found.{flag_names};
-ghost use Rattle.to_verilog_rules.specs.Rules.{boolean_parameters, boolean_params_of, cells_twice, first_V, in_cells, shared_names, top_name, unwritable_names, unwritable_of_design};
+ghost use Rattle.to_verilog_rules.specs.Rules.{boolean_parameters, boolean_params_of, cells_twice, first_V, in_cells, shared_names, unwritable_names, unwritable_of_design};
 
 use crate::flags::{Flagged, flag_of};
 use crate::twice::{cell_twice, port_and_instance};

@@ -2,8 +2,9 @@ use Rattle.std.proofs.Common.{◌≡◌, ◌∙◌, ap, sym, subst}
 use Rattle.std.specs.Prelude.{IfOk}
 use Rattle.nl_base.specs.declared.rule.Rule.TheVariants.{V5}
 use Rattle.net_bits.specs.Names.{has_name}
+use Rattle.net_hier.specs.Design.{top_name}
 use Rattle.vlog_design.specs.Rules.{first_of}
-use Rattle.to_verilog_rules.specs.Rules.{boolean_parameters, in_cells, top_name, unwritable_of_design}
+use Rattle.to_verilog_rules.specs.Rules.{boolean_parameters, in_cells, unwritable_of_design}
 use Rattle.to_verilog_rules.proofs.Firsts.{first_V_is, of_cells, three_first, three_last, three_second}
 use Rattle.to_verilog_rules.proofs.first.first_refusal.Goals as goal
 

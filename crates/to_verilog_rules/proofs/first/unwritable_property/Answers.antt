@@ -1,8 +1,9 @@
 use Rattle.std.proofs.Common.{◌∷◌, [], ◌∙◌, Some, None, ap, option_map, get_or, sym}
 use Rattle.nl_base.specs.declared.rule.Rule.TheVariants.{V4}
+use Rattle.net_hier.specs.Design.{top_name}
 use Rattle.vlog_design.specs.Rules.{first_of, refused}
 use Rattle.to_verilog_rules.specs.Found.{object_of}
-use Rattle.to_verilog_rules.specs.Rules.{top_name, unwritable_props}
+use Rattle.to_verilog_rules.specs.Rules.{unwritable_props}
 use Rattle.to_verilog_rules.proofs.Firsts.{property_first, top_is}
 use Rattle.to_verilog_rules.proofs.first.unwritable_property.Goals as goal
 
