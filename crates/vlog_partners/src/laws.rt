@@ -1,0 +1,50 @@
+// The laws of files that are written for designs.
+ghost use Rattle.std.specs.Prelude.{◌≡◌, ◌++◌, ◌∷◌, ℕ, List, [], None, bytes_eq, filter, map, Contains};
+ghost use Rattle.net_hier.specs.Constants.{AreConstantNames, ConstantNames};
+ghost use Rattle.net_hier.specs.Design.{Design, top_name};
+ghost use Rattle.net_hier.specs.SameCells.{SameCells};
+ghost use Rattle.net_hier.specs.SameDesign.{SameDesign};
+ghost use Rattle.net_hier.specs.Valid.{HaveOwnNames, IsValid};
+ghost use Rattle.net_hier.specs.declared.cells.HCell.{HCell};
+ghost use Rattle.vlog_design.specs.Design.{vlog_design};
+ghost use Rattle.vlog_design.specs.Names.{Name, clashing, has_name};
+ghost use Rattle.vlog_design.specs.Rules.{first_G};
+ghost use Rattle.vlog_partners.specs.Partners.{AreModulesFor};
+ghost use Rattle.vlog_plain.specs.Plain.{IsPlainFile, plain_file};
+ghost use Rattle.vlog_written.specs.OwnNames.{AreDistinct};
+ghost use Rattle.vlog_written.specs.Written.{PlainModule};
+
+/// A file of plain modules that are written for the cells of a valid design, which have names of their own,
+/// breaks no rule under the name of the top, and each design with the cells, the top and the properties of
+/// the file's is the same as that design, cell by cell, and so as a whole.
+pub fn written_files_are_the_same()
+    ensures no_refusal { (design : Design) (ps : List PlainModule) → IsValid design
+        → HaveOwnNames (λ (cell : HCell). cell.name) design.cells → AreModulesFor design ps
+        → first_G (plain_file ps) (top_name design.cells design.top) ≡ None }
+    ensures same_cells { (design : Design) (ps : List PlainModule) → IsValid design
+        → HaveOwnNames (λ (cell : HCell). cell.name) design.cells → AreModulesFor design ps
+        → (names : ConstantNames) (other : Design)
+        → other.cells ≡ (vlog_design (plain_file ps) (top_name design.cells design.top)).cells
+        → other.top ≡ (vlog_design (plain_file ps) (top_name design.cells design.top)).top
+        → other.props ≡ (vlog_design (plain_file ps) (top_name design.cells design.top)).props
+        → SameCells names design other None }
+    ensures same_design { (design : Design) (ps : List PlainModule) → IsValid design
+        → HaveOwnNames (λ (cell : HCell). cell.name) design.cells → AreModulesFor design ps
+        → (names : ConstantNames) (other : Design) → AreConstantNames names
+        → other.cells ≡ (vlog_design (plain_file ps) (top_name design.cells design.top)).cells
+        → other.top ≡ (vlog_design (plain_file ps) (top_name design.cells design.top)).top
+        → other.props ≡ (vlog_design (plain_file ps) (top_name design.cells design.top)).props
+        → SameDesign names design other }
+{}
+
+/// Cells of which no second has one name have names of their own. Ports and instances of which no port has
+/// the name of an instance are apart, and distinct names stay so with a new one.
+pub fn names_are_apart()
+    ensures cells { (cells : List HCell)
+        → clashing bytes_eq [] (map (λ (cell : HCell). cell.name) cells) ≡ []
+        → HaveOwnNames (λ (cell : HCell). cell.name) cells }
+    ensures both { (ports instances : List Name) → AreDistinct ports → AreDistinct instances
+        → filter (has_name instances) ports ≡ [] → AreDistinct (ports ++ instances) }
+    ensures more { (names : List Name) (name : Name) → AreDistinct names
+        → (Contains names name → ⊥) → AreDistinct (names ++ name ∷ []) }
+{}
