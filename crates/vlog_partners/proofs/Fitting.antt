@@ -23,8 +23,8 @@ use Rattle.vlog_written.specs.OwnNames.{AreDistinct, instances_named, ports_name
 use Rattle.vlog_written.specs.Written.{PlainInstance, PlainModule, PlainPort}
 use Rattle.vlog_written.proofs.Members.{distinct_left, there_at}
 use Rattle.vlog_plain.specs.Plain.{IsBitExpr, IsOver, IsPinValue, IsPlainConn, IsPlainFile, IsPlainInstance, IsPlainModule, each_bit, one_bit, open_pin}
-use Rattle.vlog_partners.specs.Partners.{AreModulesFor, IsHubAssign, IsPinOf, each_hub, face_of_plain, no_hub, one_hub}
-use Rattle.vlog_partners.proofs.Here.{Below, Here, all_below, below_at, here_at, here_for, name_below, once}
+use Rattle.vlog_partners.specs.Partners.{IsHubAssign, IsPinOf, each_hub, face_of_plain, no_hub, one_hub}
+use Rattle.vlog_partners.proofs.Here.{AreModulesFor, Below, Here, all_below, below_at, here_at, here_for, name_below, once}
 use Rattle.vlog_partners.proofs.Lists.{IsMatched, as_long, distinct_names, matched}
 
 -- what a pin is connected to

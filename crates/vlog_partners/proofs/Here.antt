@@ -11,9 +11,14 @@ use Rattle.net_hier.specs.Valid.{IsValid}
 use Rattle.net_hier.specs.declared.cells.HCell.{HCell}
 use Rattle.net_hier.specs.declared.cells.HInst.{HInst}
 use Rattle.vlog_written.specs.Written.{PlainInstance, PlainModule}
-use Rattle.vlog_partners.specs.Partners.{AreModulesFor, IsInstanceFor, IsModuleFor}
+use Rattle.vlog_partners.specs.Partners.{IsInstanceFor, IsModuleFor}
 use Rattle.vlog_partners.proofs.Lists.{as_long}
 use Rattle.vlog_partners.proofs.Orders.{StandOnce, order_once, order_within}
+
+-- plain modules for the cells of a design, one for each number in its order
+pub record AreModulesFor (design : Design) (ps : List PlainModule) : Type 0 where
+  pub as_many : length ps ≡ length design.order
+  pub modules : (place number : ℕ) (cell : HCell) (p : PlainModule) → slice_get design.order place ≡ Some number → IsCell design.cells number cell → slice_get ps place ≡ Some p → IsModuleFor design number cell p
 
 -- the number, the cell and the module of a place
 pub record Here (design : Design) (ps : List PlainModule) (place : ℕ) : Type 0 where

@@ -5,3 +5,4 @@ pub mod Fitting
 pub mod Means
 pub mod Writing
 pub mod Same
+pub mod Collected

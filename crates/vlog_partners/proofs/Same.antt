@@ -32,9 +32,9 @@ use Rattle.vlog_plain.proofs.CellLaws.{cells_are, top_cell}
 use Rattle.vlog_plain.proofs.FirstRule.{no_rule_broken}
 use Rattle.vlog_plain.proofs.Places.{number_of}
 use Rattle.vlog_plain.proofs.Uses.{none_some, some_same}
-use Rattle.vlog_partners.specs.Partners.{AreModulesFor, face_of_plain}
+use Rattle.vlog_partners.specs.Partners.{face_of_plain}
 use Rattle.vlog_partners.proofs.Fitting.{file_is, the_top}
-use Rattle.vlog_partners.proofs.Here.{Below, Here, below_at, here_for, name_below}
+use Rattle.vlog_partners.proofs.Here.{AreModulesFor, Below, Here, below_at, here_for, name_below}
 use Rattle.vlog_partners.proofs.Lists.{IsMatched, as_long}
 use Rattle.vlog_partners.proofs.Writing.{keeps_connection, keeps_values}
 

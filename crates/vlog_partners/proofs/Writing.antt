@@ -37,9 +37,9 @@ use Rattle.vlog_plain.proofs.Lists.{same}
 use Rattle.vlog_plain.proofs.Parts.{cell_is}
 use Rattle.vlog_plain.proofs.Places.{found}
 use Rattle.vlog_plain.proofs.Uses.{are_apart}
-use Rattle.vlog_partners.specs.Partners.{AreModulesFor, HasAssignOf, HasWire, IsHubAssign, IsPinOf, face_of_plain}
+use Rattle.vlog_partners.specs.Partners.{HasAssignOf, HasWire, IsHubAssign, IsPinOf, face_of_plain}
 use Rattle.vlog_partners.proofs.Fitting.{file_is, module_is, ports_below, the_top}
-use Rattle.vlog_partners.proofs.Here.{Below, Here, below_at, name_below}
+use Rattle.vlog_partners.proofs.Here.{AreModulesFor, Below, Here, below_at, name_below}
 use Rattle.vlog_partners.proofs.Lists.{IsMatched, as_long, matched, place_in}
 use Rattle.vlog_partners.proofs.Means.{HasThere, both_mean, has_there, is_hub_there}
 

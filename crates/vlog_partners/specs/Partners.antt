@@ -15,11 +15,12 @@ use Rattle.net_stars.specs.Stars.{AreHubs, HasHub, Hubs, IsBit}
 use Rattle.vlog_design.specs.Design.{attr_props, param_props}
 use Rattle.vlog_values.specs.declared.expression.Expr.{Expr}
 use Rattle.vlog_values.specs.declared.expression.Expr.TheVariants.{Cat}
+use Rattle.vlog_values.specs.declared.module.Module.{Module}
 use Rattle.vlog_values.specs.declared.statement.Assignment.{Assignment}
 use Rattle.vlog_values.specs.declared.statement.NamedConn.{NamedConn}
 use Rattle.vlog_written.specs.Hubs.{IsOuter}
 use Rattle.vlog_written.specs.OwnNames.{AreDistinct, instances_named, ports_named, wires_named}
-use Rattle.vlog_written.specs.Written.{PlainInstance, PlainModule, PlainPort, PlainWire}
+use Rattle.vlog_written.specs.Written.{PlainInstance, PlainModule, PlainPort, PlainWire, plain_module}
 use Rattle.vlog_plain.specs.Plain.{IsNodeExpr}
 
 -- the two sides of the assign are the expressions of the two nodes, in either order
@@ -47,7 +48,9 @@ pub data IsPinOf (p : PlainModule) (hubs : Hubs) (number port width : ℕ) (valu
   each_hub : (exprs : List Expr) → ((bit : ℕ) (expr : Expr) → slice_get exprs bit ≡ Some expr → (hub : Node) × (hubs (Pin number port bit) ≡ Some hub) × IsNodeExpr p hub expr) → width ≡ length exprs → value ≡ Some (Cat exprs) →
       IsPinOf p hubs number port width value
 
--- the statement of an instance: of the module of its cell, with its properties, and with each port of its cell connected, in order
+-- The statement of an instance. `of_below`: the module has the name of the instance's cell. `same_props`, `params_once`: the last property of each
+-- name is an attribute or a parameter. `each_port`, `pins`: a connection for each port of the cell, in order; where a bit of it is written, each
+-- bit has a hub.
 pub record IsInstanceFor (cells : List HCell) (hubs : Hubs) (p : PlainModule) (number : ℕ) (instance : HInst) (written : PlainInstance) : Type 0 where
   pub same_name : instance.name ≡ written.name
   pub below : HCell
@@ -68,7 +71,10 @@ pub record HasWire (cell : HCell) (p : PlainModule) (x : Node) (number : ℕ) : 
   pub is_there : slice_get p.wires number ≡ Some wire
   pub values : (name : List ℕ) (value : PropValue) → HasNetValue cell x name value ↔ HasLastValue (attr_props wire.attrs) name value
 
--- a plain module that is written for a cell of the design, with a hub for each local class
+-- A plain module that is written for a cell of the design. `distinct`: ports and instances of a cell have names of their own, no port has the
+-- name of an instance (a rule of Verilog as a target), and wires have names that were free. `hubs` to `assigned`, `wires` and `bare`: the
+-- wiring gives each live class one hub, a port bit of the class, or the wire that has the properties of its nets and that a class with such
+-- properties has, and an assign for each other port bit and each constant of the class. `instances`: one statement for each instance, in order.
 pub record IsModuleFor (design : Design) (number : ℕ) (cell : HCell) (p : PlainModule) : Type 0 where
   pub same_name : cell.name ≡ p.name
   pub same_ports : map face_of cell.ports ≡ map face_of_plain p.ports
@@ -84,7 +90,15 @@ pub record IsModuleFor (design : Design) (number : ℕ) (cell : HCell) (p : Plai
   pub wires : (x : Node) (number : ℕ) → IsBit design.cells cell x → hubs x ≡ Some (Net number) → HasWire cell p x number
   pub bare : (x : Node) → IsBit design.cells cell x → (name : List ℕ) (value : PropValue) → HasNetValue cell x name value → (number : ℕ) × (hubs x ≡ Some (Net number))
 
--- plain modules for the cells of a design, one for each number in its order
-pub record AreModulesFor (design : Design) (ps : List PlainModule) : Type 0 where
-  pub as_many : length ps ≡ length design.order
-  pub modules : (place number : ℕ) (cell : HCell) (p : PlainModule) → slice_get design.order place ≡ Some number → IsCell design.cells number cell → slice_get ps place ≡ Some p → IsModuleFor design number cell p
+-- the module is a plain one that is written for the cell of this number
+pub record IsWritten (design : Design) (number : ℕ) (m : Module) : Type 0 where
+  pub cell : HCell
+  pub is_cell : IsCell design.cells number cell
+  pub p : PlainModule
+  pub is_plain : m ≡ plain_module p
+  pub is_for : IsModuleFor design number cell p
+
+-- modules for the cells of a design, one for each number in its order
+pub record AreWritten (design : Design) (modules : List Module) : Type 0 where
+  pub as_many : length modules ≡ length design.order
+  pub each : (place number : ℕ) (m : Module) → slice_get design.order place ≡ Some number → slice_get modules place ≡ Some m → IsWritten design number m

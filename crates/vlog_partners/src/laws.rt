@@ -9,32 +9,31 @@ ghost use Rattle.net_hier.specs.declared.cells.HCell.{HCell};
 ghost use Rattle.vlog_design.specs.Design.{vlog_design};
 ghost use Rattle.vlog_design.specs.Names.{Name, clashing, has_name};
 ghost use Rattle.vlog_design.specs.Rules.{first_G};
-ghost use Rattle.vlog_partners.specs.Partners.{AreModulesFor};
-ghost use Rattle.vlog_plain.specs.Plain.{IsPlainFile, plain_file};
+ghost use Rattle.vlog_partners.specs.Partners.{AreWritten};
+ghost use Rattle.vlog_values.specs.declared.module.VlogFile.{VlogFile};
 ghost use Rattle.vlog_written.specs.OwnNames.{AreDistinct};
-ghost use Rattle.vlog_written.specs.Written.{PlainModule};
 
-/// A file of plain modules that are written for the cells of a valid design, which have names of their own,
-/// breaks no rule under the name of the top, and each design with the cells, the top and the properties of
-/// the file's is the same as that design, cell by cell, and so as a whole.
+/// A file of modules that are written for the cells of a valid design, which have names of their own, breaks
+/// no rule under the name of the top, and each design with the cells, the top and the properties of the
+/// file's is the same as that design, cell by cell, and so as a whole.
 pub fn written_files_are_the_same()
-    ensures no_refusal { (design : Design) (ps : List PlainModule) → IsValid design
-        → HaveOwnNames (λ (cell : HCell). cell.name) design.cells → AreModulesFor design ps
-        → first_G (plain_file ps) (top_name design.cells design.top) ≡ None }
-    ensures same_cells { (design : Design) (ps : List PlainModule) → IsValid design
-        → HaveOwnNames (λ (cell : HCell). cell.name) design.cells → AreModulesFor design ps
+    ensures no_refusal { (design : Design) (file : VlogFile) → AreWritten design file.modules
+        → IsValid design → HaveOwnNames (λ (cell : HCell). cell.name) design.cells
+        → first_G file (top_name design.cells design.top) ≡ None }
+    ensures same_cells { (design : Design) (file : VlogFile) → AreWritten design file.modules
+        → IsValid design → HaveOwnNames (λ (cell : HCell). cell.name) design.cells
         → (names : ConstantNames) (other : Design)
-        → other.cells ≡ (vlog_design (plain_file ps) (top_name design.cells design.top)).cells
-        → other.top ≡ (vlog_design (plain_file ps) (top_name design.cells design.top)).top
-        → other.props ≡ (vlog_design (plain_file ps) (top_name design.cells design.top)).props
+        → other.cells ≡ (vlog_design file (top_name design.cells design.top)).cells
+        → other.top ≡ (vlog_design file (top_name design.cells design.top)).top
+        → other.props ≡ (vlog_design file (top_name design.cells design.top)).props
         → SameCells names design other None }
-    ensures same_design { (design : Design) (ps : List PlainModule) → IsValid design
-        → HaveOwnNames (λ (cell : HCell). cell.name) design.cells → AreModulesFor design ps
-        → (names : ConstantNames) (other : Design) → AreConstantNames names
-        → other.cells ≡ (vlog_design (plain_file ps) (top_name design.cells design.top)).cells
-        → other.top ≡ (vlog_design (plain_file ps) (top_name design.cells design.top)).top
-        → other.props ≡ (vlog_design (plain_file ps) (top_name design.cells design.top)).props
-        → SameDesign names design other }
+    ensures same_design { (design : Design) (file : VlogFile) → AreWritten design file.modules
+        → IsValid design → HaveOwnNames (λ (cell : HCell). cell.name) design.cells
+        → (names : ConstantNames) (other : Design)
+        → other.cells ≡ (vlog_design file (top_name design.cells design.top)).cells
+        → other.top ≡ (vlog_design file (top_name design.cells design.top)).top
+        → other.props ≡ (vlog_design file (top_name design.cells design.top)).props
+        → AreConstantNames names → SameDesign names design other }
 {}
 
 /// Cells of which no second has one name have names of their own. Ports and instances of which no port has
