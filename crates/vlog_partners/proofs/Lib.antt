@@ -6,3 +6,5 @@ pub mod Means
 pub mod Writing
 pub mod Same
 pub mod Collected
+pub mod Example
+pub mod OverExample

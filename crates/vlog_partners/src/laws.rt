@@ -2,6 +2,7 @@
 ghost use Rattle.std.specs.Prelude.{◌≡◌, ◌++◌, ◌∷◌, ℕ, List, [], None, bytes_eq, filter, map, Contains};
 ghost use Rattle.net_hier.specs.Constants.{AreConstantNames, ConstantNames};
 ghost use Rattle.net_hier.specs.Design.{Design, top_name};
+ghost use Rattle.net_hier.specs.Example.{tied_design, translated_design};
 ghost use Rattle.net_hier.specs.SameCells.{SameCells};
 ghost use Rattle.net_hier.specs.SameDesign.{SameDesign};
 ghost use Rattle.net_hier.specs.Valid.{HaveOwnNames, IsValid};
@@ -9,6 +10,7 @@ ghost use Rattle.net_hier.specs.declared.cells.HCell.{HCell};
 ghost use Rattle.vlog_design.specs.Design.{vlog_design};
 ghost use Rattle.vlog_design.specs.Names.{Name, clashing, has_name};
 ghost use Rattle.vlog_design.specs.Rules.{first_G};
+ghost use Rattle.vlog_partners.specs.Example.{over_file, tied_file};
 ghost use Rattle.vlog_partners.specs.Partners.{AreWritten};
 ghost use Rattle.vlog_values.specs.declared.module.VlogFile.{VlogFile};
 ghost use Rattle.vlog_written.specs.OwnNames.{AreDistinct};
@@ -46,4 +48,13 @@ pub fn names_are_apart()
         → filter (has_name instances) ports ≡ [] → AreDistinct (ports ++ instances) }
     ensures more { (names : List Name) (name : Name) → AreDistinct names
         → (Contains names name → ⊥) → AreDistinct (names ++ name ∷ []) }
+{}
+
+/// The module of a cell whose port is joined to the constant zero, and the modules of a cell whose port is
+/// joined to that of an instance, are written for these: what the law asks for can be met.
+pub fn example_files()
+    ensures tied { AreWritten tied_design tied_file.modules
+        × HaveOwnNames (λ (cell : HCell). cell.name) tied_design.cells }
+    ensures over { AreWritten translated_design over_file.modules
+        × HaveOwnNames (λ (cell : HCell). cell.name) translated_design.cells }
 {}
