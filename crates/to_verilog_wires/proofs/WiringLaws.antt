@@ -99,8 +99,8 @@ two_live nets nodes two = ap (λ b. b || (nat_lt 0 (count_by is_bit nodes) && ha
 pin_within : (cells : List HCell) (cell : HCell) (instance port bit : ℕ) → IsPinBit cells cell instance port bit → bit < pin_width cells cell instance port
 pin_within cells cell instance port bit is =
     let w : pin_width cells cell instance port ≡ width_of is.is_bit.the_port.range =
-        ap (λ o. option_map_or (λ (i : HInst). option_map_or (λ below. port_width below port) (slice_get cells i.cell) 0) o 0) is.is_there
-        ∙ (ap (λ o. option_map_or (λ below. port_width below port) o 0) is.is_below ∙ ap (λ o. option_map_or (λ (p : HPort). width_of p.range) o 0) is.is_bit.is_there) in
+    ap (λ o. option_map_or (λ (i : HInst). option_map_or (λ below. port_width below port) (slice_get cells i.cell) 0) o 0) is.is_there
+    ∙ (ap (λ o. option_map_or (λ below. port_width below port) o 0) is.is_below ∙ ap (λ o. option_map_or (λ (p : HPort). width_of p.range) o 0) is.is_bit.is_there) in
     let h : bit < width_of is.is_bit.the_port.range = is.is_bit.within in
     omega (arith, w, h)
 
@@ -244,7 +244,7 @@ module _ (cells : List HCell) (cell : HCell) (groups : GroupTable) (are : AreGro
             let same : wire ≡ number = cc in
             let w = given.wires_of (root groups x) wire f in
             let keeps : SameValues (class_props cell.nets (around groups x)) (attr_props w.wire.attrs) = subst (λ l. SameValues (class_props cell.nets (around groups x)) (attr_props l))
-                (sym (w.attrs ∙ ap (wire_attrs cell) (around_root cell groups are marks x))) (attributes_keep (class_props cell.nets (around groups x))) in
+            (sym (w.attrs ∙ ap (wire_attrs cell) (around_root cell groups are marks x))) (attributes_keep (class_props cell.nets (around groups x))) in
             record {
               net = wire_net w.wire;
               is_there = ap (λ l. slice_get l number) nets ∙ mapped_at wire_net wires number w.wire (ap (slice_get wires) (sym same) ∙ w.is_there);
