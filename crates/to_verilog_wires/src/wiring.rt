@@ -37,17 +37,15 @@ impl Model for Wiring {
     ghost Value = { WiringTable };
 
     ghost view = { λ w. record {
-        groups = w.groups; ports = w.ports.keys; hubs = w.hubs.entries; names = w.names
+      groups = w.groups;
+      ports = w.ports.keys;
+      hubs = w.hubs.entries;
+      names = w.names;
     } };
 }
 
 /// The hub of a class of these nodes: a port bit, or a new wire.
-fn hub_for(
-    alloc: Global,
-    cell: &HCell,
-    nodes: &[Node],
-    wires: &mut Wires,
-) -> Result<Hub, NoMemory>
+fn hub_for(alloc: Global, cell: &HCell, nodes: &[Node], wires: &mut Wires) -> Result<Hub, NoMemory>
     requires { AreUsed wires.old.used (codes "n") wires.old.next }
     ensures { IfOk result (IsHubFor cell.now nodes.now wires.old wires.new) }
 {
