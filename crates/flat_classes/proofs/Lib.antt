@@ -1,0 +1,10 @@
+pub mod FlatLaws
+pub mod GroupLaws
+pub mod GroupLists
+pub mod KindLaws
+pub mod LeafLists
+pub mod Listing
+pub mod OneFlat
+pub mod Ordering
+pub mod Stars
+pub mod TerminalLaws

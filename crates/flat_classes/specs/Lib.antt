@@ -1,0 +1,5 @@
+pub mod FlatFaults
+pub mod Groups
+pub mod Kinds
+pub mod TerminalNumbers
+pub mod Terminals

@@ -1,0 +1,204 @@
+// The flat classes: spots, leaves, terminals and the groups of connected terminals.
+ghost use Rattle.std.specs.Prelude.{ℕ, ◌≡◌, ◌<◌, ◌≤◌, length, map, slice_index, IfOk, IfErr};
+ghost use Rattle.net_hier.specs.FlatCount.{FlatCount};
+ghost use Rattle.flat_classes.specs.FlatFaults.{IsFlatFault};
+ghost use Rattle.flat_numbers.specs.FlatJoins.{AreFew};
+ghost use Rattle.flat_classes.specs.Groups.{AreMembers};
+ghost use Rattle.flat_classes.specs.Kinds.{AreKinds};
+ghost use Rattle.flat_numbers.specs.TableParts.{HasTables, bases_in, spots_in};
+ghost use Rattle.flat_classes.specs.TerminalNumbers.{AreFlatLabels};
+ghost use Rattle.flat_classes.specs.Terminals.{AreFlatClasses, IsFewFlat};
+ghost use Rattle.flat_classes.specs.declared.flat.FlatFault.TheVariants.{NoMemory};
+
+use crate::groups::{labels_of, members_of, numbers_in_order};
+use crate::kinds::{Kinds, kinds_of};
+use crate::terminals::{leaves_of, terminals_of};
+use flat_numbers::counts::flat_count;
+use flat_numbers::joins::flat_joins;
+use flat_numbers::linked::least_linked;
+use flat_numbers::numbers::{Tables, tables_of};
+use flat_numbers::spots::Spot;
+use net_hier::{Constants, Hier};
+use nl_base::NoMemory;
+use std::alloc::Global;
+use std::marker::Model;
+
+/// The greatest flat count of a design that is taken apart.
+pub const FLAT_LIMIT: u64 = 2_000_000;
+
+/// A port bit of the top, a pin bit of a leaf below it, or a constant.
+#[derive(Clone, Copy, PartialEq, Eq)]
+pub enum Terminal {
+    Port { port: u32, bit: u32 },
+    Pin { spot: u32, port: u32, bit: u32 },
+    Zero,
+    One,
+}
+
+/// Why a design is not taken apart.
+#[derive(Drop)]
+pub enum FlatFault {
+    /// The flat count, this one or 2^64-1 where it is larger, is above 2,000,000.
+    TooLarge(u64),
+    /// Memory ran out.
+    NoMemory,
+}
+
+impl From<NoMemory> for FlatFault {
+    ghost from_gives = { λ _ e. e ≡ NoMemory };
+
+    fn from(_: NoMemory) -> Self {
+        FlatFault::NoMemory
+    }
+}
+
+/// The flat classes of a design.
+#[derive(Drop)]
+pub struct Flat {
+    spots: Vec<Spot>,
+    leaves: Vec<u32>,
+    terminals: Vec<Terminal>,
+    groups: Vec<u32>,
+    count: u32,
+}
+
+impl Model for Flat {
+    ghost use Rattle.std.specs.Prelude.{length};
+    ghost use Rattle.flat_classes.specs.Groups.{AreGroupNumbers};
+    ghost use Rattle.flat_classes.specs.Terminals.{FlatValue};
+
+    ghost Value = { FlatValue };
+
+    ghost view = { λ f. record {
+      spots = f.spots.items;
+      leaves = f.leaves.items;
+      terminals = f.terminals.items;
+      groups = f.groups.items;
+      count = f.count;
+    } };
+
+    ghost invariant = { λ f. AreGroupNumbers f.groups.items f.count (length f.terminals.items) };
+}
+
+/// For each number of a node the least number that is connected to it.
+fn classes_of(
+    alloc: Global,
+    hier: &Hier,
+    constants: &Constants,
+    tables: &Tables,
+    kinds: &Kinds,
+) -> Result<Vec<u32>, NoMemory>
+    requires are_tables { HasTables hier.now tables.now }
+    requires are_kinds { AreKinds constants.now hier.now.cells kinds.now }
+    requires few { AreFew hier.now.cells }
+    ensures { IfOk result (λ labels. AreFlatLabels constants.now hier.now (spots_in tables.now)
+        (bases_in tables.now) tables.now.layout.count labels.items) }
+{
+    let _cells = hier.cells();
+    let joins = flat_joins(
+        alloc,
+        hier,
+        tables,
+        constants,
+        kinds.links.as_slice(),
+        kinds.constants.as_slice(),
+    )?;
+    let classes = least_linked(alloc, tables.layout.count, joins.as_slice())?;
+    Ok(classes)
+}
+
+/// The flat classes of a design of this flat count, which is within the limit.
+fn flat_of(alloc: Global, hier: &Hier, constants: &Constants, count: u64) -> Result<Flat, NoMemory>
+    requires few { count ≤ 2000000 }
+    requires counted { FlatCount hier.now.cells hier.now.top count }
+    ensures { IfOk result (AreFlatClasses constants.now hier.now) }
+{
+    let _cells = hier.cells();
+    let tables = tables_of(alloc, hier, count)?;
+    let kinds = kinds_of(alloc, hier, constants)?;
+    let classes = classes_of(alloc, hier, constants, &tables, &kinds)?;
+    let spots = tables.layout.spots.as_slice();
+    let leaves = leaves_of(
+        alloc,
+        spots,
+        kinds.leaves.as_slice(),
+        kinds.constants.as_slice(),
+    )?;
+    let terminals = terminals_of(alloc, hier, spots, leaves.as_slice())?;
+    let labels = labels_of(
+        alloc,
+        hier,
+        &tables,
+        classes.as_slice(),
+        terminals.as_slice(),
+    )?;
+    let (groups, count) = numbers_in_order(alloc, classes.len(), labels.as_slice())?;
+    let Tables {
+        layout,
+        belows: _,
+        offsets: _,
+    } = tables;
+    Ok(Flat {
+        spots: layout.into_spots(),
+        leaves,
+        terminals,
+        groups,
+        count,
+    })
+}
+
+impl Flat {
+    /// The flat classes of a design, where its flat count is at most 2,000,000.
+    pub fn of(alloc: Global, hier: &Hier, constants: &Constants) -> Result<Flat, FlatFault>
+        ensures classes { IfOk result (λ flat. AreFlatClasses constants.now hier.now flat ×
+            IsFewFlat hier.now) }
+        ensures fault { IfErr result (IsFlatFault hier.now) }
+    {
+        let count = flat_count(alloc, hier)?;
+        if count > FLAT_LIMIT {
+            return Err(FlatFault::TooLarge(count));
+        }
+        let flat = flat_of(alloc, hier, constants, count)?;
+        Ok(flat)
+    }
+
+    /// The top and every path, in depth-first order.
+    pub fn spots(&self) -> &[Spot]
+        ensures { result.now ≡ self.now.spots }
+    {
+        self.spots.as_slice()
+    }
+
+    /// The spots of the leaves that are no constant cells, in order.
+    pub fn leaves(&self) -> &[u32]
+        ensures { result.now ≡ self.now.leaves }
+    {
+        self.leaves.as_slice()
+    }
+
+    /// The top's port bits, then the pins of the leaves other than spot 0 in the order of leaves,
+    /// ports and positions, then the constants.
+    pub fn terminals(&self) -> &[Terminal]
+        ensures { result.now ≡ self.now.terminals }
+    {
+        self.terminals.as_slice()
+    }
+
+    /// The number of the group of the terminal at this place. Groups are numbered from 0 in the
+    /// order of their first terminals.
+    pub fn group(&self, place: u32) -> u32
+        requires { place < length self.now.terminals }
+        ensures { result ≡ slice_index self.now.groups place }
+    {
+        self.groups[place as usize]
+    }
+
+    /// For each group the places of its terminals, in order.
+    pub fn members(&self, alloc: Global) -> Result<Vec<Vec<u32>>, NoMemory>
+        ensures { IfOk result (λ lists. AreMembers self.now.groups self.now.count
+            (map (λ list. list.items) lists.items)) }
+    {
+        let members = members_of(alloc, self.groups.as_slice(), self.count)?;
+        Ok(members)
+    }
+}

@@ -1,0 +1,110 @@
+// The groups of connected terminals.
+ghost use Rattle.std.specs.Prelude.{ℕ, ◌≡◌, ◌+◌, ◌<◌, ◌≤◌, ◌^◌, All, None, Option, Some, map, length, slice_get, slice_index_or, slice_set, IfOk};
+ghost use Rattle.flat_classes.specs.Groups.{AreInOrder, AreMembers, AreSame};
+ghost use Rattle.flat_numbers.specs.TableParts.{HasTables, bases_in, spots_in};
+ghost use Rattle.flat_classes.specs.TerminalNumbers.{AreNumbered, HaveLabels, TerminalNumber};
+
+use crate::flat::Terminal;
+use flat_numbers::numbers::{Tables, place_number};
+use net_hier::Hier;
+use nl_base::NoMemory;
+use std::alloc::Global;
+
+/// The number of a terminal's node.
+fn terminal_number(hier: &Hier, tables: &Tables, terminal: Terminal) -> u32
+    requires are_tables { HasTables hier.now tables.now }
+    requires has_number { (u : ℕ) × TerminalNumber hier.now.cells (spots_in tables.now) (bases_in
+        tables.now) terminal u }
+    ensures { (u : ℕ) → TerminalNumber hier.now.cells (spots_in tables.now) (bases_in tables.now)
+        terminal u → result ≡ u }
+{
+    let _cells = hier.cells();
+    match terminal {
+        Terminal::Port { port, bit } => place_number(tables, 0, port as usize, bit),
+        Terminal::Pin { spot, port, bit } => place_number(tables, spot, port as usize, bit),
+        Terminal::Zero => 0,
+        Terminal::One => 1,
+    }
+}
+
+/// The label of each terminal's number.
+pub fn labels_of(
+    alloc: Global,
+    hier: &Hier,
+    tables: &Tables,
+    labels: &[u32],
+    terminals: &[Terminal],
+) -> Result<Vec<u32>, NoMemory>
+    requires are_tables { HasTables hier.now tables.now }
+    requires numbered { AreNumbered hier.now.cells (spots_in tables.now) (bases_in tables.now)
+        terminals.now }
+    requires labels { tables.now.layout.count ≡ length labels.now }
+    ensures { IfOk result (λ found. HaveLabels hier.now.cells (spots_in tables.now) (bases_in
+        tables.now) labels.now terminals.now found.items) }
+{
+    let mut found = Vec::new(alloc);
+    for terminal in terminals {
+        let number = terminal_number(hier, tables, *terminal);
+        found.push(labels[number as usize])?;
+    }
+    Ok(found)
+}
+
+/// The number of a value, which is the next one where the value has none yet.
+fn number_of(known: &mut [Option<u32>], value: u32, next: u32) -> u32
+    requires { value < length known.old }
+    ensures known { (number : ℕ) → slice_index_or known.old value None ≡ Some number →
+        (result ≡ number) × (known.new ≡ known.old) }
+    ensures unknown { slice_index_or known.old value None ≡ None → (result ≡ next) ×
+        (known.new ≡ slice_set known.old value (Some next)) }
+{
+    match known[value as usize] {
+        Some(number) => number,
+        None => {
+            known[value as usize] = Some(next);
+            next
+        }
+    }
+}
+
+/// Numbers of values below the bound: equal values have one number, and others differ. They are
+/// given from 0 in the order of first values. How many there are is answered too.
+pub fn numbers_in_order(
+    alloc: Global,
+    bound: usize,
+    values: &[u32],
+) -> Result<(Vec<u32>, u32), NoMemory>
+    requires few { length values.now < 2 ^ 32 }
+    requires below { All (λ value. value < bound) values.now }
+    ensures same { IfOk result (λ r. AreSame values.now r.0.items) }
+    ensures in_order { IfOk result (λ r. AreInOrder r.0.items r.1) }
+{
+    let mut known = vec![in alloc; None; bound]?;
+    let mut numbers = Vec::new(alloc);
+    let mut count: u32 = 0;
+    for value in values {
+        let number = number_of(&mut known, *value, count);
+        numbers.push(number)?;
+        if number == count {
+            count += 1;
+        }
+    }
+    Ok((numbers, count))
+}
+
+/// For each group the places of its terminals, in order.
+pub fn members_of(alloc: Global, groups: &[u32], count: u32) -> Result<Vec<Vec<u32>>, NoMemory>
+    requires few { length groups.now < 2 ^ 32 }
+    requires within { All (λ group. group < count) groups.now }
+    ensures { IfOk result (λ lists. AreMembers groups.now count (map (λ list. list.items)
+        lists.items)) }
+{
+    let mut members = Vec::new(alloc);
+    for _group in 0..count {
+        members.push(Vec::new(alloc))?;
+    }
+    for place in 0..groups.len() {
+        members[groups[place] as usize].push(place as u32)?;
+    }
+    Ok(members)
+}

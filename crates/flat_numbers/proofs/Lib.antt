@@ -1,0 +1,13 @@
+pub mod Counting
+pub mod Finding
+pub mod Forests
+pub mod Linking
+pub mod NumberLaws
+pub mod Offsets
+pub mod PathSpots
+pub mod Places
+pub mod Reading
+pub mod Rows
+pub mod SpotLaws
+pub mod SpotWalk
+pub mod Whole

@@ -1,0 +1,9 @@
+pub mod FlatCounts
+pub mod FlatJoins
+pub mod Forest
+pub mod Layout
+pub mod Linked
+pub mod Numbers
+pub mod Spots
+pub mod TableParts
+pub mod Tables
