@@ -1,5 +1,5 @@
 -- A node more is given its hub.
-use Rattle.std.proofs.Common.{◌≡◌, ◌≢◌, ℕ, zero, suc, ◌+◌, ◌<◌, ◌≤◌, ◌⊎◌, inl, inr, Bool, true, false, cond, if◌then◌else◌, List, [], ◌∷◌, ◌++◌, Option, Some, None, find, map, length, slice_get, refl, sym, ◌∙◌, ap, subst, arith, Contains, length-append}
+use Rattle.std.proofs.Common.{◌≡◌, ℕ, zero, suc, ◌<◌, ◌⊎◌, inl, inr, Bool, true, false, cond, if◌then◌else◌, List, [], ◌∷◌, ◌++◌, Option, Some, None, find, length, slice_get, refl, sym, ◌∙◌, ap, subst, arith, Contains}
 use Rattle.std.specs.Option.{option_and_then}
 use Rattle.std.specs.Map.{lookup}
 use Rattle.std.proofs.lemmas.Bool.{false≢true}
@@ -13,7 +13,7 @@ use Rattle.net_hier.specs.declared.nodes.Node.TheVariants.{Port, Pin, Net, Zero,
 use Rattle.net_bits.specs.Neighbours.{same_node}
 use Rattle.to_verilog_wires.proofs.NodeLaws.{same_node-Decides}
 use Rattle.net_live.specs.Live.{have_property}
-use Rattle.to_verilog_wires.specs.Given.{AddsHub, AreGiven, IsWireOf}
+use Rattle.to_verilog_wires.specs.Given.{AreGiven, IsWireOf}
 use Rattle.to_verilog_wires.specs.Groups.{GroupTable, around}
 use Rattle.to_verilog_wires.specs.Hubs.{first_port, hub_node, is_input, is_port_bit, or_else, port_bit, port_hub}
 use Rattle.to_verilog_wires.specs.Naming.{wire_attrs}

@@ -1,5 +1,5 @@
 -- The wires that are made have names of their own.
-use Rattle.std.proofs.Common.{◌≡◌, ℕ, zero, suc, ◌+◌, ◌%◌, ◌^◌, ◌<◌, ◌≤◌, ◌⊎◌, inl, inr, ◌||◌, ◌&&◌, nat_le, Bool, true, false, cond, List, [], ◌∷◌, ◌++◌, Option, Some, None, map, length, refl, sym, ◌∙◌, ap, subst, arith, Contains, codes, length-append, append_assoc, append-nil, decimal}
+use Rattle.std.proofs.Common.{◌≡◌, ℕ, suc, ◌+◌, ◌%◌, ◌^◌, ◌<◌, ◌≤◌, inl, inr, ◌||◌, ◌&&◌, nat_le, Bool, true, false, List, [], ◌∷◌, ◌++◌, Some, None, map, length, refl, sym, ◌∙◌, ap, subst, arith, Contains, append_assoc, append-nil, decimal}
 use Rattle.std.specs.List.{list_all, list_any}
 use Rattle.std.proofs.lemmas.Bool.{false≢true}
 use Rattle.std.proofs.lemmas.Bool.Decides.{nat_tests}
@@ -9,7 +9,7 @@ use Rattle.std.proofs.lemmas.List.Elements.{Contains-append_left, Contains-appen
 use Rattle.std.proofs.lemmas.List.Folds.{list_all-append, list_any-append}
 use Rattle.std.proofs.lemmas.Slice.Eq.{bytes_eq-Decides}
 use Rattle.nl_base.specs.Case.{same_bytes}
-use Rattle.net_bits.specs.Names.{AreUsed, IsFresh, NameSet, has_name, numbered, with_name}
+use Rattle.net_bits.specs.Names.{NameSet, has_name, with_name}
 use Rattle.vlog_written.proofs.Members.{there_cases}
 use Rattle.net_live.proofs.LastLaws.{names_more}
 use Rattle.net_hier.specs.declared.cells.HCell.{HCell}
@@ -17,7 +17,7 @@ use Rattle.net_hier.specs.declared.cells.HInst.{HInst}
 use Rattle.net_hier.specs.declared.cells.HPort.{HPort}
 use Rattle.net_hier.specs.declared.nodes.Node.{Node}
 use Rattle.to_verilog_rules.specs.Rules.{is_graphic, is_name}
-use Rattle.to_verilog_wires.specs.Given.{AddsHub, AreGiven, AreMade, AreNamed, GivesHubs, IsPortHub, IsWireHub, own_names}
+use Rattle.to_verilog_wires.specs.Given.{AddsHub, AreMade, GivesHubs, own_names}
 use Rattle.to_verilog_wires.specs.Groups.{GroupTable, around}
 use Rattle.to_verilog_wires.specs.Naming.{wire_attrs, with_names}
 use Rattle.to_verilog_wires.specs.Wires.{HasNoWires, HasOneMore, IsNamed}

@@ -1,17 +1,12 @@
 -- Names and properties of wires.
-use Rattle.std.proofs.Common.{◌≡◌, ℕ, false, List, [], ◌∷◌, ◌++◌, Option, Some, None, slice_get, option_copied, refl, sym, ◌∙◌, ap, subst, codes, append-nil}
-use Rattle.std.specs.Option.{option_map_or}
-use Rattle.net_bits.specs.Names.{AreUsed, NameSet, has_name, with_name}
+use Rattle.std.proofs.Common.{◌≡◌, ℕ, false, List, [], ◌∷◌, ◌++◌, sym, ◌∙◌, ap, subst, codes}
+use Rattle.net_bits.specs.Names.{AreUsed, has_name, with_name}
 use Rattle.net_bits.proofs.CallerLaws.{used-with_name}
 use Rattle.net_hier.specs.declared.cells.HCell.{HCell}
-use Rattle.net_hier.specs.declared.cells.HNet.{HNet}
-use Rattle.net_hier.specs.declared.cells.HProp.{HProp}
 use Rattle.net_hier.specs.declared.nodes.Node.{Node}
-use Rattle.net_hier.specs.declared.nodes.Node.TheVariants.{Port, Pin, Net, Zero, One}
 use Rattle.to_verilog_wires.specs.Naming.{wire_attrs}
 use Rattle.to_verilog_wires.specs.Wires.{HasOneMore, IsNamed, IsSameBut}
 use Rattle.to_verilog_wires.specs.declared.naming.Wires.{Wires}
-use Rattle.vlog_values.specs.declared.module.ItemV.{ItemV}
 use Rattle.vlog_written.specs.Written.{wire_item}
 
 pub one_more : (cell : HCell) (nodes : List Node) (before now after : Wires) (name : List ℕ) → IsSameBut before now → has_name before.used name ≡ false → IsNamed before.used name → AreUsed now.used (codes "n") now.next →

@@ -1,23 +1,22 @@
 -- The node that stands for a node, and which nodes stand for others.
-use Rattle.std.proofs.Common.{◌≡◌, ◌≢◌, ℕ, zero, suc, ◌+◌, ◌<◌, ◌≤◌, ◌⊎◌, inl, inr, Bool, true, false, cond, if◌then◌else◌, List, [], ◌∷◌, ◌++◌, Option, Some, None, is_none, map, filter, flat_map, take, length, get_or, slice_get, slice_index_or, option_to_list, refl, sym, ◌∙◌, ap, subst, arith, Contains, nat_lt, count_by, ◌||◌, ◌&&◌, IsPermutation}
-use Rattle.std.specs.List.{list_any, range_with_len}
+use Rattle.std.proofs.Common.{◌≡◌, ℕ, zero, suc, ◌+◌, ◌<◌, ◌≤◌, ◌⊎◌, inl, inr, Bool, true, false, if◌then◌else◌, List, [], ◌∷◌, Option, Some, None, is_none, map, flat_map, take, length, get_or, slice_index_or, refl, sym, ◌∙◌, ap, subst, arith, Contains, IsPermutation}
+use Rattle.std.specs.List.{range_with_len}
 use Rattle.std.specs.Option.{option_and_then, option_map_or}
 use Rattle.std.proofs.lemmas.Bool.{false≢true}
 use Rattle.std.proofs.lemmas.List.Elements.{Contains-append_cases, Contains-append_left, Contains-append_right, Contains-get_or}
 use Rattle.std.proofs.lemmas.List.FromFn.{get_or-range_with_len, length-range_with_len}
 use Rattle.std.proofs.lemmas.List.Sorted.{Contains-permutation, IsPermutation-sym}
-use Rattle.net_hier.specs.Cells.{IsLocallyConnected}
 use Rattle.net_hier.specs.declared.cells.HCell.{HCell}
 use Rattle.net_hier.specs.declared.nodes.Node.{Node}
 use Rattle.net_hier.specs.declared.nodes.Node.TheVariants.{Port, Pin, Net, Zero, One}
-use Rattle.net_bits.specs.Classes.{AreClasses, ClassTable, class_of, members_of}
-use Rattle.net_bits.proofs.CallerLaws.{connected_classes, member_of_class}
+use Rattle.net_bits.specs.Classes.{ClassTable, class_of, members_of}
+use Rattle.net_bits.proofs.CallerLaws.{member_of_class}
 use Rattle.net_live.proofs.LiveLaws.{passes, passed}
 use Rattle.vlog_written.proofs.Contents.{there_in_parts, part_of, image_of}
 use Rattle.vlog_written.proofs.Members.{there_mapped, nothing_there}
 use Rattle.net_live.specs.Live.{is_live}
 use Rattle.to_verilog_wires.specs.Groups.{AreGroups, GroupTable, HasMarks, around, if_live, live_class, root}
-use Rattle.to_verilog_wires.specs.Roots.{each_live, first_members, of_live, open_bits, open_pins, pin_width, root_list}
+use Rattle.to_verilog_wires.specs.Roots.{each_live, first_members, of_live, open_bits, pin_width, root_list}
 
 -- the same, or of one class
 abbrev pub ShareClass : ClassTable → Node → Node → Type 0
@@ -126,18 +125,18 @@ module _ (cell : HCell) (groups : GroupTable) (are : AreGroups cell groups) (mar
       by (Some class) e h = (class, e, (member_of_class cell classes are.classes y class).1 h)
 
   -- a node of a class that is written has its root in what they give
-  pub in_each : (part : List Node → List Node) (x y : Node) (class : ℕ) → live_class groups x ≡ Some class → Contains (part (members_of classes class)) y → Contains (each_live groups part) y
+  pub in_each : {A : Type 0} (part : List Node → List A) (x : Node) (y : A) (class : ℕ) → live_class groups x ≡ Some class → Contains (part (members_of classes class)) y → Contains (each_live groups part) y
   in_each part x y class e h =
       there_in_parts (of_live groups part) (range_with_len 0 classes.count) class y
       (in_range classes.count class (marks.below x class (class_there x class e)))
       (subst (λ b. Contains (if b then part (members_of classes class) else []) y) (sym (live_there x class e)) h)
 
-  pub record FromLive (part : List Node → List Node) (y : Node) : Type 0 where
+  pub record FromLive {A : Type 0} (part : List Node → List A) (y : A) : Type 0 where
     pub class : ℕ
     pub live : slice_index_or groups.live class false ≡ true
     pub is_there : Contains (part (members_of classes class)) y
 
-  pub from_each : (part : List Node → List Node) (y : Node) → Contains (each_live groups part) y → FromLive part y
+  pub from_each : {A : Type 0} (part : List Node → List A) (y : A) → Contains (each_live groups part) y → FromLive part y
   from_each part y h =
       let r = part_of (of_live groups part) (range_with_len 0 classes.count) y h in
       by r.0 (slice_index_or groups.live r.0 false) refl r.2

@@ -1,5 +1,5 @@
 -- The wiring of a cell: one hub for each local class that is written.
-use Rattle.std.proofs.Common.{◌≡◌, ◌≢◌, ℕ, zero, suc, ◌+◌, ◌<◌, ◌≤◌, ◌⊎◌, ◌↔◌, inl, inr, Bool, true, false, cond, if◌then◌else◌, not, List, [], ◌∷◌, ◌++◌, Option, Some, None, option_to_list, map, flat_map, length, slice_get, slice_index_or, refl, sym, ◌∙◌, ap, subst, arith, Contains, ◌||◌, ◌&&◌, ◌==◌, nat_lt, count_by, IsPermutation}
+use Rattle.std.proofs.Common.{◌≡◌, ◌≢◌, ℕ, zero, suc, ◌<◌, ◌⊎◌, ◌↔◌, inl, inr, Bool, true, false, if◌then◌else◌, not, List, [], ◌∷◌, ◌++◌, Option, Some, None, option_to_list, map, length, slice_get, refl, sym, ◌∙◌, ap, subst, arith, Contains, ◌||◌, ◌&&◌, ◌==◌, nat_lt, count_by, IsPermutation}
 use Rattle.std.specs.List.{list_any}
 use Rattle.std.specs.Option.{option_map, option_map_or}
 use Rattle.std.proofs.lemmas.Bool.{false≢true}
@@ -7,9 +7,9 @@ use Rattle.std.proofs.lemmas.Bool.Decides.{nat_tests}
 use Rattle.std.proofs.lemmas.List.{length-map}
 use Rattle.std.proofs.lemmas.Map.Made.{is_member-Decides}
 use Rattle.std.proofs.lemmas.Option.{slice_get_within}
-use Rattle.net_hier.specs.Cells.{IsBitOrConstant, IsLocallyConnected, IsPinBit, IsPortBit, width_of}
+use Rattle.net_hier.specs.Cells.{IsBitOrConstant, IsLocallyConnected, IsPinBit, width_of}
 use Rattle.net_hier.specs.Facts.{HasLastValue, HasNetValue, SameValues}
-use Rattle.net_hier.specs.Valid.{Each, IsGoodCell, IsJoinOf, IsNode}
+use Rattle.net_hier.specs.Valid.{Each, IsGoodCell, IsJoinOf}
 use Rattle.net_hier.specs.declared.cells.HCell.{HCell}
 use Rattle.net_hier.specs.declared.cells.HNet.{HNet}
 use Rattle.net_hier.specs.declared.cells.HInst.{HInst}
@@ -31,7 +31,6 @@ use Rattle.net_live.specs.Live.{class_props, have_property, is_bit, is_end, is_l
 use Rattle.net_live.proofs.LiveLaws.{joined_node, share_live, two_pass}
 use Rattle.net_live.proofs.PartnerLaws.{bit_passes}
 use Rattle.net_live.proofs.ValueLaws.{live_with_value, net_value_is, no_net_bit}
-use Rattle.to_verilog_props.specs.Written.{attrs_of}
 use Rattle.to_verilog_props.proofs.Meanings.{attributes_keep}
 use Rattle.vlog_design.specs.Design.{attr_props}
 use Rattle.vlog_written.specs.Written.{PlainWire}
@@ -40,13 +39,13 @@ use Rattle.to_verilog_wires.specs.Groups.{AreGroups, GroupTable, HasMarks, aroun
 use Rattle.to_verilog_wires.specs.Hubs.{first_port, hub_node, port_hub}
 use Rattle.to_verilog_wires.specs.IsWiring.{IsWiring, wire_net}
 use Rattle.to_verilog_wires.specs.Naming.{wire_attrs}
-use Rattle.to_verilog_wires.specs.Roots.{AddsKeys, AreWrittenPorts, each_live, pin_port, pin_width, port_width, ports_among, root_list}
+use Rattle.to_verilog_wires.specs.Roots.{AreWrittenPorts, each_live, pin_port, pin_width, port_width, ports_among, root_list}
 use Rattle.to_verilog_wires.specs.Wiring.{hub_in}
 use Rattle.to_verilog_wires.specs.declared.hubs.Hub.{Hub}
 use Rattle.to_verilog_wires.specs.declared.hubs.Hub.TheVariants as hubs
 use Rattle.to_verilog_wires.specs.declared.naming.Wires.{Wires}
 use Rattle.to_verilog_wires.proofs.GivenLaws.{hub_node_there}
-use Rattle.to_verilog_wires.proofs.Rooted.{FromLive, IsFirst, IsOpen, ShareClass, around_class, around_root, class_there, from_each, in_around, in_each, listed_root, live_there, mark_there, one_root, open_listed, root_itself, root_listed, root_of_class, root_shares, share_back, share_on, written_there}
+use Rattle.to_verilog_wires.proofs.Rooted.{IsFirst, IsOpen, ShareClass, around_class, around_root, class_there, from_each, in_around, in_each, listed_root, live_there, mark_there, one_root, open_listed, root_itself, root_listed, root_shares, share_back, share_on, written_there}
 
 -- a hub is the one of its node
 same_hub : (a b : Hub) → hub_node a ≡ hub_node b → a ≡ b

@@ -1,8 +1,8 @@
 -- The hubs that are given to nodes, and the wires that are made for them.
-use Rattle.std.specs.Prelude.{◌≡◌, ◌⊎◌, ◌++◌, ◌||◌, ℕ, Bool, true, false, cond, List, map, length, codes, Option, Some, None, slice_get, Contains}
+use Rattle.std.specs.Prelude.{◌≡◌, ◌⊎◌, ◌++◌, ℕ, true, false, cond, List, map, length, codes, Option, Some, None, slice_get, Contains}
 use Rattle.std.specs.List.{list_any}
 use Rattle.nl_base.specs.Case.{same_bytes}
-use Rattle.net_bits.specs.Names.{AreUsed, NameSet, has_name}
+use Rattle.net_bits.specs.Names.{AreUsed, has_name}
 use Rattle.net_bits.specs.Neighbours.{same_node}
 use Rattle.net_hier.specs.declared.cells.HCell.{HCell}
 use Rattle.net_hier.specs.declared.nodes.Node.{Node}

@@ -1,5 +1,5 @@
 -- The nodes that stand for what has a hub.
-use Rattle.std.specs.Prelude.{◌≡◌, ℕ, Bool, false, ◌||◌, is_none, if◌then◌else◌, List, [], ◌∷◌, ◌++◌, Option, Some, None, map, filter, flat_map, take, slice_get, slice_index_or, option_to_list}
+use Rattle.std.specs.Prelude.{◌≡◌, ℕ, false, ◌||◌, is_none, if◌then◌else◌, List, [], ◌++◌, Option, Some, None, map, filter, flat_map, take, slice_get, slice_index_or, option_to_list}
 use Rattle.std.specs.List.{list_any, range_with_len}
 use Rattle.std.specs.Option.{option_map_or}
 use Rattle.net_bits.specs.Classes.{members_of}

@@ -29,7 +29,8 @@ pub struct Wires {
 
 /// Adds the names of ports.
 fn use_ports(alloc: Global, ports: &[HPort], used: &mut Names) -> Result<(), NoMemory>
-    ensures added { OnOk result (used.new ≡ with_names used.old (map (λ port. port.name) ports.now)) }
+    ensures added { OnOk result (used.new
+        ≡ with_names used.old (map (λ port. port.name) ports.now)) }
 {
     for port in ports {
         used.add(alloc, port.name.bytes())?;
@@ -39,7 +40,8 @@ fn use_ports(alloc: Global, ports: &[HPort], used: &mut Names) -> Result<(), NoM
 
 /// Adds the names of instances.
 fn use_instances(alloc: Global, instances: &[HInst], used: &mut Names) -> Result<(), NoMemory>
-    ensures added { OnOk result (used.new ≡ with_names used.old (map (λ instance. instance.name) instances.now)) }
+    ensures added { OnOk result (used.new
+        ≡ with_names used.old (map (λ instance. instance.name) instances.now)) }
 {
     for instance in instances {
         used.add(alloc, instance.name.bytes())?;
@@ -58,7 +60,13 @@ fn attrs_for(alloc: Global, cell: &HCell, nodes: &[Node]) -> Result<Seq<Attr>, N
 
 /// The declaration of a wire.
 fn wire_decl(alloc: Global, attrs: Seq<Attr>, name: &[u8]) -> Result<NetDecl, NoMemory>
-    ensures { IfOk result (λ made. made ≡ record { attrs = attrs; kind = Wire; signed = false; range = None; names = name.now ∷ [] }) }
+    ensures { IfOk result (λ made. made ≡ record {
+      attrs = attrs;
+      kind = Wire;
+      signed = false;
+      range = None;
+      names = name.now ∷ [];
+    }) }
 {
     let mut names = Seq::empty(alloc);
     names.push(Text::copy(alloc, name)?)?;

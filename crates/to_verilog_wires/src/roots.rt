@@ -121,7 +121,8 @@ fn add_open_pins(
     width: u32,
     roots: &mut Vec<Node>,
 ) -> Result<(), NoMemory>
-    ensures added { OnOk result (roots.new.items ≡ roots.old.items ++ open_pins groups.now instance port (range_with_len 0 width)) }
+    ensures added { OnOk result (roots.new.items
+        ≡ roots.old.items ++ open_pins groups.now instance port (range_with_len 0 width)) }
 {
     for bit in 0..width {
         let pin = Node::Pin {
@@ -144,7 +145,8 @@ fn add_open_bits(
     port: &Node,
     roots: &mut Vec<Node>,
 ) -> Result<(), NoMemory>
-    ensures added { OnOk result (roots.new.items ≡ roots.old.items ++ open_bits hier.now.cells cell.now groups.now port.now) }
+    ensures added { OnOk result (roots.new.items
+        ≡ roots.old.items ++ open_bits hier.now.cells cell.now groups.now port.now) }
 {
     match *port {
         Node::Pin { instance, port, .. } => {
@@ -194,7 +196,9 @@ pub fn roots_of(
     groups: &Groups,
     ports: &IndexSet<Node>,
 ) -> Result<Vec<Node>, NoMemory>
-    ensures { IfOk result (λ roots. IsPermutation (root_list hier.now.cells cell.now groups.now ports.now.keys) roots.items) }
+    ensures { IfOk result
+        (λ roots. IsPermutation
+        (root_list hier.now.cells cell.now groups.now ports.now.keys) roots.items) }
 {
     let mut roots = Vec::new(alloc);
     add_first_members(groups, &mut roots)?;

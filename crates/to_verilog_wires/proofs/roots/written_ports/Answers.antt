@@ -1,5 +1,5 @@
 use Rattle.to_verilog_wires.specs.Roots.{of_live, ports_among}
-use Rattle.to_verilog_wires.proofs.KeyLaws.{keys_none, keys_of_class}
+use Rattle.to_verilog_wires.proofs.KeyLaws.{keys_of_class}
 use Rattle.to_verilog_wires.proofs.roots.written_ports.Goals as goal
 
 pub loop-class-preserved : goal.loop-class-preserved

@@ -1,4 +1,4 @@
-use Rattle.std.proofs.Common.{ap, subst}
+use Rattle.std.proofs.Common.{subst}
 use Rattle.to_verilog_wires.specs.Given.{IsHubFor}
 use Rattle.to_verilog_wires.proofs.GivenLaws.{given_at}
 use Rattle.to_verilog_wires.proofs.wiring.add_hub.Goals as goal

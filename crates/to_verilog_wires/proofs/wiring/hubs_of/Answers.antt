@@ -1,4 +1,4 @@
-use Rattle.std.proofs.Common.{arith, subst, sym, take, ◌∷◌, []}
+use Rattle.std.proofs.Common.{arith, subst, sym, take, []}
 use Rattle.std.proofs.lemmas.List.{take_all, take_more}
 use Rattle.net_hier.specs.declared.nodes.Node.TheVariants.{Port}
 use Rattle.to_verilog_wires.specs.Given.{GivesHubs}
