@@ -1,17 +1,21 @@
 -- What is found in the tables of a file.
-use Rattle.std.proofs.Common.{◌≡◌, ℕ, zero, suc, ◌<◌, ◌≤◌, Bool, true, false, List, [], ◌∷◌, map, length, get_or, slice_get, Some, None, refl, sym, ap, ◌∙◌, subst, arith}
+use Rattle.std.proofs.Common.{◌≡◌, ℕ, zero, suc, ◌<◌, ◌≤◌, Bool, true, false, List, [], ◌∷◌, map, length, get_or, slice_get, Option, Some, None, refl, sym, ap, ◌∙◌, subst, arith}
 use Rattle.std.specs.Prelude.{nat_lt, option_map}
 use Rattle.std.proofs.lemmas.Bool.Decides.{nat_tests}
 use Rattle.std.proofs.lemmas.Option.{slice_get-get_or, slice_get-map, slice_get_past}
 use Rattle.edif_lookup.specs.Tables.{meaning, meant_by, named}
 use Rattle.edif_lookup.specs.declared.definitions.Meaning.TheVariants.{Nothing}
 use Rattle.edif_lookup.proofs.Naming.{meaning-named}
+use Rattle.edif_library.specs.declared.cell.Cell.{Cell}
 use Rattle.edif_library.specs.declared.file.EdifFile.{EdifFile}
 use Rattle.edif_library.specs.declared.library.Library.{Library}
+use Rattle.edif_design.specs.CellRules.{means_view}
 use Rattle.edif_design.specs.Parts.{libraries, numbered}
 use Rattle.edif_design.specs.References.{CellPlace, all_cells, cell_candidates, cells_of_library, file_cells, library_candidates}
 use Rattle.edif_design.specs.Tables.{HasTables, library_ident, place_of}
+use Rattle.edif_design.specs.Views.{means_one, view_names}
 use Rattle.edif_design.specs.declared.tables.Place.{Place}
+use Rattle.edif_design.proofs.ViewLaws.{means_views}
 
 get_or_any : {A : Type 0} (xs : List A) (i : ℕ) (d x : A) → i < length xs → get_or xs i d ≡ get_or xs i x
 get_or_any [] i d x h = absurd (omega arith)
@@ -23,7 +27,7 @@ past [] i d h = refl
 past (x ∷ xs) zero d h = absurd (omega arith)
 past (x ∷ xs) (suc i) d h = past xs i d (omega arith)
 
-module _ (file : EdifFile) (places : List Place) (libraries_named : List (ℕ × List ℕ)) (cells_named : List (List (ℕ × List ℕ))) (tables : HasTables file places libraries_named cells_named) where
+module _ (file : EdifFile) (places : List Place) (views_named : List (List (List ℕ))) (libraries_named : List (ℕ × List ℕ)) (cells_named : List (List (ℕ × List ℕ))) (tables : HasTables file places views_named libraries_named cells_named) where
   pub library_found : (spelling : List ℕ) → meaning libraries_named spelling ≡ meant_by (library_candidates file spelling)
   library_found spelling = ap (λ ds. meaning ds spelling) tables.libraries_are ∙ meaning-named {A = Library} library_ident (numbered (libraries file)) spelling
 
@@ -47,3 +51,22 @@ module _ (file : EdifFile) (places : List Place) (libraries_named : List (ℕ ×
 
   pub no_place_found : (number : ℕ) → length places ≤ number → None ≡ slice_get (file_cells file) number
   no_place_found number h = sym (cells_are number ∙ ap (λ o. option_map (λ p. p.cell) (option_map place_of o)) (slice_get_past places number h))
+
+  views_at : (number : ℕ) → slice_get views_named number ≡ option_map view_names (slice_get (file_cells file) number)
+  views_at number = ap (λ vs. slice_get vs number) tables.views_are ∙ slice_get-map view_names (file_cells file) number
+
+  by_names : (spelling : List ℕ) (names : List (List ℕ)) (cell : Option Cell) → Some names ≡ option_map view_names cell → Some (means_one names spelling) ≡ option_map (λ c. means_view c spelling) cell
+  by_names spelling names None is = absurd (let e : Some names ≡ None = is in cc)
+  by_names spelling names (Some cell) is = let e : Some names ≡ Some (view_names cell) = is in let same : names ≡ view_names cell = cc in ap Some (ap (λ ns. means_one ns spelling) same ∙ means_views cell spelling)
+
+  pub views_found : (number : ℕ) (names : List (List ℕ)) → number < length views_named → names ≡ get_or views_named number names → (spelling : List ℕ) (means : Bool) → means ≡ means_one names spelling
+      → Some means ≡ option_map (λ cell. means_view cell spelling) (slice_get (file_cells file) number)
+  views_found number names within is spelling means is_means =
+      ap Some is_means ∙ by_names spelling names (slice_get (file_cells file) number) (sym (slice_get-get_or views_named number names within ∙ ap Some (sym is)) ∙ views_at number)
+
+  no_names : (spelling : List ℕ) (cell : Option Cell) → None ≡ option_map view_names cell → None ≡ option_map (λ c. means_view c spelling) cell
+  no_names spelling None is = refl
+  no_names spelling (Some cell) is = absurd (let e : None ≡ Some (view_names cell) = is in cc)
+
+  pub no_views_found : (number : ℕ) → length views_named ≤ number → (spelling : List ℕ) → None ≡ option_map (λ cell. means_view cell spelling) (slice_get (file_cells file) number)
+  no_views_found number h spelling = no_names spelling (slice_get (file_cells file) number) (sym (slice_get_past views_named number h) ∙ views_at number)

@@ -3,3 +3,4 @@ pub mod LinkLaws
 pub mod Small
 pub mod TableLaws
 pub mod Turns
+pub mod ViewLaws

@@ -13,7 +13,9 @@ use Rattle.edif_library.specs.declared.cell.Cell.{Cell}
 use Rattle.edif_library.specs.declared.library.Library.{Library}
 use Rattle.edif_design.specs.Parts.{cells_in}
 use Rattle.edif_design.specs.References.{CellPlace, place_in}
-use Rattle.edif_design.specs.Tables.{cell_ident, library_ident, places_from, seen, tables_from}
+use Rattle.edif_design.specs.Tables.{cell_ident, library_ident, place_of, places_from, seen, tables_from}
+use Rattle.edif_design.specs.Views.{view_names}
+use Rattle.edif_design.specs.declared.tables.Place.{Place}
 
 abbrev stands_in : ℕ → ℕ × CellPlace → Bool
 stands_in library place = place.1.library == library
@@ -121,3 +123,8 @@ module _ (libraries : List (Bor Library)) (i : ℕ) (d : Bor Library) (h : i < l
       ap (λ ls. named library_ident (enumerate_from 0 ls)) (map_more (λ borrowed. borrowed.now) libraries i d h)
       ∙ (named_push (seen (take i libraries)) (get_or libraries i d).now
       ∙ ap (λ n. named library_ident (enumerate_from 0 (seen (take i libraries))) ++ (n, (get_or libraries i d).now.name.ident) ∷ []) before_is)
+
+-- the views of the cells at these places
+pub views_placed : (places : List Place) → map (λ place. view_names place.cell.now) places ≡ map view_names (map (λ place. place.cell) (map place_of places))
+views_placed [] = refl
+views_placed (place ∷ places) = ap (λ rest. view_names place.cell.now ∷ rest) (views_placed places)

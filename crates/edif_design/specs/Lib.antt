@@ -5,3 +5,4 @@ pub mod Parts
 pub mod Reach
 pub mod References
 pub mod Tables
+pub mod Views

@@ -12,7 +12,8 @@ use Rattle.edif_library.specs.declared.cell.Cell.{Cell}
 use Rattle.edif_library.specs.declared.file.EdifFile.{EdifFile}
 use Rattle.edif_library.specs.declared.library.Library.{Library}
 use Rattle.edif_design.specs.Parts.{cells_in, libraries, numbered}
-use Rattle.edif_design.specs.References.{CellPlace, all_cells, cell_candidates, cells_of_library, library_candidates, place_in}
+use Rattle.edif_design.specs.References.{CellPlace, all_cells, cell_candidates, cells_of_library, file_cells, library_candidates, place_in}
+use Rattle.edif_design.specs.Views.{view_names}
 use Rattle.edif_design.specs.declared.links.Linked.{Linked}
 use Rattle.edif_design.specs.declared.links.Linked.TheVariants as linked
 use Rattle.edif_design.specs.declared.tables.Place.{Place}
@@ -41,9 +42,10 @@ abbrev pub tables_from : ℕ → List Library → List (List (ℕ × List ℕ))
 tables_from first [] = []
 tables_from first (library ∷ rest) = named cell_ident (enumerate_from first (cells_in library)) ∷ tables_from (first + length (cells_in library)) rest
 
--- the tables hold the cells of the file, the libraries, and the cells of each library
-pub record HasTables (file : EdifFile) (places : List Place) (libraries_named : List (ℕ × List ℕ)) (cells_named : List (List (ℕ × List ℕ))) : Type 0 where
+-- the tables hold the cells of the file, the views of each cell, the libraries, and the cells of each library
+pub record HasTables (file : EdifFile) (places : List Place) (views_named : List (List (List ℕ))) (libraries_named : List (ℕ × List ℕ)) (cells_named : List (List (ℕ × List ℕ))) : Type 0 where
   pub places_are : map place_of places ≡ all_cells file
+  pub views_are : views_named ≡ map view_names (file_cells file)
   pub libraries_are : libraries_named ≡ named library_ident (numbered (libraries file))
   pub cells_are : (library : ℕ) → get_or cells_named library [] ≡ named (λ place. place.cell.name.ident) (cells_of_library file library)
 

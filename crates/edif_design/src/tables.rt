@@ -4,10 +4,13 @@ ghost use Rattle.std.specs.List.{enumerate_from, flat_map};
 ghost use Rattle.edif_lookup.specs.Tables.{meant_by, named, written};
 ghost use Rattle.edif_library.specs.Sizes.{edif_size};
 ghost use Rattle.net_hier.specs.Valid.{count_limit};
+ghost use Rattle.edif_design.specs.CellRules.{means_view};
 ghost use Rattle.edif_design.specs.Parts.{cell_in, cells_in, libraries, library_in, numbered};
 ghost use Rattle.edif_design.specs.References.{all_cells, cell_candidates, file_cells, library_candidates, place_in};
 ghost use Rattle.edif_design.specs.Tables.{cell_ident, library_ident, place_of, places_from, seen, tables_from};
+ghost use Rattle.edif_design.specs.Views.{view_names};
 
+use crate::views::CellViews;
 use edif_library::{Cell, EdifFile, FileItem, Library, LibraryItem};
 use edif_lookup::{Definitions, Meaning};
 use nl_base::NoMemory;
@@ -26,6 +29,7 @@ pub struct Place<'a> {
 pub struct FileTables<'a> {
     file: &'a EdifFile,
     places: Vec<Place<'a>>,
+    views: Vec<CellViews<'a>>,
     libraries: Definitions<'a>,
     cells: Vec<Definitions<'a>>,
 }
@@ -42,7 +46,7 @@ impl<'a> Model for FileTables<'a> {
 
     ghost view = { λ t. t.file.now };
 
-    ghost invariant = { λ t. HasTables t.file.now t.places.items t.libraries t.cells.items };
+    ghost invariant = { λ t. HasTables t.file.now t.places.items t.views.items t.libraries t.cells.items };
 }
 
 // Adds the library that a part of a file is.
@@ -110,6 +114,17 @@ fn places_of<'a>(alloc: Global, libraries: &[&'a Library]) -> Result<Vec<Place<'
         add_cells(&mut places, number, libraries[number as usize])?;
     }
     Ok(places)
+}
+
+// The views of each of these cells.
+fn cell_views<'a>(alloc: Global, places: &[Place<'a>]) -> Result<Vec<CellViews<'a>>, NoMemory>
+    ensures { IfOk result (λ made. made.items ≡ map (λ place. view_names place.cell.now) places.now) }
+{
+    let mut made = Vec::with_capacity(alloc, places.len())?;
+    for place in places {
+        made.push(CellViews::build(alloc, place.cell)?)?;
+    }
+    Ok(made)
 }
 
 // The names of the libraries, with their numbers.
@@ -192,9 +207,11 @@ impl<'a> FileTables<'a> {
         let entries = library_entries(alloc, libraries.as_slice())?;
         let named = Definitions::build(alloc, entries)?;
         let cells = cell_tables(alloc, libraries.as_slice())?;
+        let views = cell_views(alloc, places.as_slice())?;
         Ok(FileTables {
             file,
             places,
+            views,
             libraries: named,
             cells,
         })
@@ -221,6 +238,24 @@ impl<'a> FileTables<'a> {
         match self.places.get(number as usize) {
             Some(place) => Some(place.cell),
             None => None,
+        }
+    }
+
+    /// Whether a viewRef of this spelling means a view of the cell of this number, where there is one.
+    pub fn means_view(
+        &self,
+        alloc: Global,
+        number: u32,
+        spelling: &[u8],
+    ) -> Result<Option<bool>, NoMemory>
+        ensures { IfOk result (λ means. means ≡ option_map (λ cell. means_view cell spelling.now) (slice_get (file_cells self.now) number)) }
+    {
+        match self.views.get(number as usize) {
+            Some(views) => {
+                let means = views.means(alloc, spelling)?;
+                Ok(Some(means))
+            }
+            None => Ok(None),
         }
     }
 

@@ -1,7 +1,7 @@
 -- What the walk of a cell's contents finds and keeps.
-use Rattle.std.specs.Prelude.{◌≡◌, ℕ, ◌||◌, Bool, List, [], ◌∷◌, ◌++◌, map, length, codes, Option}
-use Rattle.std.specs.List.{filter, filter_map, flat_map, list_any}
-use Rattle.nl_base.specs.Case.{same_bytes, same_up_to_case}
+use Rattle.std.specs.Prelude.{◌≡◌, ℕ, ◌||◌, Bool, List, [], ◌∷◌, ◌++◌, map, codes}
+use Rattle.std.specs.List.{filter_map, flat_map, list_any}
+use Rattle.nl_base.specs.Case.{same_bytes}
 use Rattle.nl_base.specs.declared.rule.Refusal.{Refusal}
 use Rattle.nl_base.specs.declared.rule.Rule.TheVariants.{E5, E12}
 use Rattle.edif_names.specs.Names.{original}
@@ -11,7 +11,6 @@ use Rattle.net_hier.specs.declared.nodes.Node.{Node}
 use Rattle.edif_lookup.specs.Refusals.{broken, is_in}
 use Rattle.edif_library.specs.declared.file.EdifFile.{EdifFile}
 use Rattle.edif_library.specs.declared.view.ContentsItem.{ContentsItem}
-use Rattle.edif_library.specs.declared.view.View.{View}
 use Rattle.edif_design.specs.CellRules.{bits_of_nets, inner_cell, link_refusals, same_node, view_refusals}
 use Rattle.edif_design.specs.Parts.{instance_in, net_in}
 use Rattle.edif_design.specs.References.{LinkedCell}
@@ -19,13 +18,6 @@ use Rattle.edif_nets_rules.specs.Breaks.{ref_breaks}
 use Rattle.edif_nets_rules.specs.Idents.{instance_ident}
 use Rattle.edif_nets_rules.specs.Scopes.{ScopeLists}
 use Rattle.edif_nets_rules.specs.declared.walk.Met.{Met}
-
--- whether a view is spelled alike byte for byte, and how many are alike up to case
-abbrev pub views_same : List ℕ → List View → Bool
-views_same spelling = list_any (λ view. same_bytes view.name.ident spelling)
-
-abbrev pub views_alike : List ℕ → List View → ℕ
-views_alike spelling views = length (filter (λ view. same_up_to_case view.name.ident spelling) views)
 
 -- the original name of an instance, and the identifier of a net
 abbrev pub instance_original : Instance → List ℕ

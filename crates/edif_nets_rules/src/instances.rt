@@ -1,20 +1,18 @@
 // What the instances of a cell break.
-ghost use Rattle.std.specs.Prelude.{◌≡◌, ◌≤◌, ◌∷◌, [], IfOk, option_to_list, slice_get};
+ghost use Rattle.std.specs.Prelude.{◌≡◌, ◌∷◌, [], IfOk, slice_get};
 ghost use Rattle.std.specs.Option.{option_and_then, option_copied};
 ghost use Rattle.edif_lookup.specs.Refusals.{broken, lowest};
-ghost use Rattle.edif_design.specs.CellRules.{means_view, view_refusals};
-ghost use Rattle.edif_design.specs.Parts.{view_in, views};
+ghost use Rattle.edif_design.specs.CellRules.{view_refusals};
 ghost use Rattle.edif_design.specs.References.{file_cells};
-ghost use Rattle.edif_nets_rules.specs.Walks.{instance_breaks, views_alike, views_same};
+ghost use Rattle.edif_nets_rules.specs.Walks.{instance_breaks};
 
 use crate::references::{refused, unbroken};
 use edif_design::FileTables;
 use edif_design::links::{linked_number, linked_refusal};
-use edif_library::{Cell, CellItem};
 use edif_lookup::{lower, one_name, two_names};
 use edif_names::original;
 use edif_nets::Instance;
-use nl_base::{Ident, NoMemory, Refusal, Rule, fold_eq};
+use nl_base::{Ident, NoMemory, Refusal, Rule};
 use std::alloc::Global;
 
 /// The refusal by this rule of a second thing of this kind and name, where the name is taken.
@@ -36,61 +34,6 @@ pub fn second_refusal(
     Ok(unbroken())
 }
 
-/// Whether the item is a view that is spelled alike byte for byte.
-fn is_same_view(item: &CellItem, spelling: &[u8]) -> bool
-    ensures { result ≡ views_same spelling.now (option_to_list (view_in item.now)) }
-{
-    match item {
-        CellItem::View(view) => view.name.ident.bytes() == spelling,
-        _ => false,
-    }
-}
-
-/// Whether a view of the cell is spelled alike byte for byte.
-fn has_same_view(cell: &Cell, spelling: &[u8]) -> bool
-    ensures { result ≡ views_same spelling.now (views cell.now) }
-{
-    for item in cell.items.items() {
-        if is_same_view(item, spelling) {
-            return true;
-        }
-    }
-    false
-}
-
-/// How many views the item is that are alike up to case.
-fn alike_view(item: &CellItem, spelling: &[u8]) -> usize
-    ensures alike { result ≡ views_alike spelling.now (option_to_list (view_in item.now)) }
-    ensures few { result ≤ 1 }
-{
-    match item {
-        CellItem::View(view) => if fold_eq(view.name.ident.bytes(), spelling) {
-            1
-        } else {
-            0
-        },
-        _ => 0,
-    }
-}
-
-/// How many views of the cell are alike up to case.
-fn alike_views(cell: &Cell, spelling: &[u8]) -> usize
-    ensures { result ≡ views_alike spelling.now (views cell.now) }
-{
-    let mut count = 0;
-    for item in cell.items.items() {
-        count += alike_view(item, spelling);
-    }
-    count
-}
-
-/// Whether a viewRef of this spelling means the view of the cell.
-fn means_view(cell: &Cell, spelling: &[u8]) -> bool
-    ensures { result ≡ means_view cell.now spelling.now }
-{
-    has_same_view(cell, spelling) || alike_views(cell, spelling) == 1
-}
-
 /// The refusal of a viewRef to a view of the cell of this number, where that is one.
 fn view_refusal(
     alloc: Global,
@@ -104,10 +47,10 @@ fn view_refusal(
     let Some(number) = number else {
         return Ok(unbroken());
     };
-    let Some(inner) = tables.cell(number) else {
+    let Some(means) = tables.means_view(alloc, number, spelling.bytes())? else {
         return Ok(unbroken());
     };
-    if means_view(inner, spelling.bytes()) {
+    if means {
         return Ok(unbroken());
     }
     let told = one_name(alloc, spelling.bytes())?;

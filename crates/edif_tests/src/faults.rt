@@ -206,9 +206,17 @@ fn too_deep_at(alloc: Global, lists: usize) -> Result<Option<u64>, Fail> {
     fault_behind(alloc, b"(userData u", text.as_slice(), b"TooDeep")
 }
 
+/// Whether a file with user data so deep is read.
+fn is_read(alloc: Global, lists: usize) -> Result<bool, Fail> {
+    let text = lists_of(alloc, lists)?;
+    let mut source = source_of_pieces(alloc, &[HEAD, b"(userData u", text.as_slice()])?;
+    let read = read_edif(alloc, &mut source);
+    Ok(read.is_ok())
+}
+
 #[test]
 fn lists_are_at_most_64_deep(rt: HostRuntime) -> Result<(), Fail> {
-    assert_eq!(rt; too_deep_at(rt.alloc(), 64)?, None);
+    assert!(rt; is_read(rt.alloc(), 64)?);
     assert_eq!(rt; too_deep_at(rt.alloc(), 65)?, Some(64));
     Ok(())
 }

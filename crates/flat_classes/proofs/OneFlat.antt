@@ -94,17 +94,17 @@ module _ (a b : List ℕ) (m n : ℕ) (len : length a ≡ length b) (in_order : 
   -- the groups of the places below a bound are the same
   same_below : (bound i : ℕ) → i < bound → i < length a → group_at a i ≡ group_at b i
   same_below zero i lt within = absurd (omega (arith, lt))
-  same_below (suc bound) i lt within = less_or_more (group_at a i) (group_at b i) 
+  same_below (suc bound) i lt within = less_or_more (group_at a i) (group_at b i)
       (λ less. let (j, before, is) = other_order.ordered i (group_at a i) (omega (arith, within, len)) less in
-          let inside : j < length a = omega (arith, before, within) in
-          let e : group_at a j ≡ group_at b j = same_below bound j (omega (arith, before, lt)) inside in
-          let both : group_at b j ≡ group_at b i = (agreed j i inside within).0 (e ∙ is) in
-          omega (arith, both, is, less))
+      let inside : j < length a = omega (arith, before, within) in
+      let e : group_at a j ≡ group_at b j = same_below bound j (omega (arith, before, lt)) inside in
+      let both : group_at b j ≡ group_at b i = (agreed j i inside within).0 (e ∙ is) in
+      omega (arith, both, is, less))
       (λ less. let (j, before, is) = in_order.ordered i (group_at b i) within less in
-          let inside : j < length a = omega (arith, before, within) in
-          let e : group_at a j ≡ group_at b j = same_below bound j (omega (arith, before, lt)) inside in
-          let both : group_at a j ≡ group_at a i = (agreed j i inside within).1 (sym e ∙ is) in
-          omega (arith, both, is, less))
+      let inside : j < length a = omega (arith, before, within) in
+      let e : group_at a j ≡ group_at b j = same_below bound j (omega (arith, before, lt)) inside in
+      let both : group_at a j ≡ group_at a i = (agreed j i inside within).1 (sym e ∙ is) in
+      omega (arith, both, is, less))
 
   pub one_numbering : a ≡ b
   one_numbering = same_elements a b len (λ i lt. same_below (suc i) i (omega arith) lt)

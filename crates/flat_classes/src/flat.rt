@@ -10,14 +10,14 @@ ghost use Rattle.flat_classes.specs.TerminalNumbers.{AreFlatLabels};
 ghost use Rattle.flat_classes.specs.Terminals.{AreFlatClasses, IsFewFlat};
 ghost use Rattle.flat_classes.specs.declared.flat.FlatFault.TheVariants.{NoMemory};
 
-use flat_numbers::counts::flat_count;
 use crate::groups::{labels_of, members_of, numbers_in_order};
-use flat_numbers::joins::flat_joins;
 use crate::kinds::{Kinds, kinds_of};
+use crate::terminals::{leaves_of, terminals_of};
+use flat_numbers::counts::flat_count;
+use flat_numbers::joins::flat_joins;
 use flat_numbers::linked::least_linked;
 use flat_numbers::numbers::{Tables, tables_of};
 use flat_numbers::spots::Spot;
-use crate::terminals::{leaves_of, terminals_of};
 use net_hier::{Constants, Hier};
 use nl_base::NoMemory;
 use std::alloc::Global;

@@ -1,6 +1,7 @@
 -- How a run ends, from what was done with the input and the output.
 use Rattle.std.proofs.Common.{◌≡◌, ◌≢◌, ◌↔◌, inl, inr, ℕ, List, Option, Some, None, IfSome, Result, Ok, Err, refl, sym, ap, ◌∙◌, subst, arith}
 use Rattle.nl_io.specs.Causes.{Rose}
+use Rattle.nl_io.specs.declared.source.Failed.{Failed}
 use Rattle.readers.specs.Sources.{Supply, supply}
 use Rattle.readers.proofs.Moving.{skip_none}
 use Rattle.netlist_cli.specs.declared.command.Command.{Command}
@@ -10,10 +11,11 @@ use Rattle.netlist_cli.specs.declared.status.Status.{Status}
 use Rattle.netlist_cli.specs.declared.status.Status.TheVariants as statuses
 use Rattle.netlist_cli.specs.Statuses.{status_of}
 use Rattle.netlist_cli.specs.Lines.{line}
-use Rattle.netlist_cli.specs.Outcomes.{Outcome, written, faulty, too_long, refused, too_big, status_due, IsWriting, Gives}
-use Rattle.netlist_cli.specs.Runs.{WroteText, BrokeOff, IsCause, Fails, IsTold, TakesFrom, TellsFailure, FitsBytes, IsDecided, Does, Performs}
+use Rattle.netlist_cli.specs.Outcomes.{Meaning, Verdict, fine, breaks, exceeds, Outcome, faulty, too_long, judged, status_due, IsWriting, Says, Gives}
+use Rattle.netlist_cli.specs.Meanings.{meaning_of}
+use Rattle.netlist_cli.specs.Runs.{PutsText, WroteText, BrokeOff, IsCause, Fails, IsTold, TakesFrom, TellsFailure, FitsBytes, IsDecided, Does, Performs}
 use Rattle.netlist_cli.proofs.Told.{if_told, any_told}
-use Rattle.netlist_cli.proofs.Results.{one_outcome}
+use Rattle.netlist_cli.proofs.Results.{IsExact, exact_of, one_outcome}
 
 -- the status of an answer
 abbrev pub ending : Result (Unit {0}) Failure → Status
@@ -26,37 +28,46 @@ takes_none i = record { taken = 0; left = sym (skip_none 0 i.left); within = ome
 
 -- ---- what the bytes are decides
 
-module _ (c : Command) (bs : List ℕ) where
+module _ (m : Meaning) (exact : IsExact m.language) (bs : List ℕ) where
   -- the status that is due for what comes of the bytes fits them
-  due_fits : (o : Outcome) → Gives c bs o → FitsBytes c bs (status_due o)
-  due_fits o h p k = inl (ap status_due (one_outcome c bs o p h k))
+  due_fits : (o : Outcome) → Gives m bs o → FitsBytes m bs (status_due o)
+  due_fits o h p k = inl (ap status_due (one_outcome m exact bs o p h k))
 
-  broken_fits : (t : List ℕ) → Gives c bs (written t) → FitsBytes c bs statuses.WriteFault
-  broken_fits t h o k = inr (inl (refl, subst IsWriting (one_outcome c bs (written t) o h k) tt))
+  broken_fits : Gives m bs (judged fine) → FitsBytes m bs statuses.WriteFault
+  broken_fits h o k = inr (inl (refl, subst IsWriting (one_outcome m exact bs (judged fine) o h k) tt))
 
-  read_fault_fits : FitsBytes c bs statuses.ReadFault
+  read_fault_fits : FitsBytes m bs statuses.ReadFault
   read_fault_fits o k = inr (inr (inl refl))
 
-  no_memory_fits : FitsBytes c bs statuses.NoMemory
+  no_memory_fits : FitsBytes m bs statuses.NoMemory
   no_memory_fits o k = inr (inr (inr refl))
 
   module _ (output_failed : Type 0) where
-    due_decided : (o : Outcome) → Gives c bs o → IsDecided c bs output_failed (status_due o)
-    due_decided o h p k n = inl (ap status_due (one_outcome c bs o p h k))
+    due_decided : (o : Outcome) → Gives m bs o → IsDecided m bs output_failed (status_due o)
+    due_decided o h p k n = inl (ap status_due (one_outcome m exact bs o p h k))
 
-    broken_decided : (t : List ℕ) → Gives c bs (written t) → output_failed → IsDecided c bs output_failed statuses.WriteFault
-    broken_decided t h f o k n = absurd (n (subst IsWriting (one_outcome c bs (written t) o h k) tt) f)
+    broken_decided : Gives m bs (judged fine) → output_failed → IsDecided m bs output_failed statuses.WriteFault
+    broken_decided h f o k n = absurd (n (subst IsWriting (one_outcome m exact bs (judged fine) o h k) tt) f)
 
-    no_memory_decided : IsDecided c bs output_failed statuses.NoMemory
+    no_memory_decided : IsDecided m bs output_failed statuses.NoMemory
     no_memory_decided o k n = inr refl
 
-module _ {O : Type 0} (taken : O → List ℕ → Type 0) (accepts : O → ℕ → Type 0) (faults : O → ℕ) (c : Command) (i j : Supply) (old new : O) where
+-- what is said of some file comes of the bytes, where they are told
+said_of_bytes : (m : Meaning) (verdict : Verdict) (left : Option (List ℕ)) → Says m left verdict → IfSome left (λ bs. Gives m bs (judged verdict))
+said_of_bytes m verdict None h = tt
+said_of_bytes m verdict (Some bs) h = h
+
+module _ {O : Type 0} (taken : O → List ℕ → Type 0) (accepts : O → ℕ → Type 0) (faults : O → ℕ) (m : Meaning) (i j : Supply) (old new : O) where
   abbrev does : Result (Unit {0}) Failure → Type 0
-  does = Does taken accepts faults c i j old new
+  does = Does taken accepts faults m i j old new
+
+  -- a text that may be written comes of a file with which nothing is wrong
+  gives_fine : (r : Result (Unit {0}) Failed) → PutsText taken accepts faults m i j old new r → IfSome i.left (λ bs. Gives m bs (judged fine))
+  gives_fine r h = said_of_bytes m fine i.left (record { file = h.is_text.file; reads_as = h.is_text.reads_as; is_verdict = h.is_text.is_fine })
 
   -- ---- each status has its cause
 
-  pub done_so : (r : Result (Unit {0}) Failure) → does r → ending r ≡ statuses.Done → WroteText taken accepts faults c i j old new
+  pub done_so : (r : Result (Unit {0}) Failure) → does r → ending r ≡ statuses.Done → WroteText taken accepts faults m i j old new
   done_so (Ok u) h e = h
   done_so (Err (failures.Text f)) h e = absurd cc
   done_so (Err failures.ReadFault) h e = absurd cc
@@ -67,7 +78,7 @@ module _ {O : Type 0} (taken : O → List ℕ → Type 0) (accepts : O → ℕ �
   done_so (Err (failures.Refused r)) h e = absurd cc
   done_so (Err (failures.DesignLimit n)) h e = absurd cc
 
-  pub broke_so : (r : Result (Unit {0}) Failure) → does r → ending r ≡ statuses.WriteFault → BrokeOff taken accepts faults c i j old new
+  pub broke_so : (r : Result (Unit {0}) Failure) → does r → ending r ≡ statuses.WriteFault → BrokeOff taken accepts faults m i j old new
   broke_so (Ok u) h e = absurd cc
   broke_so (Err (failures.Text f)) h e = absurd cc
   broke_so (Err failures.ReadFault) h e = absurd cc
@@ -78,7 +89,7 @@ module _ {O : Type 0} (taken : O → List ℕ → Type 0) (accepts : O → ℕ �
   broke_so (Err (failures.Refused r)) h e = absurd cc
   broke_so (Err (failures.DesignLimit n)) h e = absurd cc
 
-  pub cause_so : (f : Failure) → does (Err f) → IsCause c i j f
+  pub cause_so : (f : Failure) → does (Err f) → IsCause m i j f
   cause_so (failures.Text f) h = h.0
   cause_so failures.ReadFault h = h.0
   cause_so failures.WriteFault h = tt
@@ -101,58 +112,66 @@ module _ {O : Type 0} (taken : O → List ℕ → Type 0) (accepts : O → ℕ �
 
   -- nothing is written but a whole text
   pub unwritten_so : (r : Result (Unit {0}) Failure) → does r → ending r ≢ statuses.Done → ending r ≢ statuses.WriteFault → new ≡ old
-  unwritten_so (Ok u) h n m = absurd (n refl)
-  unwritten_so (Err (failures.Text f)) h n m = h.1
-  unwritten_so (Err failures.ReadFault) h n m = h.1
-  unwritten_so (Err failures.WriteFault) h n m = absurd (m refl)
-  unwritten_so (Err failures.Usage) h n m = h.1
-  unwritten_so (Err failures.NoMemory) h n m = h.1
-  unwritten_so (Err failures.InputLimit) h n m = h.1
-  unwritten_so (Err (failures.Refused r)) h n m = h.1
-  unwritten_so (Err (failures.DesignLimit k)) h n m = h.1
+  unwritten_so (Ok u) h n w = absurd (n refl)
+  unwritten_so (Err (failures.Text f)) h n w = h.1
+  unwritten_so (Err failures.ReadFault) h n w = h.1
+  unwritten_so (Err failures.WriteFault) h n w = absurd (w refl)
+  unwritten_so (Err failures.Usage) h n w = h.1
+  unwritten_so (Err failures.NoMemory) h n w = h.1
+  unwritten_so (Err failures.InputLimit) h n w = h.1
+  unwritten_so (Err (failures.Refused r)) h n w = h.1
+  unwritten_so (Err (failures.DesignLimit k)) h n w = h.1
 
-  -- ---- what the bytes are decides
+-- ---- what the bytes are decides, from what was done
 
-  due_where : (o : Outcome) → IfSome i.left (λ bs. Gives c bs o) → IfSome i.left (λ bs. FitsBytes c bs (status_due o))
-  due_where o h = if_told i.left (λ bs. Gives c bs o) (λ bs. FitsBytes c bs (status_due o)) h (λ bs. due_fits c bs o)
+module _ {O : Type 0} (taken : O → List ℕ → Type 0) (accepts : O → ℕ → Type 0) (faults : O → ℕ) (m : Meaning) (exact : IsExact m.language) (i j : Supply) (old new : O) where
+  abbrev done : Result (Unit {0}) Failure → Type 0
+  done = Does taken accepts faults m i j old new
 
-  pub fits_bytes : (r : Result (Unit {0}) Failure) → does r → IfSome i.left (λ bs. FitsBytes c bs (ending r))
-  fits_bytes (Ok u) h = due_where (written h.text) h.gives
+  puts_fine : (r : Result (Unit {0}) Failed) → PutsText taken accepts faults m i j old new r → IfSome i.left (λ bs. Gives m bs (judged fine))
+  puts_fine = gives_fine taken accepts faults m i j old new
+
+  due_where : (o : Outcome) → IfSome i.left (λ bs. Gives m bs o) → IfSome i.left (λ bs. FitsBytes m bs (status_due o))
+  due_where o h = if_told i.left (λ bs. Gives m bs o) (λ bs. FitsBytes m bs (status_due o)) h (λ bs. due_fits m exact bs o)
+
+  pub fits_bytes : (r : Result (Unit {0}) Failure) → done r → IfSome i.left (λ bs. FitsBytes m bs (ending r))
+  fits_bytes (Ok u) h = due_where (judged fine) (puts_fine (Ok tt) h)
   fits_bytes (Err (failures.Text f)) h = due_where (faulty f) h.0.first
-  fits_bytes (Err failures.ReadFault) h = any_told i.left (λ bs. FitsBytes c bs statuses.ReadFault) (read_fault_fits c)
-  fits_bytes (Err failures.WriteFault) h = if_told i.left (λ bs. Gives c bs (written h.1.text)) (λ bs. FitsBytes c bs statuses.WriteFault) h.1.gives (λ bs. broken_fits c bs h.1.text)
+  fits_bytes (Err failures.ReadFault) h = any_told i.left (λ bs. FitsBytes m bs statuses.ReadFault) (λ bs. read_fault_fits m exact bs)
+  fits_bytes (Err failures.WriteFault) h = if_told i.left (λ bs. Gives m bs (judged fine)) (λ bs. FitsBytes m bs statuses.WriteFault) (puts_fine (Err h.0) h.1) (λ bs. broken_fits m exact bs)
   fits_bytes (Err failures.Usage) h = absurd h.0
-  fits_bytes (Err failures.NoMemory) h = any_told i.left (λ bs. FitsBytes c bs statuses.NoMemory) (no_memory_fits c)
+  fits_bytes (Err failures.NoMemory) h = any_told i.left (λ bs. FitsBytes m bs statuses.NoMemory) (λ bs. no_memory_fits m exact bs)
   fits_bytes (Err failures.InputLimit) h = due_where too_long h.0
-  fits_bytes (Err (failures.Refused r)) h = due_where (refused r) h.0
-  fits_bytes (Err (failures.DesignLimit n)) h = due_where (too_big n) h.0
+  fits_bytes (Err (failures.Refused r)) h = due_where (judged (breaks r)) (said_of_bytes m (breaks r) i.left h.0)
+  fits_bytes (Err (failures.DesignLimit n)) h = due_where (judged (exceeds n)) (said_of_bytes m (exceeds n) i.left h.0)
 
   abbrev failed : Type 0
   failed = Rose (faults old) (faults new)
 
-  decided_where : (o : Outcome) → IfSome i.left (λ bs. Gives c bs o) → IfSome i.left (λ bs. IsDecided c bs failed (status_due o))
-  decided_where o h = if_told i.left (λ bs. Gives c bs o) (λ bs. IsDecided c bs failed (status_due o)) h (λ bs. due_decided c bs failed o)
+  decided_where : (o : Outcome) → IfSome i.left (λ bs. Gives m bs o) → IfSome i.left (λ bs. IsDecided m bs failed (status_due o))
+  decided_where o h = if_told i.left (λ bs. Gives m bs o) (λ bs. IsDecided m bs failed (status_due o)) h (λ bs. due_decided m exact bs failed o)
 
-  pub is_decided : (r : Result (Unit {0}) Failure) → does r → ¬ Rose i.faults j.faults → IfSome i.left (λ bs. IsDecided c bs failed (ending r))
-  is_decided (Ok u) h n = decided_where (written h.text) h.gives
+  pub is_decided : (r : Result (Unit {0}) Failure) → done r → ¬ Rose i.faults j.faults → IfSome i.left (λ bs. IsDecided m bs failed (ending r))
+  is_decided (Ok u) h n = decided_where (judged fine) (puts_fine (Ok tt) h)
   is_decided (Err (failures.Text f)) h n = decided_where (faulty f) h.0.first
   is_decided (Err failures.ReadFault) h n = absurd (n h.0)
-  is_decided (Err failures.WriteFault) h n = if_told i.left (λ bs. Gives c bs (written h.1.text)) (λ bs. IsDecided c bs failed statuses.WriteFault) h.1.gives (λ bs gives. broken_decided c bs failed h.1.text gives h.1.put.cause.failed)
+  is_decided (Err failures.WriteFault) h n =
+      if_told i.left (λ bs. Gives m bs (judged fine)) (λ bs. IsDecided m bs failed statuses.WriteFault) (puts_fine (Err h.0) h.1) (λ bs gives. broken_decided m exact bs failed gives h.1.put.cause.failed)
   is_decided (Err failures.Usage) h n = absurd h.0
-  is_decided (Err failures.NoMemory) h n = any_told i.left (λ bs. IsDecided c bs failed statuses.NoMemory) (λ bs. no_memory_decided c bs failed)
+  is_decided (Err failures.NoMemory) h n = any_told i.left (λ bs. IsDecided m bs failed statuses.NoMemory) (λ bs. no_memory_decided m exact bs failed)
   is_decided (Err failures.InputLimit) h n = decided_where too_long h.0
-  is_decided (Err (failures.Refused r)) h n = decided_where (refused r) h.0
-  is_decided (Err (failures.DesignLimit k)) h n = decided_where (too_big k) h.0
+  is_decided (Err (failures.Refused r)) h n = decided_where (judged (breaks r)) (said_of_bytes m (breaks r) i.left h.0)
+  is_decided (Err (failures.DesignLimit k)) h n = decided_where (judged (exceeds k)) (said_of_bytes m (exceeds k) i.left h.0)
 
 -- What a run has done with the input and the output, by its status.
 pub record RunsTo {S O : Type 0} (left : S → Option (List ℕ)) (count : S → ℕ) (taken : O → List ℕ → Type 0) (accepts : O → ℕ → Type 0) (faults : O → ℕ) (m : Option Command) (a b : S) (old new : O) (status : Status) : Type 0 where
-  pub done : status ≡ statuses.Done → IfSome m (λ c. WroteText taken accepts faults c (supply left count a) (supply left count b) old new)
-  pub write_fault : status ≡ statuses.WriteFault → IfSome m (λ c. BrokeOff taken accepts faults c (supply left count a) (supply left count b) old new)
+  pub done : status ≡ statuses.Done → IfSome m (λ c. WroteText taken accepts faults (meaning_of c) (supply left count a) (supply left count b) old new)
+  pub write_fault : status ≡ statuses.WriteFault → IfSome m (λ c. BrokeOff taken accepts faults (meaning_of c) (supply left count a) (supply left count b) old new)
   pub usage : (status ≡ statuses.Usage) ↔ (m ≡ None)
   pub unread : status ≡ statuses.Usage → b ≡ a
   pub unwritten : status ≢ statuses.Done → status ≢ statuses.WriteFault → new ≡ old
-  pub exact : IfSome m (λ c. IfSome (left a) (λ bs. FitsBytes c bs status))
-  pub complete : ¬ Rose (count a) (count b) → IfSome m (λ c. IfSome (left a) (λ bs. IsDecided c bs (Rose (faults old) (faults new)) status))
+  pub exact : IfSome m (λ c. IfSome (left a) (λ bs. FitsBytes (meaning_of c) bs status))
+  pub complete : ¬ Rose (count a) (count b) → IfSome m (λ c. IfSome (left a) (λ bs. IsDecided (meaning_of c) bs (Rose (faults old) (faults new)) status))
 
 module _ {S O : Type 0} (left : S → Option (List ℕ)) (count : S → ℕ) (taken : O → List ℕ → Type 0) (accepts : O → ℕ → Type 0) (faults : O → ℕ) (a b : S) (old new : O) where
   abbrev before : Supply
@@ -179,13 +198,13 @@ module _ {S O : Type 0} (left : S → Option (List ℕ)) (count : S → ℕ) (ta
   run_ends : (m : Option Command) (r : Result (Unit {0}) Failure) → performed m r → RunsTo left count taken accepts faults m a b old new (ending r)
   run_ends None r h = rw h.0 (no_command h.1 h.2)
   run_ends (Some c) r h = record {
-    done = done_so taken accepts faults c before after old new r h;
-    write_fault = broke_so taken accepts faults c before after old new r h;
-    usage = (λ e. absurd (never_usage taken accepts faults c before after old new r h e), λ e. absurd cc);
-    unread = λ e. absurd (never_usage taken accepts faults c before after old new r h e);
-    unwritten = unwritten_so taken accepts faults c before after old new r h;
-    exact = fits_bytes taken accepts faults c before after old new r h;
-    complete = is_decided taken accepts faults c before after old new r h;
+    done = done_so taken accepts faults (meaning_of c) before after old new r h;
+    write_fault = broke_so taken accepts faults (meaning_of c) before after old new r h;
+    usage = (λ e. absurd (never_usage taken accepts faults (meaning_of c) before after old new r h e), λ e. absurd cc);
+    unread = λ e. absurd (never_usage taken accepts faults (meaning_of c) before after old new r h e);
+    unwritten = unwritten_so taken accepts faults (meaning_of c) before after old new r h;
+    exact = fits_bytes taken accepts faults (meaning_of c) (exact_of c) before after old new r h;
+    complete = is_decided taken accepts faults (meaning_of c) (exact_of c) before after old new r h;
   }
 
   -- the same for a status that is known to be the one of the answer
@@ -194,7 +213,7 @@ module _ {S O : Type 0} (left : S → Option (List ℕ)) (count : S → ℕ) (ta
 
   fails : (m : Option Command) (f : Failure) → performed m (Err f) → Fails m before after f
   fails None f h = let d : Err f ≡ Err failures.Usage = h.0 in cc
-  fails (Some c) f h = cause_so taken accepts faults c before after old new f h
+  fails (Some c) f h = cause_so taken accepts faults (meaning_of c) before after old new f h
 
   -- a failure that was told has its cause
   pub tells : {E : Type 0} (etaken : E → List ℕ → Type 0) (eaccepts : E → ℕ → Type 0) (efaults : E → ℕ) (m : Option Command) (f : Failure) (status : Status) (eold enew : E) → performed m (Err f) → status ≡ status_of f

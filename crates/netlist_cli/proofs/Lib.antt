@@ -1,5 +1,6 @@
 pub mod Lines
 pub mod Told
 pub mod Results
+pub mod Verdicts
 pub mod Reading
 pub mod Ends

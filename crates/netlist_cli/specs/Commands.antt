@@ -1,21 +1,47 @@
--- What the words behind the program's name ask for.
-use Rattle.std.specs.Prelude.{ℕ, List, [], ◌∷◌, length, Option, Some, None, codes, if◌then◌else◌, ◌&&◌, ◌==◌, not}
+-- What the words behind the program's name ask for: a command, and behind it its options in their order.
+use Rattle.std.specs.Prelude.{ℕ, List, [], ◌∷◌, length, Bool, Option, Some, None, codes, if◌then◌else◌, ◌&&◌, ◌==◌, not}
 use Rattle.nl_base.specs.Case.{same_bytes}
 use Rattle.netlist_cli.specs.declared.command.Command.{Command}
 use Rattle.netlist_cli.specs.declared.command.Command.TheVariants as commands
 
--- the command that is one word
-abbrev pub command_of_word : List ℕ → Option Command
-command_of_word w = (if same_bytes w (codes "format") then Some commands.Format else (if same_bytes w (codes "vformat") then Some commands.Vformat else (if same_bytes w (codes "check") then Some commands.Check else None)))
+-- ---- options
 
--- the command that is a word with the name of a top module: `check --top NAME`, where the name is not empty
-abbrev pub command_with_top : List ℕ → List ℕ → List ℕ → Option Command
-command_with_top w o top = (if same_bytes w (codes "check") && same_bytes o (codes "--top") && not (length top == 0) then Some (commands.CheckTop top) else None)
+-- a word is the name of this option, and the word behind it a value, which is not empty
+abbrev pub is_option : List ℕ → List ℕ → List ℕ → Bool
+is_option name word value = same_bytes word name && not (length value == 0)
+
+-- the value of the option of this name, where the words begin with it
+abbrev pub option_value : List ℕ → List (List ℕ) → Option (List ℕ)
+option_value name [] = None
+option_value name (word ∷ []) = None
+option_value name (word ∷ value ∷ words) = if is_option name word value then Some value else None
+
+-- the words behind the option of this name and its value, or all of them where they do not begin with it
+abbrev pub behind_option : List ℕ → List (List ℕ) → List (List ℕ)
+behind_option name [] = []
+behind_option name (word ∷ []) = word ∷ []
+behind_option name (word ∷ value ∷ words) = if is_option name word value then words else word ∷ value ∷ words
+
+-- the command, where no word is left behind its options
+abbrev pub if_none_left : List (List ℕ) → Command → Option Command
+if_none_left [] asked = Some asked
+if_none_left (word ∷ words) asked = None
+
+-- ---- commands
+
+-- `check` without the name of a top module, or with it
+abbrev pub check_under : Option (List ℕ) → Command
+check_under None = commands.Check
+check_under (Some top) = commands.CheckTop top
+
+-- `check [--top NAME]`, by the words behind `check`
+abbrev pub check_of : List (List ℕ) → Option Command
+check_of words = if_none_left (behind_option (codes "--top") words) (check_under (option_value (codes "--top") words))
 
 -- the command whose form the words have, if any
 abbrev pub command : List (List ℕ) → Option Command
 command [] = None
-command (w ∷ []) = command_of_word w
-command (w ∷ o ∷ []) = None
-command (w ∷ o ∷ top ∷ []) = command_with_top w o top
-command (w ∷ o ∷ top ∷ x ∷ ws) = None
+command (word ∷ words) =
+    if same_bytes word (codes "format") then if_none_left words commands.Format
+    else (if same_bytes word (codes "vformat") then if_none_left words commands.Vformat
+    else (if same_bytes word (codes "check") then check_of words else None))

@@ -2,4 +2,5 @@ pub mod Statuses
 pub mod Commands
 pub mod Lines
 pub mod Outcomes
+pub mod Meanings
 pub mod Runs

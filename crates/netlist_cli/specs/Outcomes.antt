@@ -1,135 +1,83 @@
--- What comes of an input for each command, by the bytes of the input alone.
-use Rattle.std.specs.Prelude.{◌≡◌, ℕ, ◌<◌, ◌≤◌, List, Option, Some, None, codes, ⊤}
+-- What comes of an input that is read, by its bytes alone: a fault, too many bytes, or a verdict on the file as which they read.
+use Rattle.std.specs.Prelude.{◌≡◌, ℕ, nat_lt, if◌then◌else◌, List, Option, Some, None, IfSome, ⊤}
 use Rattle.nl_base.specs.declared.fault.TextFault.{TextFault}
-use Rattle.edif_library.specs.Text.{EdifReads, EdifFault, EdifCut}
-use Rattle.edif_writer.specs.Forms.{edif_text}
 use Rattle.nl_base.specs.declared.rule.Refusal.{Refusal}
-use Rattle.net_hier.specs.Units.{units}
 use Rattle.net_hier.specs.Valid.{unit_limit}
-use Rattle.edif_library.specs.declared.file.EdifFile.{EdifFile}
-use Rattle.edif_design.specs.Design.{edif_design}
-use Rattle.edif_design.specs.FileRules.{first_E}
-use Rattle.net_hier.specs.declared.cells.HCell.{HCell}
-use Rattle.vlog_design.specs.Design.{vlog_design}
-use Rattle.vlog_design.specs.Rules.{first_G}
-use Rattle.vlog_values.specs.declared.module.VlogFile.{VlogFile}
-use Rattle.vlog_modules.specs.Text.{VlogReads, VlogFault, VlogCut}
-use Rattle.vlog_writer.specs.Forms.{vlog_text}
-use Rattle.netlist_cli.specs.declared.command.Command.{Command}
-use Rattle.netlist_cli.specs.declared.command.Command.TheVariants as commands
 use Rattle.netlist_cli.specs.declared.status.Status.{Status}
 use Rattle.netlist_cli.specs.declared.status.Status.TheVariants as statuses
 
--- What comes of an input: a text to be written, a first fault, more bytes than are read, without a fault within them, the first object that breaks
--- the lowest broken rule, or a design of so many units, which are too many.
+-- ---- files and what is said of them
+
+-- A language of files: which bytes read as a file, have a first fault, or go on past the limit of an input without one.
+pub record FileLanguage : Type 1 where
+  pub File : Type 0
+  pub reads : List ℕ → File → Type 0
+  pub fault : List ℕ → TextFault → Type 0
+  pub cut : List ℕ → Type 0
+
+-- What is said of a file: nothing is wrong with it; it breaks a rule, of which this is the first object; or its design has so many units,
+-- which are more than a design may have.
+pub data Verdict : Type 0 where
+  fine : Verdict
+  breaks : Refusal → Verdict
+  exceeds : ℕ → Verdict
+
+-- a refusal, if there is one, or what is said then
+abbrev pub or_refused : Option Refusal → Verdict → Verdict
+or_refused None otherwise = otherwise
+or_refused (Some refusal) otherwise = breaks refusal
+
+-- so many units, where they pass the limit of a design, or what is said then
+abbrev pub or_too_big : ℕ → Verdict → Verdict
+or_too_big count otherwise = if nat_lt unit_limit count then exceeds count else otherwise
+
+-- What a command makes of an input: the language of the files that it reads, what is said of each, and which texts may be written for a
+-- file with which nothing is wrong.
+pub record Meaning : Type 1 where
+  pub language : FileLanguage
+  pub verdict : language.File → Verdict
+  pub IsMade : language.File → List ℕ → Type 0
+
+-- ---- what comes of an input
+
+-- What comes of the bytes of an input: a first fault, more bytes than are read without a fault within them, or a verdict on the file.
 pub data Outcome : Type 0 where
-  written : List ℕ → Outcome
   faulty : TextFault → Outcome
   too_long : Outcome
-  refused : Refusal → Outcome
-  too_big : ℕ → Outcome
+  judged : Verdict → Outcome
 
 -- the status of a run that does what is due
 abbrev pub status_due : Outcome → Status
-status_due (written text) = statuses.Done
 status_due (faulty fault) = statuses.TextFault
 status_due too_long = statuses.Limit
-status_due (refused refusal) = statuses.Refused
-status_due (too_big units) = statuses.Limit
+status_due (judged fine) = statuses.Done
+status_due (judged (breaks refusal)) = statuses.Refused
+status_due (judged (exceeds count)) = statuses.Limit
 
 -- a text is to be written
 abbrev pub IsWriting : Outcome → Type 0
-IsWriting (written text) = ⊤
 IsWriting (faulty fault) = ⊥
 IsWriting too_long = ⊥
-IsWriting (refused refusal) = ⊥
-IsWriting (too_big units) = ⊥
+IsWriting (judged fine) = ⊤
+IsWriting (judged (breaks refusal)) = ⊥
+IsWriting (judged (exceeds count)) = ⊥
 
--- the text is the written text of a value
-pub record IsTextOf {V : Type 0} (text_of : V → List ℕ) (text : List ℕ) : Type 0 where
-  pub value : V
-  pub is_text : text ≡ text_of value
+-- This is said of some file, as which the bytes that were left read, where they are told.
+pub record Says (m : Meaning) (left : Option (List ℕ)) (verdict : Verdict) : Type 0 where
+  pub file : m.language.File
+  pub reads_as : IfSome left (λ bytes. m.language.reads bytes file)
+  pub is_verdict : m.verdict file ≡ verdict
 
--- the bytes read as a value, and the text is its written text
-pub record Formats {V : Type 0} (reads : List ℕ → V → Type 0) (text_of : V → List ℕ) (bytes text : List ℕ) : Type 0 where
-  pub value : V
-  pub reads_as : reads bytes value
-  pub is_text : text ≡ text_of value
+-- what comes of the bytes
+abbrev pub Gives : Meaning → List ℕ → Outcome → Type 0
+Gives m bytes (faulty fault) = m.language.fault bytes fault
+Gives m bytes too_long = m.language.cut bytes
+Gives m bytes (judged verdict) = Says m (Some bytes) verdict
 
--- what is written of a file that breaks no rule
-abbrev pub ok_text : List ℕ
-ok_text = codes "ok\n"
-
--- ---- a file that is checked, by its first refusal and by the cells of its design
-
--- the file breaks no rule, and its design is within the limit
-pub record IsGood {V : Type 0} (first : V → Option Refusal) (cells : V → List HCell) (file : V) : Type 0 where
-  pub no_refusal : first file ≡ None
-  pub few_units : units (cells file) ≤ unit_limit
-
--- the file breaks no rule, and its design has so many units, which pass the limit
-pub record IsTooBig {V : Type 0} (first : V → Option Refusal) (cells : V → List HCell) (file : V) (count : ℕ) : Type 0 where
-  pub no_refusal : first file ≡ None
-  pub is_count : count ≡ units (cells file)
-  pub passes : unit_limit < count
-
--- the bytes read as a file that breaks no rule and whose design is within the limit, and the text says so
-pub record Approves {V : Type 0} (reads : List ℕ → V → Type 0) (first : V → Option Refusal) (cells : V → List HCell) (bytes text : List ℕ) : Type 0 where
-  pub file : V
-  pub reads_as : reads bytes file
-  pub good : IsGood first cells file
-  pub is_text : text ≡ ok_text
-
--- the bytes read as a file of which this is the first object that breaks the lowest broken rule
-pub record Breaks {V : Type 0} (reads : List ℕ → V → Type 0) (first : V → Option Refusal) (bytes : List ℕ) (refusal : Refusal) : Type 0 where
-  pub file : V
-  pub reads_as : reads bytes file
-  pub is_first : first file ≡ Some refusal
-
--- the bytes read as a file that breaks no rule, and whose design has so many units, which pass the limit
-pub record Exceeds {V : Type 0} (reads : List ℕ → V → Type 0) (first : V → Option Refusal) (cells : V → List HCell) (bytes : List ℕ) (count : ℕ) : Type 0 where
-  pub file : V
-  pub reads_as : reads bytes file
-  pub too_big : IsTooBig first cells file count
-
--- the cells of the design of an EDIF file
-abbrev pub edif_cells : EdifFile → List HCell
-edif_cells file = (edif_design file).cells
-
--- the first object of a Verilog file that breaks the lowest broken rule under a top
-abbrev pub vlog_first : List ℕ → VlogFile → Option Refusal
-vlog_first top file = first_G file top
-
--- the cells of the design of a Verilog file under a top
-abbrev pub vlog_cells : List ℕ → VlogFile → List HCell
-vlog_cells top file = (vlog_design file top).cells
-
--- the text is one that the command writes
-abbrev pub IsText : Command → List ℕ → Type 0
-IsText commands.Format text = IsTextOf edif_text text
-IsText commands.Vformat text = IsTextOf vlog_text text
-IsText commands.Check text = text ≡ ok_text
-IsText (commands.CheckTop top) text = text ≡ ok_text
-
--- what comes of the bytes for the command
-abbrev pub Gives : Command → List ℕ → Outcome → Type 0
-Gives commands.Format bytes (written text) = Formats EdifReads edif_text bytes text
-Gives commands.Format bytes (faulty fault) = EdifFault bytes fault
-Gives commands.Format bytes too_long = EdifCut bytes
-Gives commands.Format bytes (refused refusal) = ⊥
-Gives commands.Format bytes (too_big count) = ⊥
-Gives commands.Vformat bytes (written text) = Formats VlogReads vlog_text bytes text
-Gives commands.Vformat bytes (faulty fault) = VlogFault bytes fault
-Gives commands.Vformat bytes too_long = VlogCut bytes
-Gives commands.Vformat bytes (refused refusal) = ⊥
-Gives commands.Vformat bytes (too_big count) = ⊥
-Gives commands.Check bytes (written text) = Approves EdifReads first_E edif_cells bytes text
-Gives commands.Check bytes (faulty fault) = EdifFault bytes fault
-Gives commands.Check bytes too_long = EdifCut bytes
-Gives commands.Check bytes (refused refusal) = Breaks EdifReads first_E bytes refusal
-Gives commands.Check bytes (too_big count) = Exceeds EdifReads first_E edif_cells bytes count
-Gives (commands.CheckTop top) bytes (written text) = Approves VlogReads (vlog_first top) (vlog_cells top) bytes text
-Gives (commands.CheckTop top) bytes (faulty fault) = VlogFault bytes fault
-Gives (commands.CheckTop top) bytes too_long = VlogCut bytes
-Gives (commands.CheckTop top) bytes (refused refusal) = Breaks VlogReads (vlog_first top) bytes refusal
-Gives (commands.CheckTop top) bytes (too_big count) = Exceeds VlogReads (vlog_first top) (vlog_cells top) bytes count
+-- The text is one that may be written: it is made of some file with which nothing is wrong, as which the bytes that were left read, where
+-- they are told.
+pub record IsTextFrom (m : Meaning) (left : Option (List ℕ)) (text : List ℕ) : Type 0 where
+  pub file : m.language.File
+  pub reads_as : IfSome left (λ bytes. m.language.reads bytes file)
+  pub is_fine : m.verdict file ≡ fine
+  pub made : m.IsMade file text

@@ -1,7 +1,8 @@
 -- How a run ends, and for which failure.
-use Rattle.std.specs.Prelude.{ℕ}
+use Rattle.std.specs.Prelude.{ℕ, Result, Ok, Err}
 use Rattle.nl_base.specs.declared.fault.ReadError.{ReadError}
 use Rattle.nl_base.specs.declared.fault.ReadError.TheVariants as errors
+use Rattle.nl_io.specs.declared.source.Failed.{Failed}
 use Rattle.netlist_cli.specs.declared.failure.Failure.{Failure}
 use Rattle.netlist_cli.specs.declared.failure.Failure.TheVariants as failures
 use Rattle.netlist_cli.specs.declared.status.Status.{Status}
@@ -36,3 +37,8 @@ failure_of errors.ReadFault = failures.ReadFault
 failure_of errors.TooLong = failures.InputLimit
 failure_of errors.NoMemory = failures.NoMemory
 failure_of errors.Spent = failures.ReadFault
+
+-- what is answered once a text was written, or a put failed
+abbrev pub after_writing : Result (Unit {0}) Failed → Result (Unit {0}) Failure
+after_writing (Ok done) = Ok done
+after_writing (Err failed) = Err failures.WriteFault

@@ -1,5 +1,6 @@
 ghost use Rattle.std.specs.Prelude.{◌≡◌, IsSome, MatchResult};
-ghost use Rattle.netlist_cli.specs.Commands.{command, command_of_word, command_with_top};
+ghost use Rattle.std.specs.Option.{option_map};
+ghost use Rattle.netlist_cli.specs.Commands.{behind_option, check_of, command, if_none_left, is_option, option_value};
 
 use nl_base::{NoMemory, Seq, Text};
 use std::alloc::Global;
@@ -17,36 +18,64 @@ pub enum Command {
     Vformat,
 }
 
-/// The command that is one word.
-fn command_of_word(word: &[u8]) -> Option<Command>
-    ensures { result ≡ command_of_word word.now }
+/// The value of an option, where words begin with it, and the words behind it.
+#[derive(Clone, Copy)]
+struct Taken<'a> {
+    value: Option<&'a [u8]>,
+    rest: &'a [Text],
+}
+
+/// Whether a word is the name of this option, and the word behind it a value, which is not empty.
+fn is_option(name: &[u8], word: &[u8], value: &[u8]) -> bool
+    ensures { result ≡ is_option name.now word.now value.now }
 {
-    if word == b"format".as_slice() {
-        return Some(Command::Format);
+    word == name && !value.is_empty()
+}
+
+/// Takes the option of this name from the front of words, where they begin with it.
+fn take_option<'a>(name: &[u8], words: &'a [Text]) -> Taken<'a>
+    ensures value { option_map (λ value. value.now) result.value ≡ option_value name.now words.now }
+    ensures rest { result.rest.now ≡ behind_option name.now words.now }
+{
+    if let [word, value, rest @ ..] = words {
+        if is_option(name, word.bytes(), value.bytes()) {
+            return Taken {
+                value: Some(value.bytes()),
+                rest,
+            };
+        }
     }
-    if word == b"vformat".as_slice() {
-        return Some(Command::Vformat);
+    Taken {
+        value: None,
+        rest: words,
     }
-    if word == b"check".as_slice() {
-        return Some(Command::Check);
+}
+
+/// The command, where no word is left behind its options.
+fn if_none_left(words: &[Text], asked: Command) -> Option<Command>
+    ensures { result ≡ if_none_left words.now asked }
+{
+    if words.is_empty() {
+        return Some(asked);
     }
     None
 }
 
-/// The command that is a word with the name of a top module.
-fn command_with_top(
-    alloc: Global,
-    word: &[u8],
-    option: &[u8],
-    top: &[u8],
-) -> Result<Option<Command>, NoMemory>
-    ensures { MatchResult result (λ found. found ≡ command_with_top word.now option.now top.now) (λ _. IsSome (command_with_top word.now option.now top.now)) }
+/// `check`, with these words behind it.
+fn check_of(alloc: Global, words: &[Text]) -> Result<Option<Command>, NoMemory>
+    ensures { MatchResult result (λ found. found ≡ check_of words.now) (λ _. IsSome (check_of words.now)) }
 {
-    if word == b"check".as_slice() && option == b"--top".as_slice() && !top.is_empty() {
-        let top = Text::copy(alloc, top)?;
-        return Ok(Some(Command::CheckTop(top)));
+    let taken = take_option(b"--top", words);
+    if !taken.rest.is_empty() {
+        return Ok(None);
     }
-    Ok(None)
+    match taken.value {
+        None => Ok(Some(Command::Check)),
+        Some(top) => {
+            let top = Text::copy(alloc, top)?;
+            Ok(Some(Command::CheckTop(top)))
+        }
+    }
 }
 
 impl Command {
@@ -54,13 +83,19 @@ impl Command {
     pub fn of(alloc: Global, words: &Seq<Text>) -> Result<Option<Command>, NoMemory>
         ensures { MatchResult result (λ found. found ≡ command words.now) (λ _. IsSome (command words.now)) }
     {
-        match words.items() {
-            [word] => Ok(command_of_word(word.bytes())),
-            [word, option, top] => {
-                let found = command_with_top(alloc, word.bytes(), option.bytes(), top.bytes())?;
-                Ok(found)
-            }
-            _ => Ok(None),
+        let [word, options @ ..] = words.items() else {
+            return Ok(None);
+        };
+        if word.bytes() == b"format".as_slice() {
+            return Ok(if_none_left(options, Command::Format));
         }
+        if word.bytes() == b"vformat".as_slice() {
+            return Ok(if_none_left(options, Command::Vformat));
+        }
+        if word.bytes() == b"check".as_slice() {
+            let found = check_of(alloc, options)?;
+            return Ok(found);
+        }
+        Ok(None)
     }
 }

@@ -1,9 +1,10 @@
 ghost use Rattle.std.specs.Prelude.{◌≡◌, ◌≢◌};
-ghost use Rattle.netlist_cli.specs.Statuses.{failure_of, status_of};
+ghost use Rattle.netlist_cli.specs.Statuses.{after_writing, failure_of, status_of};
 ghost use Rattle.nl_base.specs.declared.fault.ReadError.TheVariants as errors;
 
 use crate::status::Status;
 use nl_base::{ReadError, Refusal, TextFault};
+use nl_io::Failed;
 
 /// Why a run does not end with its work done.
 #[derive(Drop)]
@@ -55,5 +56,15 @@ impl Failure {
             Failure::InputLimit => Status::Limit,
             Failure::DesignLimit(_) => Status::Limit,
         }
+    }
+}
+
+/// What is answered once a text was written, or a put failed.
+pub fn after_writing(written: Result<(), Failed>) -> Result<(), Failure>
+    ensures { result ≡ after_writing written }
+{
+    match written {
+        Ok(()) => Ok(()),
+        Err(Failed) => Err(Failure::WriteFault),
     }
 }

@@ -1,11 +1,12 @@
 ghost use Rattle.readers.specs.Sources.{supply};
 ghost use Rattle.netlist_cli.specs.declared.command.Command.TheVariants as commands;
+ghost use Rattle.netlist_cli.specs.Meanings.{meaning_of};
 ghost use Rattle.netlist_cli.specs.Runs.{Does, TakesFrom};
 
-use crate::failure::Failure;
+use crate::failure::{Failure, after_writing};
 use edif_library::read_edif;
 use edif_writer::write_edif;
-use nl_io::{Failed, Sink, Source};
+use nl_io::{Sink, Source};
 use std::alloc::Global;
 use vlog_modules::read_vlog;
 use vlog_writer::write_vlog;
@@ -16,14 +17,14 @@ pub fn format<S: Source, O: Sink>(
     input: &mut S,
     output: &mut O,
 ) -> Result<(), Failure>
-    ensures does { Does O.taken O.accepts O.faults commands.Format (supply S.left S.faults input.old) (supply S.left S.faults input.new) output.old output.new result }
+    ensures does { Does O.taken O.accepts O.faults (meaning_of commands.Format) (supply S.left S.faults input.old) (supply S.left S.faults input.new) output.old output.new result }
     ensures taken { TakesFrom (supply S.left S.faults input.old) (supply S.left S.faults input.new) }
 {
     match read_edif(alloc, input) {
-        Ok(file) => match write_edif(&file, output) {
-            Ok(()) => Ok(()),
-            Err(Failed) => Err(Failure::WriteFault),
-        },
+        Ok(file) => {
+            let written = write_edif(&file, output);
+            after_writing(written)
+        }
         Err(error) => Err(Failure::of_read_error(error)),
     }
 }
@@ -34,14 +35,14 @@ pub fn vformat<S: Source, O: Sink>(
     input: &mut S,
     output: &mut O,
 ) -> Result<(), Failure>
-    ensures does { Does O.taken O.accepts O.faults commands.Vformat (supply S.left S.faults input.old) (supply S.left S.faults input.new) output.old output.new result }
+    ensures does { Does O.taken O.accepts O.faults (meaning_of commands.Vformat) (supply S.left S.faults input.old) (supply S.left S.faults input.new) output.old output.new result }
     ensures taken { TakesFrom (supply S.left S.faults input.old) (supply S.left S.faults input.new) }
 {
     match read_vlog(alloc, input) {
-        Ok(file) => match write_vlog(&file, output) {
-            Ok(()) => Ok(()),
-            Err(Failed) => Err(Failure::WriteFault),
-        },
+        Ok(file) => {
+            let written = write_vlog(&file, output);
+            after_writing(written)
+        }
         Err(error) => Err(Failure::of_read_error(error)),
     }
 }

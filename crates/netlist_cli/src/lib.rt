@@ -15,6 +15,7 @@
 
 pub mod checking;
 pub mod command;
+pub mod designs;
 pub mod failure;
 pub mod formatting;
 pub mod line;

@@ -2,6 +2,7 @@ ghost use Rattle.std.specs.Prelude.{◌≡◌, ◌≢◌, ◌↔◌, Ok, Err, So
 ghost use Rattle.nl_io.specs.Causes.{Rose};
 ghost use Rattle.readers.specs.Sources.{supply};
 ghost use Rattle.netlist_cli.specs.Commands.{command};
+ghost use Rattle.netlist_cli.specs.Meanings.{meaning_of};
 ghost use Rattle.netlist_cli.specs.Runs.{BrokeOff, Does, FitsBytes, IsDecided, Performs, TakesFrom, TellsFailure, WroteText};
 
 use crate::checking::{check, check_top};
@@ -21,7 +22,7 @@ fn carry_out<S: Source, O: Sink>(
     input: &mut S,
     output: &mut O,
 ) -> Result<(), Failure>
-    ensures does { Does O.taken O.accepts O.faults command.now (supply S.left S.faults input.old) (supply S.left S.faults input.new) output.old output.new result }
+    ensures does { Does O.taken O.accepts O.faults (meaning_of command.now) (supply S.left S.faults input.old) (supply S.left S.faults input.new) output.old output.new result }
     ensures taken { TakesFrom (supply S.left S.faults input.old) (supply S.left S.faults input.new) }
 {
     match command {
@@ -65,9 +66,9 @@ pub fn run<S: Source, O: Sink, E: Sink>(
     errors: &mut E,
 ) -> Status
     ensures done { result ≡ Status.Done
-        → IfSome (command words.now) (λ c. WroteText O.taken O.accepts O.faults c (supply S.left S.faults input.old) (supply S.left S.faults input.new) output.old output.new) }
+        → IfSome (command words.now) (λ c. WroteText O.taken O.accepts O.faults (meaning_of c) (supply S.left S.faults input.old) (supply S.left S.faults input.new) output.old output.new) }
     ensures write_fault { result ≡ Status.WriteFault
-        → IfSome (command words.now) (λ c. BrokeOff O.taken O.accepts O.faults c (supply S.left S.faults input.old) (supply S.left S.faults input.new) output.old output.new) }
+        → IfSome (command words.now) (λ c. BrokeOff O.taken O.accepts O.faults (meaning_of c) (supply S.left S.faults input.old) (supply S.left S.faults input.new) output.old output.new) }
     ensures failed { result ≢ Status.Done
         → TellsFailure E.taken E.accepts E.faults (command words.now) (supply S.left S.faults input.old) (supply S.left S.faults input.new) errors.old errors.new result }
     ensures usage { (result ≡ Status.Usage) ↔ (command words.now ≡ None) }
@@ -75,9 +76,9 @@ pub fn run<S: Source, O: Sink, E: Sink>(
     ensures unread { result ≡ Status.Usage → input.new ≡ input.old }
     ensures unwritten { result ≢ Status.Done → result ≢ Status.WriteFault → output.new ≡ output.old }
     ensures silent { result ≡ Status.Done → errors.new ≡ errors.old }
-    ensures exact { IfSome (command words.now) (λ c. IfSome (S.left input.old) (λ bs. FitsBytes c bs result)) }
+    ensures exact { IfSome (command words.now) (λ c. IfSome (S.left input.old) (λ bs. FitsBytes (meaning_of c) bs result)) }
     ensures complete { ¬ Rose (S.faults input.old) (S.faults input.new)
-        → IfSome (command words.now) (λ c. IfSome (S.left input.old) (λ bs. IsDecided c bs (Rose (O.faults output.old) (O.faults output.new)) result)) }
+        → IfSome (command words.now) (λ c. IfSome (S.left input.old) (λ bs. IsDecided (meaning_of c) bs (Rose (O.faults output.old) (O.faults output.new)) result)) }
 {
     match perform(alloc, words, input, output) {
         Ok(()) => Status::Done,

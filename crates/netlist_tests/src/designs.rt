@@ -1,6 +1,8 @@
 // Rows from outside, and calls that take memory, of which no clause can say that they succeed.
-use net_hier::{BuildFault, ConstName, Constants, HCell, HInst, Hier, Node, cells_fit};
-use nl_base::{NoMemory, Seq, Text};
+use net_hier::{
+    BuildFault, ConstName, Constants, HCell, HInst, HNet, HPort, Hier, Join, Node, cells_fit,
+};
+use nl_base::{Dir, NoMemory, Range, Seq, Text};
 use std::alloc::Global;
 use std::test::Fail;
 
@@ -77,6 +79,53 @@ fn row(alloc: Global, uses: &[&[(&[u8], u32)]], top: u32) -> Result<Answer, NoMe
     let cells = cells(alloc, uses)?;
     let answer = answer_of(alloc, cells, top)?;
     Ok(answer)
+}
+
+// A cell of two nets and a port of two bits, with this join.
+fn joined(alloc: Global, a: Node, b: Node) -> Result<HCell, NoMemory> {
+    let mut made = cell(alloc, &[])?;
+    for name in [b"m", b"n"] {
+        made.nets.push(HNet {
+            name: Text::copy(alloc, name)?,
+            props: Seq::empty(alloc),
+        })?;
+    }
+    made.ports.push(HPort {
+        name: Text::copy(alloc, b"p")?,
+        range: Some(Range { left: 1, right: 0 }),
+        dir: Dir::Input,
+        props: Seq::empty(alloc),
+    })?;
+    made.joins.push(Join { a, b })?;
+    Ok(made)
+}
+
+// Whether a design of a cell alone with this join keeps the conditions on cells.
+fn join_fits(alloc: Global, a: Node, b: Node) -> Result<bool, NoMemory> {
+    let mut cells = Seq::empty(alloc);
+    cells.push(joined(alloc, a, b)?)?;
+    let fits = cells_fit(alloc, &cells, 0)?;
+    Ok(fits)
+}
+
+#[test]
+fn ends_of_joins(rt: HostRuntime) -> Result<(), Fail> {
+    let port = |bit| Node::Port { port: 0, bit };
+    let pin = Node::Pin {
+        instance: 0,
+        port: 0,
+        bit: 0,
+    };
+    for (a, b, fits) in [
+        (Node::Net(0), Node::Net(1), true),
+        (Node::Net(0), Node::Net(2), false),
+        (port(1), Node::One, true),
+        (port(2), Node::One, false),
+        (Node::Zero, pin, false),
+    ] {
+        assert_eq!(rt; join_fits(rt.alloc(), a, b)?, fits);
+    }
+    Ok(())
 }
 
 #[test]

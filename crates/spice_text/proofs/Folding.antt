@@ -223,9 +223,9 @@ subckt_reads : (cell : Subckt) (cells : List Subckt) (rest : List ℕ) (statemen
 unfolding subckt_then head_then
 subckt_reads cell cells rest statements is are have =
     let ended : HaveStatements (codes ".ENDS" ++ word_then 5 cell.name (10 ∷ rest)) ((codes ".ENDS" ∷ cell.name ∷ []) ∷ statements) =
-        statement_reads 46 (69 ∷ 78 ∷ 68 ∷ 83 ∷ []) 5 (cell.name ∷ []) rest statements (λ e. omega (arith, e)) (λ e. omega (arith, e)) end_word (all_of_more IsSpice cell.name [] is.name (all_of_none IsSpice)) have in
+    statement_reads 46 (69 ∷ 78 ∷ 68 ∷ 83 ∷ []) 5 (cell.name ∷ []) rest statements (λ e. omega (arith, e)) (λ e. omega (arith, e)) end_word (all_of_more IsSpice cell.name [] is.name (all_of_none IsSpice)) have in
     let calls : Before (calls_then cell.calls) (AreCalls cell.calls) (codes ".ENDS" ++ word_then 5 cell.name (10 ∷ rest)) ((codes ".ENDS" ∷ cell.name ∷ []) ∷ statements) =
-        calls_read cell.calls (codes ".ENDS" ++ word_then 5 cell.name (10 ∷ rest)) ((codes ".ENDS" ∷ cell.name ∷ []) ∷ statements) is.calls ended in
+    calls_read cell.calls (codes ".ENDS" ++ word_then 5 cell.name (10 ∷ rest)) ((codes ".ENDS" ∷ cell.name ∷ []) ∷ statements) is.calls ended in
     let own : List (List (List ℕ)) = (codes ".SUBCKT" ∷ cell.name ∷ cell.ports) ∷ (calls.own ++ ((codes ".ENDS" ∷ cell.name ∷ []) ∷ statements)) in
     record {
       own = own;

@@ -1,7 +1,7 @@
 use Rattle.std.proofs.Common.{◌++◌}
 use Rattle.nl_output.specs.Writing.{state}
 use Rattle.nl_output.proofs.Whole.{writes_whole}
-use Rattle.netlist_cli.specs.Outcomes.{ok_text}
+use Rattle.netlist_cli.specs.Meanings.{ok_text}
 use Rattle.netlist_cli.proofs.checking.put_ok.Goals as goal
 
 pub returns : goal.returns

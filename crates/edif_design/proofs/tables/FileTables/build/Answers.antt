@@ -1,12 +1,14 @@
-use Rattle.std.proofs.Common.{◌≡◌, ◌≤◌, ◌∙◌, ap, sym, length, get_or, arith, []}
+use Rattle.std.proofs.Common.{◌≡◌, ◌≤◌, ◌∙◌, ap, sym, length, map, get_or, arith, []}
 use Rattle.std.specs.List.{flat_map}
 use Rattle.std.proofs.lemmas.List.{length-map}
 use Rattle.edif_lookup.specs.Tables.{named}
 use Rattle.edif_library.specs.Sizes.{edif_size}
 use Rattle.edif_design.specs.Parts.{cells_in, libraries, numbered}
-use Rattle.edif_design.specs.Tables.{library_ident, places_from, seen, tables_from}
+use Rattle.edif_design.specs.References.{all_cells}
+use Rattle.edif_design.specs.Tables.{library_ident, place_of, places_from, seen, tables_from}
+use Rattle.edif_design.specs.Views.{view_names}
 use Rattle.edif_design.proofs.Small.{few_cells, few_libraries}
-use Rattle.edif_design.proofs.TableLaws.{tables_hold}
+use Rattle.edif_design.proofs.TableLaws.{tables_hold, views_placed}
 use Rattle.edif_design.proofs.tables.FileTables.build.Goals as goal
 
 pub places_of-requires : goal.places_of-requires
@@ -34,8 +36,11 @@ cell_tables-requires c =
     omega (arith, a, b, e)
 
 pub invariant_of-result : goal.invariant_of-result
-invariant_of-result c = record {
-  places_are = c.in_ok-places.ensures ∙ ap (places_from 0) (ap seen c.as_slice.ensures.value ∙ c.in_ok-libraries.ensures);
-  libraries_are = c.in_ok-named.ensures ∙ (c.in_ok-entries.ensures ∙ ap (λ ls. named library_ident (numbered ls)) (ap seen c.as_slice-2.ensures.value ∙ c.in_ok-libraries.ensures));
-  cells_are = λ library. ap (λ tables. get_or tables library []) (c.in_ok-cells.ensures ∙ ap (tables_from 0) (ap seen c.as_slice-3.ensures.value ∙ c.in_ok-libraries.ensures)) ∙ tables_hold (libraries c.args.file.now) library;
-}
+invariant_of-result c =
+    let places : map place_of c.in_ok-places.places.items ≡ all_cells c.args.file.now = c.in_ok-places.ensures ∙ ap (places_from 0) (ap seen c.as_slice.ensures.value ∙ c.in_ok-libraries.ensures) in
+    record {
+      places_are = places;
+      views_are = c.in_ok-views.ensures ∙ (ap (map (λ place. view_names place.cell.now)) c.as_slice-4.ensures.value ∙ (views_placed c.in_ok-places.places.items ∙ ap (λ ps. map view_names (map (λ place. place.cell) ps)) places));
+      libraries_are = c.in_ok-named.ensures ∙ (c.in_ok-entries.ensures ∙ ap (λ ls. named library_ident (numbered ls)) (ap seen c.as_slice-2.ensures.value ∙ c.in_ok-libraries.ensures));
+      cells_are = λ library. ap (λ tables. get_or tables library []) (c.in_ok-cells.ensures ∙ ap (tables_from 0) (ap seen c.as_slice-3.ensures.value ∙ c.in_ok-libraries.ensures)) ∙ tables_hold (libraries c.args.file.now) library;
+    }

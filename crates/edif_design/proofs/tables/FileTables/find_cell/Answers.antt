@@ -10,12 +10,12 @@ pub returns-in_ok-found-in-Some : goal.returns-in_ok-found-in-Some
 returns-in_ok-found-in-Some c =
     let t : true ≡ nat_lt c.args.library (length c.self.inside.cells.items) = c.in-Some.ensures.lookup.0 ∙ ap (λ ts. nat_lt c.args.library (length ts)) c.deref.ensures.value in
     c.in_ok-found-in-Some.ensures
-    ∙ (cell_found c.self.inside.file.now c.self.inside.places.items c.self.inside.libraries c.self.inside.cells.items c.self.invariant c.args.library c.args.spelling.now c.in-Some.table.now (grind (arith, nat_tests))
+    ∙ (cell_found c.self.inside.file.now c.self.inside.places.items c.self.inside.views.items c.self.inside.libraries c.self.inside.cells.items c.self.invariant c.args.library c.args.spelling.now c.in-Some.table.now (grind (arith, nat_tests))
     (c.in-Some.ensures.lookup.1 ∙ ap (λ ts. get_or ts c.args.library c.in-Some.table.now) c.deref.ensures.value)
     ∙ ap (λ file. meant_by (cell_candidates file c.args.library c.args.spelling.now)) c.self.view_is)
 
 pub returns-in-None : goal.returns-in-None
 returns-in-None c =
     let t : false ≡ nat_lt c.args.library (length c.self.inside.cells.items) = c.in-None.ensures.lookup.0 ∙ ap (λ ts. nat_lt c.args.library (length ts)) c.deref.ensures.value in
-    no_cell_found c.self.inside.file.now c.self.inside.places.items c.self.inside.libraries c.self.inside.cells.items c.self.invariant c.args.library c.args.spelling.now (grind (arith, nat_tests))
+    no_cell_found c.self.inside.file.now c.self.inside.places.items c.self.inside.views.items c.self.inside.libraries c.self.inside.cells.items c.self.invariant c.args.library c.args.spelling.now (grind (arith, nat_tests))
     ∙ ap (λ file. meant_by (cell_candidates file c.args.library c.args.spelling.now)) c.self.view_is

@@ -1,0 +1,124 @@
+// Names with their identifiers.
+ghost use Rattle.std.specs.Prelude.{◌≡◌, ◌++◌, ◌∷◌, Some, pos, IfOk, OnOk};
+ghost use Rattle.std.specs.Fmt.{signed_decimal};
+ghost use Rattle.nl_base.specs.Ranges.{range_bits};
+ghost use Rattle.edif_names.specs.declared.name.PortName.TheVariants.{Array};
+ghost use Rattle.edif_keywords.specs.Values.{IsString, IsWord};
+ghost use Rattle.edif_names.specs.Values.{IsNameDef, IsPortName};
+ghost use Rattle.edif_naming.specs.Naming.{IsSmallRange, array_text as text_of_array, name_for, port_name_for};
+ghost use Rattle.edif_naming.specs.Sound.{IsShort};
+
+use edif_names::{NameDef, PortName};
+use itoa::Buffer;
+use net_hier::HPort;
+use nl_base::{Ident, Int, NoMemory, Range, Text};
+use std::alloc::Global;
+
+/// An identifier like this one.
+pub fn copied(alloc: Global, ident: &Ident) -> Result<Ident, NoMemory>
+    ensures same { IfOk result (λ made. made ≡ ident.now) }
+    ensures word { IsWord ident.now }
+{
+    let bytes = ident.bytes();
+    let text = Text::copy(alloc, bytes)?;
+    Ok(Ident::of(text))
+}
+
+/// The name with this identifier and this original name.
+fn name_with(alloc: Global, ident: &Ident, name: &[u8]) -> Result<NameDef, NoMemory>
+    ensures name { IfOk result (λ made. made ≡ name_for ident.now name.now) }
+    ensures word { IsWord ident.now }
+{
+    let own = copied(alloc, ident)?;
+    if ident.bytes() == name {
+        return Ok(NameDef {
+            ident: own,
+            text: None,
+        });
+    }
+    let text = Text::copy(alloc, name)?;
+    Ok(NameDef {
+        ident: own,
+        text: Some(text),
+    })
+}
+
+/// The name with this identifier and this original name.
+pub fn named(alloc: Global, ident: &Ident, name: &[u8]) -> Result<NameDef, NoMemory>
+    ensures name { IfOk result (λ made. made ≡ name_for ident.now name.now) }
+    ensures sound { IsString name.now → IfOk result IsNameDef }
+{
+    let made = name_with(alloc, ident, name)?;
+    Ok(made)
+}
+
+/// Adds a number in decimal.
+fn add_number(text: &mut Vec<u8>, number: i32) -> Result<(), NoMemory>
+    ensures { OnOk result (text.new.items ≡ text.old.items ++ signed_decimal number) }
+{
+    let mut buffer = Buffer::new();
+    text.extend_from_slice(buffer.format(number).as_bytes())?;
+    Ok(())
+}
+
+/// The text of an array: the name of its bits, and its range in brackets.
+fn array_text(alloc: Global, name: &[u8], range: Range) -> Result<Text, NoMemory>
+    ensures text { IfOk result (λ made. made ≡ text_of_array name.now range) }
+    ensures small { IfOk result (λ _. IsSmallRange (Some range)) }
+{
+    let mut text = Vec::from_slice(alloc, name)?;
+    text.push(b'[')?;
+    add_number(&mut text, range.left)?;
+    text.push(b':')?;
+    add_number(&mut text, range.right)?;
+    text.push(b']')?;
+    Ok(Text::of(text))
+}
+
+/// The name of an array port with this identifier, name and range.
+fn array_named(
+    alloc: Global,
+    ident: &Ident,
+    name: &[u8],
+    range: Range,
+) -> Result<PortName, NoMemory>
+    ensures small { IfOk result (λ _. IsSmallRange (Some range)) }
+    ensures word { IsWord ident.now }
+    ensures name { IfOk result (λ made. made ≡ Array (record { ident = ident.now; text = Some (text_of_array name.now range) }) (pos (range_bits range))) }
+{
+    let ident = copied(alloc, ident)?;
+    let text = array_text(alloc, name, range)?;
+    let name = NameDef {
+        ident,
+        text: Some(text),
+    };
+    Ok(PortName::Array(name, Int::signed(false, range.bits())))
+}
+
+/// The name of the port with this identifier.
+fn port_name_with(alloc: Global, ident: &Ident, port: &HPort) -> Result<PortName, NoMemory>
+    ensures word { IsWord ident.now }
+    ensures name { IfOk result (λ made. made ≡ port_name_for ident.now port.now.name port.now.range) }
+    ensures small { IfOk result (λ _. IsSmallRange port.now.range) }
+{
+    match port.range {
+        None => {
+            let name = name_with(alloc, ident, port.name.bytes())?;
+            Ok(PortName::Single(name))
+        }
+        Some(range) => {
+            let name = array_named(alloc, ident, port.name.bytes(), range)?;
+            Ok(name)
+        }
+    }
+}
+
+/// The name of the port with this identifier.
+pub fn port_named(alloc: Global, ident: &Ident, port: &HPort) -> Result<PortName, NoMemory>
+    ensures name { IfOk result (λ made. made ≡ port_name_for ident.now port.now.name port.now.range) }
+    ensures small { IfOk result (λ _. IsSmallRange port.now.range) }
+    ensures sound { IsShort port.now.name → IfOk result IsPortName }
+{
+    let made = port_name_with(alloc, ident, port)?;
+    Ok(made)
+}

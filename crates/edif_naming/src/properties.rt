@@ -1,0 +1,76 @@
+// Properties.
+ghost use Rattle.std.specs.Prelude.{◌≡◌, map, length, IfOk};
+ghost use Rattle.std.specs.List.{AllByRecursion};
+ghost use Rattle.edif_names.specs.Values.{IsProperty};
+ghost use Rattle.edif_naming.specs.Naming.{property_for, seen, value_of};
+ghost use Rattle.edif_naming.specs.Sound.{AreSoundProps, IsSoundProp};
+
+use crate::names::named;
+use edif_names::Property;
+use edif_spaces::idents_of;
+use net_hier::HProp;
+use nl_base::{Ident, NoMemory, PropValue, Seq, Text};
+use std::alloc::Global;
+
+/// A value like this one.
+fn copy_value(alloc: Global, value: &PropValue) -> Result<PropValue, NoMemory>
+    ensures { IfOk result (λ made. made ≡ value.now) }
+{
+    match value {
+        PropValue::Str(text) => {
+            let text = Text::copy(alloc, text.bytes())?;
+            Ok(PropValue::Str(text))
+        }
+        PropValue::Int(int) => Ok(PropValue::Int(*int)),
+        PropValue::Flag(flag) => Ok(PropValue::Flag(*flag)),
+        PropValue::Scaled(scaled) => Ok(PropValue::Scaled(*scaled)),
+    }
+}
+
+/// The property with this identifier.
+fn property_of(alloc: Global, ident: &Ident, prop: &HProp) -> Result<Property, NoMemory>
+    ensures property { IfOk result (λ made. made ≡ property_for ident.now prop.now) }
+    ensures sound { IsSoundProp prop.now → IfOk result IsProperty }
+{
+    let name = named(alloc, ident, prop.name.bytes())?;
+    let value = copy_value(alloc, &prop.value)?;
+    Ok(Property {
+        name,
+        value,
+        tail: Seq::empty(alloc),
+    })
+}
+
+/// The names of properties.
+fn names_of<'a>(alloc: Global, props: &[&'a HProp]) -> Result<Vec<&'a [u8]>, NoMemory>
+    ensures { IfOk result (λ names. seen names.items ≡ map (λ prop. prop.name) (seen props.now)) }
+{
+    let mut names = Vec::new(alloc);
+    for prop in props {
+        names.push(prop.name.bytes())?;
+    }
+    Ok(names)
+}
+
+/// The identifiers of properties, a name space of their own.
+fn property_idents(alloc: Global, props: &[&HProp]) -> Result<Seq<Ident>, NoMemory>
+    ensures { IfOk result (λ idents. length idents ≡ length props.now) }
+{
+    let names = names_of(alloc, props)?;
+    let idents = idents_of(alloc, names.as_slice())?;
+    Ok(idents)
+}
+
+/// The properties of one object, whose identifiers are a name space of their own.
+pub fn properties_of(alloc: Global, props: &[&HProp]) -> Result<Vec<Property>, NoMemory>
+    ensures values { IfOk result (λ made. map value_of made.items ≡ seen props.now) }
+    ensures sound { AreSoundProps (seen props.now) → IfOk result (λ made. AllByRecursion IsProperty made.items) }
+{
+    let idents = property_idents(alloc, props)?;
+    let mut made = Vec::new(alloc);
+    for place in 0..props.len() {
+        let property = property_of(alloc, &idents.items()[place], props[place])?;
+        made.push(property)?;
+    }
+    Ok(made)
+}

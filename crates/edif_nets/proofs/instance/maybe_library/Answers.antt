@@ -1,0 +1,20 @@
+use Rattle.std.proofs.Common.{arith}
+use Rattle.edif_nets.proofs.Parts.{form_or_token}
+use Rattle.edif_nets.specs.Grammar.{maybe_library}
+use Rattle.edif_nets.proofs.instance.maybe_library.Goals as goal
+
+pub returns-in_err-at_form : goal.returns-in_err-at_form
+unfolding maybe_library
+returns-in_err-at_form g c = grind (arith, form_or_token)
+
+pub returns-in_err-begin : goal.returns-in_err-begin
+unfolding maybe_library
+returns-in_err-begin g c = grind (arith, form_or_token)
+
+pub returns-then-branch : goal.returns-then-branch
+unfolding maybe_library
+returns-then-branch g c = grind (arith, form_or_token)
+
+pub returns : goal.returns
+unfolding maybe_library
+returns g c = grind (arith, form_or_token)

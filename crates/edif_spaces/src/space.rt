@@ -1,0 +1,104 @@
+// Name spaces.
+ghost use Rattle.std.specs.Prelude.{◌≡◌, ◌≤◌, ◌++◌, ◌∷◌, [], false, true, length, map, IfOk, OnErr};
+ghost use Rattle.nl_base.specs.Identifiers.{is_identifier as is_identifier_text};
+ghost use Rattle.edif_meanings.specs.Apart.{is_alike_any};
+ghost use Rattle.edif_spaces.specs.Spaces.{AreIdents, can_be_own as can_be_own_text};
+
+use net_bits::{Names, fresh_name};
+use nl_base::{Ident, NoMemory, Seq, Text, is_identifier};
+use std::alloc::Global;
+use std::marker::Model;
+
+/// The greatest number of bytes of an identifier that is made.
+pub const OWN_LIMIT: usize = 255;
+
+/// The identifiers of a name space, in the order in which they were given.
+#[derive(Drop)]
+pub struct Space {
+    used: Names,
+    from: u64,
+}
+
+impl Model for Space {
+    ghost use Rattle.std.specs.Prelude.{List, ℕ};
+    ghost use Rattle.edif_spaces.specs.Spaces.{IsSpace};
+
+    ghost Value = { List (List ℕ) };
+
+    ghost view = { λ s. s.used.names };
+
+    ghost invariant = { λ s. IsSpace s.used s.from };
+}
+
+impl Space {
+    /// The name space without identifiers; it takes no memory.
+    pub fn new(alloc: Global) -> Space
+        ensures { result ≡ [] }
+    {
+        Space {
+            used: Names::new(alloc, true),
+            from: 0,
+        }
+    }
+
+    /// Gives the name an identifier: its own where it can be one and no other is alike, else `id` and the least number that is free.
+    pub fn ident(&mut self, alloc: Global, name: &[u8]) -> Result<Ident, NoMemory>
+        ensures own { can_be_own_text name.now ≡ true → is_alike_any name.now self.old ≡ false → IfOk result (λ ident. ident ≡ name.now) }
+        ensures new { IfOk result (λ ident. is_alike_any ident self.old ≡ false) }
+        ensures added { IfOk result (λ ident. self.new ≡ self.old ++ ident ∷ []) }
+        ensures kept { OnErr result (self.new ≡ self.old) }
+    {
+        if can_be_own(name) && !self.used.has(name) {
+            let ident = self.own(alloc, name)?;
+            return Ok(ident);
+        }
+        let ident = self.fresh(alloc)?;
+        Ok(ident)
+    }
+
+    // Gives the name itself.
+    fn own(&mut self, alloc: Global, name: &[u8]) -> Result<Ident, NoMemory>
+        requires own { can_be_own_text name.now ≡ true }
+        requires new { is_alike_any name.now self.old ≡ false }
+        ensures ident { IfOk result (λ ident. ident ≡ name.now) }
+        ensures added { IfOk result (λ ident. self.new ≡ self.old ++ ident ∷ []) }
+        ensures kept { OnErr result (self.new ≡ self.old) }
+    {
+        let text = Text::copy(alloc, name)?;
+        self.used.add(alloc, name)?;
+        Ok(Ident::of(text))
+    }
+
+    // Gives `id` and the least number that is free.
+    fn fresh(&mut self, alloc: Global) -> Result<Ident, NoMemory>
+        ensures new { IfOk result (λ ident. is_alike_any ident self.old ≡ false) }
+        ensures added { IfOk result (λ ident. self.new ≡ self.old ++ ident ∷ []) }
+        ensures kept { OnErr result (self.new ≡ self.old) }
+    {
+        let (text, number) = fresh_name(alloc, &self.used, b"id", self.from)?;
+        self.used.add(alloc, text.bytes())?;
+        self.from = number;
+        Ok(Ident::of(text))
+    }
+}
+
+/// Whether the name is an identifier of at most 255 bytes.
+fn can_be_own(name: &[u8]) -> bool
+    ensures { result ≡ can_be_own_text name.now }
+{
+    name.len() <= OWN_LIMIT && is_identifier(name)
+}
+
+/// Identifiers for names of one name space, of which no two are alike up to case.
+#[tactic(auto, using(edif_meanings::proofs::ApartLaws::apart_none))]
+pub fn idents_of(alloc: Global, names: &[&[u8]]) -> Result<Seq<Ident>, NoMemory>
+    ensures { IfOk result (λ idents. AreIdents (map (λ name. name.now) names.now) idents) }
+{
+    let mut space = Space::new(alloc);
+    let mut idents = Seq::empty(alloc);
+    for name in names {
+        let ident = space.ident(alloc, name)?;
+        idents.push(ident)?;
+    }
+    Ok(idents)
+}

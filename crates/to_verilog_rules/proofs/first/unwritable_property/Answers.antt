@@ -1,0 +1,18 @@
+use Rattle.std.proofs.Common.{◌∷◌, [], ◌∙◌, Some, None, ap, option_map, get_or, sym}
+use Rattle.nl_base.specs.declared.rule.Rule.TheVariants.{V4}
+use Rattle.net_hier.specs.Design.{top_name}
+use Rattle.vlog_design.specs.Rules.{first_of, refused}
+use Rattle.to_verilog_rules.specs.Found.{object_of}
+use Rattle.to_verilog_rules.specs.Rules.{unwritable_props}
+use Rattle.to_verilog_rules.proofs.Firsts.{property_first, top_is}
+use Rattle.to_verilog_rules.proofs.first.unwritable_property.Goals as goal
+
+pub returns-in-None : goal.returns-in-None
+returns-in-None c =
+    sym (property_first (top_name c.args.hier.now.cells c.args.hier.now.top) c.args.hier.now.props None (sym (ap (option_map object_of) c.in-None.is) ∙ (c.in_props.ensures ∙ ap (λ ps. first_of (unwritable_props ps)) c.props.ensures.props)))
+
+pub returns-in_ok-refuse-in-Some : goal.returns-in_ok-refuse-in-Some
+returns-in_ok-refuse-in-Some c =
+    ap Some (c.in_ok-refuse-in-Some.ensures ∙ ap (λ cell. refused V4 cell (c.in-Some.found.name.now ∷ []))
+    (c.bytes.ensures ∙ sym (top_is c.args.hier.now.cells c.args.hier.now.top c.top.result c.index-cells-top.result c.top.ensures.top c.top.ensures.valid.valid.has_top (ap (λ cs. get_or cs c.top.result c.index-cells-top.result) (sym c.cells.ensures.cells) ∙ sym c.index-cells-top.is))))
+    ∙ sym (property_first (top_name c.args.hier.now.cells c.args.hier.now.top) c.args.hier.now.props (Some c.in-Some.found) (sym (ap (option_map object_of) c.in-Some.is) ∙ (c.in_props.ensures ∙ ap (λ ps. first_of (unwritable_props ps)) c.props.ensures.props)))

@@ -1,0 +1,11 @@
+pub mod Lists
+pub mod Uses
+pub mod Named
+pub mod Widths
+pub mod Declared
+pub mod Places
+pub mod Connected
+pub mod Reached
+pub mod FirstRule
+pub mod Parts
+pub mod CellLaws
