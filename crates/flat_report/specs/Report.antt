@@ -1,5 +1,5 @@
 -- The text of a report. Each part is told before what follows it.
-use Rattle.std.specs.Prelude.{◌≡◌, ℕ, ◌<◌, List, [], ◌∷◌, ◌++◌, Bool, true, false, length, map, slice_get, slice_index_or, Option, Some, None, codes, decimal}
+use Rattle.std.specs.Prelude.{◌≡◌, ℕ, ◌<◌, List, [], ◌∷◌, ◌++◌, Bool, nat_le, if◌then◌else◌, length, map, slice_get, slice_index_or, Option, Some, None, codes, decimal}
 use Rattle.std.specs.Fmt.{signed_decimal}
 use Rattle.std.specs.List.{filter, range_with_len}
 use Rattle.nl_base.specs.Ranges.{Bounds, index_at}
@@ -58,14 +58,17 @@ name_then (Some cell) rest = quoted cell.name rest
 abbrev pub port_of : List HCell → List Spot → ℕ → ℕ → Option HPort
 port_of cells spots spot port = slice_get (ports_at cells spots spot) port
 
--- the line of a terminal, after two blanks
+-- the words of a terminal, after two blanks
+abbrev pub words_then : List HCell → List Spot → List Path → Terminal → List ℕ → List ℕ
+words_then cells spots paths (Port port bit) rest = codes "  port " ++ port_then (port_of cells spots 0 port) bit rest
+words_then cells spots paths (Pin spot port bit) rest = codes "  pin " ++ path_then (path_at paths spot) (codes " " ++ port_then (port_of cells spots spot port) bit rest)
+words_then cells spots paths Zero rest = codes "  zero" ++ rest
+words_then cells spots paths One rest = codes "  one" ++ rest
+
+-- the line of a terminal, if there is one
 abbrev pub terminal_then : List HCell → List Spot → List Path → Option Terminal → List ℕ → List ℕ
 terminal_then cells spots paths None rest = rest
-terminal_then cells spots paths (Some (Port port bit)) rest = codes "  port " ++ port_then (port_of cells spots 0 port) bit (codes "\n" ++ rest)
-terminal_then cells spots paths (Some (Pin spot port bit)) rest =
-    codes "  pin " ++ path_then (path_at paths spot) (codes " " ++ port_then (port_of cells spots spot port) bit (codes "\n" ++ rest))
-terminal_then cells spots paths (Some Zero) rest = codes "  zero" ++ (codes "\n" ++ rest)
-terminal_then cells spots paths (Some One) rest = codes "  one" ++ (codes "\n" ++ rest)
+terminal_then cells spots paths (Some terminal) rest = words_then cells spots paths terminal (codes "\n" ++ rest)
 
 -- the lines of the terminals at these places
 abbrev pub terminals_then : List HCell → List Spot → List Path → List Terminal → List ℕ → List ℕ → List ℕ
@@ -73,15 +76,18 @@ terminals_then cells spots paths terminals [] rest = rest
 terminals_then cells spots paths terminals (place ∷ places) rest =
     terminal_then cells spots paths (slice_get terminals place) (terminals_then cells spots paths terminals places rest)
 
--- a group: the line `net` and the lines of its terminals
-abbrev pub group_then : List HCell → List Spot → List Path → List Terminal → List ℕ → List ℕ → List ℕ
-group_then cells spots paths terminals places rest = codes "net\n" ++ terminals_then cells spots paths terminals places rest
+-- there are two items or more
+abbrev pub has_two : List ℕ → Bool
+has_two places = nat_le 2 (length places)
+
+-- a group of two terminals or more: the line `net` and the lines of its terminals. One terminal alone has no line.
+abbrev pub net_then : List HCell → List Spot → List Path → List Terminal → List ℕ → List ℕ → List ℕ
+net_then cells spots paths terminals places rest = if has_two places then codes "net\n" ++ terminals_then cells spots paths terminals places rest else rest
 
 -- groups, one after the other
-abbrev pub groups_then : List HCell → List Spot → List Path → List Terminal → List (List ℕ) → List ℕ → List ℕ
-groups_then cells spots paths terminals [] rest = rest
-groups_then cells spots paths terminals (places ∷ groups) rest =
-    group_then cells spots paths terminals places (groups_then cells spots paths terminals groups rest)
+abbrev pub nets_then : List HCell → List Spot → List Path → List Terminal → List (List ℕ) → List ℕ → List ℕ
+nets_then cells spots paths terminals [] rest = rest
+nets_then cells spots paths terminals (places ∷ groups) rest = net_then cells spots paths terminals places (nets_then cells spots paths terminals groups rest)
 
 -- the line of a leaf: its path and its cell's name
 abbrev pub leaf_then : List HCell → List Spot → List Path → ℕ → List ℕ → List ℕ
@@ -101,22 +107,16 @@ count_then word count rest = word ++ (codes " " ++ (decimal count ++ (codes "\n"
 abbrev pub design_then : Option HCell → List ℕ → List ℕ
 design_then top rest = codes "design " ++ name_then top (codes "\n" ++ rest)
 
--- there are two items or more
-abbrev pub has_two : List ℕ → Bool
-has_two [] = false
-has_two (place ∷ []) = false
-has_two (place ∷ other ∷ places) = true
-
--- the groups of two or more terminals, by the places of their terminals
-abbrev pub nets_of : FlatValue → List (List ℕ)
-nets_of flat = filter has_two (map (places_of flat.groups) (range_with_len 0 flat.count))
+-- for each group the places of its terminals, in the order of the groups' first terminals
+abbrev pub groups_of : FlatValue → List (List ℕ)
+groups_of flat = map (places_of flat.groups) (range_with_len 0 flat.count)
 
 -- the lines of a report
 abbrev pub report_then : Design → FlatValue → List Path → List ℕ → List ℕ
 report_then design flat paths rest =
     design_then (slice_get design.cells design.top)
     (count_then (codes "leaves") (length flat.leaves) (leaves_then design.cells flat.spots paths flat.leaves
-    (count_then (codes "nets") (length (nets_of flat)) (groups_then design.cells flat.spots paths flat.terminals (nets_of flat) rest))))
+    (count_then (codes "nets") (length (filter has_two (groups_of flat))) (nets_then design.cells flat.spots paths flat.terminals (groups_of flat) rest))))
 
 -- the text is the report of the design
 pub record IsReport (names : ConstantNames) (design : Design) (text : List ℕ) : Type 0 where

@@ -1,17 +1,15 @@
 // The lines that tell terminals, leaves and counts.
 ghost use Rattle.std.specs.Prelude.{ℕ, ◌≡◌, ◌<◌, ◌≤◌, List, All, Some, length, slice_get, nat_abs, ◌^◌};
 ghost use Rattle.flat_classes.specs.Terminals.{AreFlatClasses};
-ghost use Rattle.flat_classes.specs.declared.flat.Terminal.{Terminal as TerminalValue};
+ghost use Rattle.flat_classes.specs.declared.flat.Terminal.TheVariants.{Pin};
 ghost use Rattle.flat_numbers.specs.Numbers.{CellOf};
 ghost use Rattle.flat_numbers.specs.Spots.{AreSpots};
-ghost use Rattle.flat_report.specs.Report.{ArePaths, bit_then, count_then, design_then, index_then, port_of, terminal_then, terminals_then};
+ghost use Rattle.flat_report.specs.Report.{ArePaths, bit_then, count_then, design_then, index_then, port_of, port_then, terminal_then, terminals_then, words_then};
 ghost use Rattle.flat_report.specs.Ways.{IsTerminal};
-ghost use Rattle.nl_base.specs.Ranges.{range_bits};
-ghost use Rattle.net_hier.specs.Cells.{width_of};
+ghost use Rattle.net_hier.specs.Cells.{IsPortBit, width_of};
 ghost use Rattle.net_hier.specs.Constants.{ConstantNames};
 ghost use Rattle.net_hier.specs.Paths.{Path};
 ghost use Rattle.net_hier.specs.declared.cells.HCell.{HCell as CellValue};
-ghost use Rattle.net_hier.specs.declared.cells.HPort.{HPort as PortValue};
 ghost use Rattle.nl_output.specs.Writing.{Puts, state};
 
 use crate::path::put_path;
@@ -62,8 +60,85 @@ fn port_at<'a>(hier: &'a Hier, spots: &[Spot], spot: u32, port: u32) -> &'a HPor
         (port < length cell.ports) }
     ensures { port_of hier.now.cells spots.now spot port ≡ Some result.now }
 {
+    let cells = hier.cells();
     let cell = spots[spot as usize].cell;
-    &hier.cells()[cell as usize].ports.items()[port as usize]
+    &cells[cell as usize].ports.items()[port as usize]
+}
+
+/// Puts the name of a port of the cell at a spot, and the index of the bit where it has a range.
+fn put_port_bit<O: Sink>(
+    hier: &Hier,
+    spots: &[Spot],
+    spot: u32,
+    port: u32,
+    bit: u32,
+    output: &mut Output,
+    sink: &mut O,
+)
+    requires { (cell : CellValue) × CellOf hier.now.cells spots.now spot cell ×
+        IsPortBit cell port bit }
+    ensures { Puts (port_then (port_of hier.now.cells spots.now spot port) bit)
+        (state O.taken O.accepts O.faults sink.old output.old)
+        (state O.taken O.accepts O.faults sink.new output.new) }
+{
+    let port = port_at(hier, spots, spot, port);
+    put_bit(port, bit, output, sink);
+}
+
+/// Puts the words of a pin, after two blanks.
+fn put_pin<O: Sink>(
+    hier: &Hier,
+    spots: &[Spot],
+    spot: u32,
+    port: u32,
+    bit: u32,
+    room: &mut [u32],
+    output: &mut Output,
+    sink: &mut O,
+)
+    requires spots { AreSpots hier.now spots.now }
+    requires is_pin { (cell : CellValue) × CellOf hier.now.cells spots.now spot cell ×
+        IsPortBit cell port bit }
+    requires room { length spots.now ≤ length room.old }
+    ensures { (paths : List Path) → ArePaths hier.now.cells spots.now paths →
+        Puts (words_then hier.now.cells spots.now paths (Pin spot port bit))
+        (state O.taken O.accepts O.faults sink.old output.old)
+        (state O.taken O.accepts O.faults sink.new output.new) }
+{
+    output.put(b"  pin ", sink);
+    put_path(hier, spots, spot, room, output, sink);
+    output.put(b" ", sink);
+    put_port_bit(hier, spots, spot, port, bit, output, sink);
+}
+
+/// Puts the words of a terminal, after two blanks.
+fn put_words<O: Sink>(
+    hier: &Hier,
+    spots: &[Spot],
+    terminal: Terminal,
+    room: &mut [u32],
+    output: &mut Output,
+    sink: &mut O,
+)
+    requires spots { AreSpots hier.now spots.now }
+    requires terminal { IsTerminal hier.now.cells spots.now terminal }
+    requires room { length spots.now ≤ length room.old }
+    ensures { (paths : List Path) → ArePaths hier.now.cells spots.now paths →
+        Puts (words_then hier.now.cells spots.now paths terminal)
+        (state O.taken O.accepts O.faults sink.old output.old)
+        (state O.taken O.accepts O.faults sink.new output.new) }
+{
+    match terminal {
+        Terminal::Port { port, bit } => {
+            output.put(b"  port ", sink);
+            put_port_bit(hier, spots, 0, port, bit, output, sink);
+        }
+        Terminal::Pin { spot, port, bit } => {
+            put_pin(hier, spots, spot, port, bit, room, output, sink);
+        }
+        Terminal::Zero => output.put(b"  zero", sink),
+        Terminal::One => output.put(b"  one", sink),
+    }
 }
 
 /// Puts the line of a terminal, after two blanks.
@@ -83,20 +158,7 @@ pub fn put_terminal<O: Sink>(
         (state O.taken O.accepts O.faults sink.old output.old)
         (state O.taken O.accepts O.faults sink.new output.new) }
 {
-    match terminal {
-        Terminal::Port { port, bit } => {
-            output.put(b"  port ", sink);
-            put_bit(port_at(hier, spots, 0, port), bit, output, sink);
-        }
-        Terminal::Pin { spot, port, bit } => {
-            output.put(b"  pin ", sink);
-            put_path(hier, spots, spot, room, output, sink);
-            output.put(b" ", sink);
-            put_bit(port_at(hier, spots, spot, port), bit, output, sink);
-        }
-        Terminal::Zero => output.put(b"  zero", sink),
-        Terminal::One => output.put(b"  one", sink),
-    }
+    put_words(hier, spots, terminal, room, output, sink);
     output.put(b"\n", sink);
 }
 

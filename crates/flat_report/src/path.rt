@@ -42,13 +42,7 @@ fn instance_name<'a>(hier: &'a Hier, spots: &[Spot], spot: u32) -> &'a [u8]
 }
 
 /// Puts the names of the spots, the last first, each with `/` behind it.
-fn put_above<O: Sink>(
-    hier: &Hier,
-    spots: &[Spot],
-    above: &[u32],
-    output: &mut Output,
-    sink: &mut O,
-)
+fn put_above<O: Sink>(hier: &Hier, spots: &[Spot], above: &[u32], output: &mut Output, sink: &mut O)
     requires { AreInner hier.now.cells spots.now above.now }
     ensures { Puts (names_then (map (instance_name hier.now.cells spots.now) above.now))
         (state O.taken O.accepts O.faults sink.old output.old)
@@ -63,13 +57,7 @@ fn put_above<O: Sink>(
 }
 
 /// Puts the path of the spots from one up to the top.
-fn put_way<O: Sink>(
-    hier: &Hier,
-    spots: &[Spot],
-    way: &[u32],
-    output: &mut Output,
-    sink: &mut O,
-)
+fn put_way<O: Sink>(hier: &Hier, spots: &[Spot], way: &[u32], output: &mut Output, sink: &mut O)
     requires { AreInner hier.now.cells spots.now way.now }
     ensures { Puts (path_then (map (instance_name hier.now.cells spots.now) way.now))
         (state O.taken O.accepts O.faults sink.old output.old)
@@ -100,6 +88,7 @@ pub fn put_path<O: Sink>(
         (state O.taken O.accepts O.faults sink.old output.old)
         (state O.taken O.accepts O.faults sink.new output.new) }
 {
+    let _cells = hier.cells();
     let count = way_up(spots, spot, room);
     put_way(hier, spots, &room[..count], output, sink);
 }

@@ -1,13 +1,11 @@
 // The report.
-ghost use Rattle.std.specs.Prelude.{ℕ, ◌≡◌, ◌<◌, ◌≤◌, ◌×◌, List, All, Contains, filter, length, map, slice_get};
-ghost use Rattle.flat_classes.specs.FlatFaults.{IsFlatFault};
+ghost use Rattle.std.specs.Prelude.{ℕ, ◌≡◌, ◌<◌, ◌≤◌, List, [], All, IfOk, filter, length, map, slice_get};
 ghost use Rattle.flat_classes.specs.Groups.{AreMembers};
 ghost use Rattle.flat_classes.specs.Terminals.{AreFlatClasses};
-ghost use Rattle.flat_classes.specs.declared.flat.FlatFault.TheVariants.{TooLarge, NoMemory as NoMemoryThere};
 ghost use Rattle.flat_numbers.specs.Spots.{AreSpots};
-ghost use Rattle.flat_report.specs.Report.{ArePaths, groups_then, has_two, leaf_then, leaves_then, report_then};
+ghost use Rattle.flat_report.specs.Report.{ArePaths, has_two, leaf_then, leaves_then, net_then, nets_then, report_then};
 ghost use Rattle.flat_report.specs.Reports.{Reports};
-ghost use Rattle.flat_report.specs.declared.reporting.ReportError.TheVariants.{FlatTooLarge, NoMemory};
+ghost use Rattle.flat_report.specs.declared.reporting.ReportError.TheVariants.{NoMemory};
 ghost use Rattle.net_hier.specs.Constants.{ConstantNames};
 ghost use Rattle.net_hier.specs.Paths.{Path};
 ghost use Rattle.nl_output.specs.Writing.{Puts, Writes, state};
@@ -93,21 +91,21 @@ fn put_leaves<O: Sink>(
 fn has_two(places: &[u32]) -> bool
     ensures { result ≡ has_two places.now }
 {
-    match places {
-        [_, _, ..] => true,
-        _ => false,
-    }
+    2 <= places.len()
 }
 
 /// How many of the lists have two items or more.
 fn groups_of_two(members: &[Vec<u32>]) -> usize
-    ensures { result ≡ length (filter has_two (map (λ list. list.items) members.now)) }
+    ensures { result ≡ length (filter (λ list. has_two list.items) members.now) }
 {
-    members.iter().filter(|places| has_two(places.as_slice())).count()
+    members
+        .iter()
+        .filter(|list| has_two(list.as_slice()))
+        .count()
 }
 
-/// Puts a group: the line `net` and the terminals at these places.
-fn put_group<O: Sink>(
+/// Puts a group of two terminals or more: the line `net` and the terminals at these places.
+fn put_net<O: Sink>(
     hier: &Hier,
     flat: &Flat,
     places: &[u32],
@@ -119,16 +117,19 @@ fn put_group<O: Sink>(
     requires places { All (λ place. place < length flat.now.terminals) places.now }
     requires room { length flat.now.spots ≤ length room.old }
     ensures { (paths : List Path) → ArePaths hier.now.cells flat.now.spots paths →
-        Puts (group_then hier.now.cells flat.now.spots paths flat.now.terminals places.now)
+        Puts (net_then hier.now.cells flat.now.spots paths flat.now.terminals places.now)
         (state O.taken O.accepts O.faults sink.old output.old)
         (state O.taken O.accepts O.faults sink.new output.new) }
 {
+    if !has_two(places) {
+        return;
+    }
     output.put(b"net\n", sink);
     put_terminals(hier, flat, places, room, output, sink);
 }
 
 /// Puts the groups of two terminals or more.
-fn put_groups<O: Sink>(
+fn put_nets<O: Sink>(
     hier: &Hier,
     flat: &Flat,
     members: &[Vec<u32>],
@@ -141,15 +142,13 @@ fn put_groups<O: Sink>(
         (map (λ list. list.items) members.now) }
     requires room { length flat.now.spots ≤ length room.old }
     ensures { (paths : List Path) → ArePaths hier.now.cells flat.now.spots paths →
-        Puts (groups_then hier.now.cells flat.now.spots paths flat.now.terminals
-            (filter has_two (map (λ list. list.items) members.now)))
+        Puts (nets_then hier.now.cells flat.now.spots paths flat.now.terminals
+        (map (λ list. list.items) members.now))
         (state O.taken O.accepts O.faults sink.old output.old)
         (state O.taken O.accepts O.faults sink.new output.new) }
 {
     for places in members {
-        if has_two(places.as_slice()) {
-            put_group(hier, flat, places.as_slice(), room, output, sink);
-        }
+        put_net(hier, flat, places.as_slice(), room, output, sink);
     }
 }
 
@@ -175,7 +174,7 @@ fn put_report<O: Sink>(
     put_count(b"leaves", flat.leaves().len(), output, sink);
     put_leaves(hier, flat.spots(), flat.leaves(), room, output, sink);
     put_count(b"nets", groups_of_two(members), output, sink);
-    put_groups(hier, flat, members, room, output, sink);
+    put_nets(hier, flat, members, room, output, sink);
 }
 
 /// Writes the lines of a report.
@@ -192,12 +191,20 @@ fn write_report<O: Sink>(
     requires room { length flat.now.spots ≤ length room.old }
     ensures { (paths : List Path) → ArePaths hier.now.cells flat.now.spots paths →
         Writes O.taken O.accepts O.faults sink.old sink.new (report_then hier.now flat.now paths [])
-            result }
+        result }
 {
     let mut output = Output::new();
     put_report(hier, flat, members, room, &mut output, sink);
     let result = output.finish(sink);
     result
+}
+
+/// Room for a place for each spot.
+fn room_for(alloc: Global, spots: &[Spot]) -> Result<Vec<u32>, NoMemory>
+    ensures { IfOk result (λ room. length room.items ≡ length spots.now) }
+{
+    let room = vec![in alloc; 0; spots.len()]?;
+    Ok(room)
 }
 
 /// Puts the report of a design: its leaves that are no constant cells, and the groups of two or
@@ -210,13 +217,14 @@ pub fn report<O: Sink>(
 ) -> Result<(), ReportError>
     ensures { Reports O.taken O.accepts O.faults constants.now hier.now sink.old sink.new result }
 {
+    let _cells = hier.cells();
     let flat = match Flat::of(alloc, hier, constants) {
         Ok(flat) => flat,
         Err(FlatFault::TooLarge(count)) => return Err(ReportError::FlatTooLarge(count)),
         Err(FlatFault::NoMemory) => return Err(ReportError::NoMemory),
     };
     let members = flat.members(alloc)?;
-    let mut room = vec![in alloc; 0; flat.spots().len()]?;
+    let mut room = room_for(alloc, flat.spots())?;
     match write_report(hier, &flat, members.as_slice(), &mut room, sink) {
         Ok(()) => Ok(()),
         Err(_) => Err(ReportError::Failed),
