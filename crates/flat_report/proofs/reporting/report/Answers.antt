@@ -15,8 +15,7 @@ returns-in-Ok-write_report g c =
 
 pub returns : goal.returns
 returns g c =
-    let paths = some_paths c.args.hier.now c.cells-cells.ensures.valid.valid c.in-Ok.flat.spots c.in-Ok.ensures.classes.0.are_spots in
-    (
+    let paths = some_paths c.args.hier.now c.cells-cells.ensures.valid.valid c.in-Ok.flat.spots c.in-Ok.ensures.classes.0.are_spots in (
       c.in-Err.field-0,
       record {
         few = c.in-Ok.ensures.classes.1;
