@@ -1,0 +1,3 @@
+pub mod AddedLaws
+pub mod InstanceLaws
+pub mod PortLaws

@@ -1,0 +1,8 @@
+use Rattle.edif_parts.proofs.InstanceLaws.{face_read, ident_read}
+use Rattle.edif_parts.proofs.instance.instance_of.Goals as goal
+
+pub returns-clause-ident : goal.returns-clause-ident
+returns-clause-ident c = ident_read _ _ _ _ _ c.in_ok-made.ensures.made
+
+pub returns-clause-face : goal.returns-clause-face
+returns-clause-face c = face_read _ _ _ _ _ c.in_ok-made.ensures.made

@@ -1,0 +1,17 @@
+use Rattle.std.proofs.Common.{refl, rules, arith}
+use Rattle.edif_nets.specs.Values.{IsInstance}
+use Rattle.edif_plans.specs.Faces.{instance_face, instance_ident, own_face}
+use Rattle.edif_plans.specs.Sound.{IsSoundInstance}
+use Rattle.edif_plans.proofs.Lists.{all_turn, is_at, item_turn, map_turn}
+use Rattle.edif_parts.proofs.instances.own_instances.Goals as goal
+
+pub own_instance-requires : goal.own_instance-requires
+own_instance-requires c = c.requires.heads c.loop-place.place c.index-instances-place.result (is_at c.args.instances.now c.loop-place.place c.index-instances-place.result c.index-instances-place.result c.loop-place-test.true (search rules))
+
+pub loop-place-preserved : goal.loop-place-preserved
+loop-place-preserved c = record {
+  idents = item_turn instance_ident c.args.idents.now c.loop-place.place _ c.index-idents-place.result c.index-idents-place.result _ _ c.in_ok-instance.instance _
+      (omega (arith, c.requires.idents, c.loop-place-test.true)) (search rules) c.loop-place.invariant.idents c.in_ok-push.ensures.items c.in_ok-instance.ensures.ident refl;
+  faces = map_turn instance_face (own_face c.args.plan.now) c.args.instances.now c.loop-place.place c.index-instances-place.result c.index-instances-place.result _ _ c.in_ok-instance.instance _ c.loop-place-test.true (search rules) c.loop-place.invariant.faces c.in_ok-push.ensures.items c.in_ok-instance.ensures.face;
+  sound = all_turn IsSoundInstance IsInstance c.args.instances.now c.loop-place.place c.index-instances-place.result c.index-instances-place.result _ _ c.in_ok-instance.instance c.loop-place-test.true (search rules) c.loop-place.invariant.sound c.in_ok-push.ensures.items c.in_ok-instance.ensures.sound;
+}

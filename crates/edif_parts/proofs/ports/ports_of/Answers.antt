@@ -1,0 +1,15 @@
+use Rattle.std.proofs.Common.{◌<◌, subst, sym, refl, rules}
+use Rattle.edif_design.specs.CellRules.{port_ident}
+use Rattle.edif_nets.specs.Values.{IsPort}
+use Rattle.edif_plans.specs.Faces.{face_for, face_of}
+use Rattle.edif_plans.specs.Sound.{IsSoundPort}
+use Rattle.edif_plans.proofs.Lists.{all_turn, item_turn, map_turn}
+use Rattle.edif_parts.proofs.ports.ports_of.Goals as goal
+
+pub loop-place-preserved : goal.loop-place-preserved
+loop-place-preserved c = record {
+  idents = item_turn port_ident c.args.idents.now c.loop-place.place _ c.index-idents-place.result c.index-idents-place.result _ _ c.in_ok-port.port _
+      (subst (λ n. c.loop-place.place < n) (sym c.requires) c.loop-place-test.true) (search rules) c.loop-place.invariant.idents c.in_ok-push.ensures.items c.in_ok-port.ensures.ident refl;
+  faces = map_turn face_of face_for c.args.ports.now c.loop-place.place c.index-ports-place.result c.index-ports-place.result _ _ c.in_ok-port.port _ c.loop-place-test.true (search rules) c.loop-place.invariant.faces c.in_ok-push.ensures.items c.in_ok-port.ensures.face;
+  sound = all_turn IsSoundPort IsPort c.args.ports.now c.loop-place.place c.index-ports-place.result c.index-ports-place.result _ _ c.in_ok-port.port c.loop-place-test.true (search rules) c.loop-place.invariant.sound c.in_ok-push.ensures.items c.in_ok-port.ensures.sound;
+}

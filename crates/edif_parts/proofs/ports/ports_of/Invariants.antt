@@ -1,0 +1,14 @@
+use Rattle.std.proofs.Common.{◌≡◌, ◌++◌, drop, map}
+use Rattle.std.specs.List.{AllByRecursion}
+use Rattle.edif_design.specs.CellRules.{port_ident}
+use Rattle.edif_nets.specs.Values.{IsPort}
+use Rattle.edif_plans.specs.Faces.{face_for, face_of}
+use Rattle.edif_plans.specs.Sound.{IsSoundPort}
+use Rattle.edif_parts.proofs.ports.ports_of.Given as goal
+
+abbrev pub invariant-loop-place : goal.invariant-loop-place
+invariant-loop-place l = record {
+  idents : map port_ident l.made.items ++ drop l.place l.idents ≡ l.idents;
+  faces : map face_of l.made.items ++ map face_for (drop l.place l.ports) ≡ map face_for l.ports;
+  sound : AllByRecursion IsSoundPort l.ports → AllByRecursion IsPort l.made.items;
+}

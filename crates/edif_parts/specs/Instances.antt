@@ -1,0 +1,11 @@
+-- The instances that are written (EDIF 2 0 0, instance, viewRef, cellRef, libraryRef).
+use Rattle.std.specs.Prelude.{ℕ, List, map, Some}
+use Rattle.edif_names.specs.declared.property.Property.{Property}
+use Rattle.edif_nets.specs.declared.instance.Instance.{Instance}
+use Rattle.edif_nets.specs.declared.instance.InstanceItem.TheVariants as instance_items
+use Rattle.edif_naming.specs.Naming.{name_for}
+use Rattle.edif_written.specs.Written.{netlist, work}
+
+-- the instance of this identifier, name, cell and properties
+abbrev pub instance_for : List ℕ → List ℕ → List ℕ → List Property → Instance
+instance_for ident name cell properties = record { name = name_for ident name; view = netlist; cell = cell; library = Some work; items = map instance_items.Property properties }

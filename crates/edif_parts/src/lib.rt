@@ -1,0 +1,18 @@
+// The ports and instances of a cell that is written in EDIF.
+//
+// The public contract in plain words: `ports_of` makes the ports of a cell, each with its name, range, direction and the last value of each
+// of its properties. `Instances::of_cell` gives identifiers to the instances of a cell and to one that is added for each constant that the
+// cell needs, under a name that no other instance has; `instances_of` makes them. Only want of memory keeps them from that.
+//
+// EDIF 2 0 0: port, direction, instance, viewRef, cellRef, libraryRef.
+#![tactic(auto)]
+
+pub mod added;
+pub mod instance;
+pub mod instances;
+pub mod ports;
+
+pub use added::instances_with;
+pub use instance::{library_ident, view_ident};
+pub use instances::instances_of;
+pub use ports::{interface_of, output_port, ports_of};

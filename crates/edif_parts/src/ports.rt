@@ -1,0 +1,92 @@
+// The ports of a cell.
+ghost use Rattle.std.specs.Prelude.{◌≡◌, ◌∷◌, [], length, map, IfOk};
+ghost use Rattle.std.specs.List.{AllByRecursion};
+ghost use Rattle.nl_base.specs.declared.value.Dir.TheVariants as dirs;
+ghost use Rattle.edif_names.specs.Values.{IsProperty};
+ghost use Rattle.edif_nets.specs.Values.{IsPort};
+ghost use Rattle.edif_nets.specs.declared.port.PortItem.TheVariants as port_items;
+ghost use Rattle.edif_library.specs.declared.view.InterfaceItem.TheVariants as interface_items;
+ghost use Rattle.edif_design.specs.CellRules.{port_ident};
+ghost use Rattle.net_live.specs.Last.{last_of as last_values_of};
+ghost use Rattle.edif_naming.specs.Naming.{value_of};
+ghost use Rattle.edif_naming.specs.Sound.{AreSoundProps};
+ghost use Rattle.edif_plans.specs.Faces.{face_for, face_of};
+ghost use Rattle.edif_plans.specs.Sound.{IsSoundPort};
+
+use edif_library::InterfaceItem;
+use edif_names::{PortName, Property};
+use edif_naming::{port_named, properties_of};
+use edif_nets::{Port, PortItem};
+use net_hier::HPort;
+use net_live::last_of;
+use nl_base::{Dir, Ident, NoMemory, Seq};
+use std::alloc::Global;
+
+/// The parts of a port: its direction and its properties.
+fn port_items(alloc: Global, dir: Dir, properties: Vec<Property>) -> Result<Seq<PortItem>, NoMemory>
+    ensures { IfOk result (λ items. items ≡ port_items.Direction dir ∷ map port_items.Property properties.items) }
+{
+    let mut items = Seq::empty(alloc);
+    items.push(PortItem::Direction(dir))?;
+    for property in properties {
+        items.push(PortItem::Property(property))?;
+    }
+    Ok(items)
+}
+
+/// The properties of a port, the last value of each name.
+#[tactic(auto, using(crate::proofs::PortLaws::seen_sound))]
+fn port_properties(alloc: Global, port: &HPort) -> Result<Vec<Property>, NoMemory>
+    ensures values { IfOk result (λ made. map value_of made.items ≡ last_values_of port.now.props) }
+    ensures sound { AreSoundProps port.now.props → IfOk result (λ made. AllByRecursion IsProperty made.items) }
+{
+    let props = last_of(alloc, port.props.items())?;
+    let properties = properties_of(alloc, props.as_slice())?;
+    Ok(properties)
+}
+
+/// The port with this identifier.
+fn port_of(alloc: Global, ident: &Ident, port: &HPort) -> Result<Port, NoMemory>
+    ensures ident { IfOk result (λ made. port_ident made ≡ ident.now) }
+    ensures face { IfOk result (λ made. face_of made ≡ face_for port.now) }
+    ensures sound { IsSoundPort port.now → IfOk result IsPort }
+{
+    let name = port_named(alloc, ident, port)?;
+    let properties = port_properties(alloc, port)?;
+    let items = port_items(alloc, port.dir, properties)?;
+    Ok(Port { name, items })
+}
+
+/// The ports of a cell, which have these identifiers.
+pub fn ports_of(alloc: Global, idents: &[Ident], ports: &[HPort]) -> Result<Vec<Port>, NoMemory>
+    requires { length idents.now ≡ length ports.now }
+    ensures idents { IfOk result (λ made. map port_ident made.items ≡ idents.now) }
+    ensures faces { IfOk result (λ made. map face_of made.items ≡ map face_for ports.now) }
+    ensures sound { AllByRecursion IsSoundPort ports.now → IfOk result (λ made. AllByRecursion IsPort made.items) }
+{
+    let mut made = Vec::new(alloc);
+    for place in 0..ports.len() {
+        let port = port_of(alloc, &idents[place], &ports[place])?;
+        made.push(port)?;
+    }
+    Ok(made)
+}
+
+/// The interface of these ports.
+pub fn interface_of(alloc: Global, ports: Vec<Port>) -> Result<Seq<InterfaceItem>, NoMemory>
+    ensures { IfOk result (λ items. items ≡ map interface_items.Port ports.items) }
+{
+    let mut items = Seq::empty(alloc);
+    for port in ports {
+        items.push(InterfaceItem::Port(port))?;
+    }
+    Ok(items)
+}
+
+/// The port of this name, a scalar output without properties.
+pub fn output_port(alloc: Global, name: PortName) -> Result<Port, NoMemory>
+    ensures { IfOk result (λ made. made ≡ record { name = name; items = port_items.Direction dirs.Output ∷ [] }) }
+{
+    let items = port_items(alloc, Dir::Output, Vec::new(alloc))?;
+    Ok(Port { name, items })
+}

@@ -1,0 +1,5 @@
+pub mod Faces
+pub mod Made
+pub mod Plans
+pub mod References
+pub mod Sound

@@ -1,0 +1,5 @@
+pub mod GroupTexts
+pub mod OneReport
+pub mod PathTexts
+pub mod TerminalFacts
+pub mod WayLaws
