@@ -14,7 +14,7 @@ use Rattle.netlist_cli.specs.declared.failure.Failure.{Failure}
 use Rattle.netlist_cli.specs.declared.failure.Failure.TheVariants as failures
 use Rattle.netlist_cli.specs.Outcomes.{FileLanguage, Meaning, Verdict, fine}
 use Rattle.netlist_cli.specs.Meanings.{meaning}
-use Rattle.netlist_cli.specs.Runs.{PutsText, TakesFrom, IsFailureOf, Does}
+use Rattle.netlist_cli.specs.Runs.{TakesFrom, IsFailureOf, Does}
 use Rattle.netlist_cli.specs.Statuses.{failure_of, after_writing}
 
 module _ {K X V : Type 0} (L : Language X) (trail : X → Reason) (k : K) (part : PartOf K X V) where

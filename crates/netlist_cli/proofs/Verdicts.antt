@@ -14,7 +14,7 @@ use Rattle.vlog_design.specs.Rules.{first_G}
 use Rattle.vlog_elab.specs.Answers as verilog
 use Rattle.vlog_values.specs.declared.module.VlogFile.{VlogFile}
 use Rattle.netlist_cli.specs.Meanings.{edif_verdict, verilog_verdict}
-use Rattle.netlist_cli.specs.Outcomes.{Verdict, fine, breaks, exceeds, or_refused, or_too_big}
+use Rattle.netlist_cli.specs.Outcomes.{Verdict, breaks, exceeds, or_refused, or_too_big}
 
 passes : (count : ℕ) → unit_limit < count → nat_lt unit_limit count ≡ true
 passes count lt = grind (arith, lt)

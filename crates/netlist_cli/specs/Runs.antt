@@ -14,7 +14,7 @@ use Rattle.netlist_cli.specs.declared.status.Status.{Status}
 use Rattle.netlist_cli.specs.declared.status.Status.TheVariants as statuses
 use Rattle.netlist_cli.specs.Statuses.{status_of}
 use Rattle.netlist_cli.specs.Lines.{line}
-use Rattle.netlist_cli.specs.Outcomes.{Meaning, Verdict, fine, breaks, exceeds, Outcome, faulty, too_long, judged, status_due, IsWriting, Says, Gives, IsTextFrom}
+use Rattle.netlist_cli.specs.Outcomes.{Meaning, Verdict, breaks, exceeds, Outcome, faulty, too_long, status_due, IsWriting, Says, Gives, IsTextFrom}
 use Rattle.netlist_cli.specs.Meanings.{meaning_of}
 
 -- The input was read to its end, and this is how the writing of a text that may be written went.

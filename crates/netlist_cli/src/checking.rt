@@ -29,8 +29,11 @@ pub fn check<S: Source, O: Sink>(
     input: &mut S,
     output: &mut O,
 ) -> Result<(), Failure>
-    ensures does { Does O.taken O.accepts O.faults (meaning_of commands.Check) (supply S.left S.faults input.old) (supply S.left S.faults input.new) output.old output.new result }
-    ensures taken { TakesFrom (supply S.left S.faults input.old) (supply S.left S.faults input.new) }
+    ensures does { Does O.taken O.accepts O.faults (meaning_of commands.Check)
+        (supply S.left S.faults input.old) (supply S.left S.faults input.new)
+        output.old output.new result }
+    ensures taken { TakesFrom
+        (supply S.left S.faults input.old) (supply S.left S.faults input.new) }
 {
     match read_sized_edif(alloc, input) {
         Ok(file) => match design_of(alloc, &file) {
@@ -51,8 +54,11 @@ pub fn check_top<S: Source, O: Sink>(
     input: &mut S,
     output: &mut O,
 ) -> Result<(), Failure>
-    ensures does { Does O.taken O.accepts O.faults (meaning_of (commands.CheckTop top.now)) (supply S.left S.faults input.old) (supply S.left S.faults input.new) output.old output.new result }
-    ensures taken { TakesFrom (supply S.left S.faults input.old) (supply S.left S.faults input.new) }
+    ensures does { Does O.taken O.accepts O.faults (meaning_of (commands.CheckTop top.now))
+        (supply S.left S.faults input.old) (supply S.left S.faults input.new)
+        output.old output.new result }
+    ensures taken { TakesFrom
+        (supply S.left S.faults input.old) (supply S.left S.faults input.new) }
 {
     match read_sound_vlog(alloc, input) {
         Ok(file) => match design_under(alloc, &file, top) {

@@ -63,7 +63,8 @@ fn if_none_left(words: &[Text], asked: Command) -> Option<Command>
 
 /// `check`, with these words behind it.
 fn check_of(alloc: Global, words: &[Text]) -> Result<Option<Command>, NoMemory>
-    ensures { MatchResult result (λ found. found ≡ check_of words.now) (λ _. IsSome (check_of words.now)) }
+    ensures { MatchResult result (λ found. found ≡ check_of words.now)
+        (λ _. IsSome (check_of words.now)) }
 {
     let taken = take_option(b"--top", words);
     if !taken.rest.is_empty() {
@@ -81,7 +82,8 @@ fn check_of(alloc: Global, words: &[Text]) -> Result<Option<Command>, NoMemory>
 impl Command {
     /// The command whose form the words have. Memory may run out only where they have that of one.
     pub fn of(alloc: Global, words: &Seq<Text>) -> Result<Option<Command>, NoMemory>
-        ensures { MatchResult result (λ found. found ≡ command words.now) (λ _. IsSome (command words.now)) }
+        ensures { MatchResult result (λ found. found ≡ command words.now)
+            (λ _. IsSome (command words.now)) }
     {
         let [word, options @ ..] = words.items() else {
             return Ok(None);

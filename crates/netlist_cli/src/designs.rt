@@ -24,7 +24,9 @@ use vlog_values::VlogFile;
 /// The design of an EDIF file, or why it has none, whatever else is asked of it.
 pub fn design_of(alloc: Global, file: &EdifFile) -> Result<Hier, Failure>
     requires { edif_size file.now ≤ count_limit }
-    ensures { MatchResult result (IsEdifDesign file.now) (λ failure. (otherwise : EdifValue → Verdict) → IsFailureOf (edif_verdict otherwise file.now) failure) }
+    ensures { MatchResult result (IsEdifDesign file.now)
+        (λ failure. (otherwise : EdifValue → Verdict)
+        → IsFailureOf (edif_verdict otherwise file.now) failure) }
 {
     match resolve(alloc, file) {
         Ok(design) => Ok(design),
@@ -40,7 +42,9 @@ pub fn design_of(alloc: Global, file: &EdifFile) -> Result<Hier, Failure>
 pub fn design_under(alloc: Global, file: &VlogFile, top: &Text) -> Result<Hier, Failure>
     requires value { IsVlogValue file.now }
     requires small { vlog_size file.now ≤ count_limit }
-    ensures { MatchResult result (IsVlogDesign file.now top.now) (λ failure. (otherwise : VlogValue → Verdict) → IsFailureOf (verilog_verdict top.now otherwise file.now) failure) }
+    ensures { MatchResult result (IsVlogDesign file.now top.now)
+        (λ failure. (otherwise : VlogValue → Verdict)
+        → IsFailureOf (verilog_verdict top.now otherwise file.now) failure) }
 {
     match elaborate(alloc, file, top) {
         Ok(design) => Ok(design),

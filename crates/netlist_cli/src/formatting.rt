@@ -17,8 +17,11 @@ pub fn format<S: Source, O: Sink>(
     input: &mut S,
     output: &mut O,
 ) -> Result<(), Failure>
-    ensures does { Does O.taken O.accepts O.faults (meaning_of commands.Format) (supply S.left S.faults input.old) (supply S.left S.faults input.new) output.old output.new result }
-    ensures taken { TakesFrom (supply S.left S.faults input.old) (supply S.left S.faults input.new) }
+    ensures does { Does O.taken O.accepts O.faults (meaning_of commands.Format)
+        (supply S.left S.faults input.old) (supply S.left S.faults input.new)
+        output.old output.new result }
+    ensures taken { TakesFrom
+        (supply S.left S.faults input.old) (supply S.left S.faults input.new) }
 {
     match read_edif(alloc, input) {
         Ok(file) => {
@@ -35,8 +38,11 @@ pub fn vformat<S: Source, O: Sink>(
     input: &mut S,
     output: &mut O,
 ) -> Result<(), Failure>
-    ensures does { Does O.taken O.accepts O.faults (meaning_of commands.Vformat) (supply S.left S.faults input.old) (supply S.left S.faults input.new) output.old output.new result }
-    ensures taken { TakesFrom (supply S.left S.faults input.old) (supply S.left S.faults input.new) }
+    ensures does { Does O.taken O.accepts O.faults (meaning_of commands.Vformat)
+        (supply S.left S.faults input.old) (supply S.left S.faults input.new)
+        output.old output.new result }
+    ensures taken { TakesFrom
+        (supply S.left S.faults input.old) (supply S.left S.faults input.new) }
 {
     match read_vlog(alloc, input) {
         Ok(file) => {

@@ -17,7 +17,9 @@ const USAGE: &[u8] =
 
 /// Puts a reason by its name, and behind a blank the word that it carries.
 fn put_reason<E: Sink>(reason: &Reason, output: &mut Output, errors: &mut E)
-    ensures { Puts (reason_then reason.now) (state E.taken E.accepts E.faults errors.old output.old) (state E.taken E.accepts E.faults errors.new output.new) }
+    ensures { Puts (reason_then reason.now)
+        (state E.taken E.accepts E.faults errors.old output.old)
+        (state E.taken E.accepts E.faults errors.new output.new) }
 {
     output.put(reason.name(), errors);
     if let Some(word) = reason.word() {
@@ -28,7 +30,9 @@ fn put_reason<E: Sink>(reason: &Reason, output: &mut Output, errors: &mut E)
 
 /// Puts a fault of the text with its place.
 fn put_fault<E: Sink>(fault: &TextFault, output: &mut Output, errors: &mut E)
-    ensures { Puts (fault_then fault.now) (state E.taken E.accepts E.faults errors.old output.old) (state E.taken E.accepts E.faults errors.new output.new) }
+    ensures { Puts (fault_then fault.now)
+        (state E.taken E.accepts E.faults errors.old output.old)
+        (state E.taken E.accepts E.faults errors.new output.new) }
 {
     output.put(b"fault ", errors);
     output.put_u64(fault.place.line, errors);
@@ -40,7 +44,9 @@ fn put_fault<E: Sink>(fault: &TextFault, output: &mut Output, errors: &mut E)
 
 /// Puts the names of a refusal, each after a blank. There are few.
 fn put_names<E: Sink>(names: &[Text], output: &mut Output, errors: &mut E)
-    ensures { Puts (names_then names.now) (state E.taken E.accepts E.faults errors.old output.old) (state E.taken E.accepts E.faults errors.new output.new) }
+    ensures { Puts (names_then names.now)
+        (state E.taken E.accepts E.faults errors.old output.old)
+        (state E.taken E.accepts E.faults errors.new output.new) }
 {
     if let [first, others @ ..] = names {
         output.put(b" ", errors);
@@ -52,7 +58,9 @@ fn put_names<E: Sink>(names: &[Text], output: &mut Output, errors: &mut E)
 /// Puts a refusal by its rule, its cell and its names.
 #[tactic(auto, unfolding(crate::specs::Lines::refusal_then))]
 fn put_refusal<E: Sink>(refusal: &Refusal, output: &mut Output, errors: &mut E)
-    ensures { Puts (refusal_then refusal.now) (state E.taken E.accepts E.faults errors.old output.old) (state E.taken E.accepts E.faults errors.new output.new) }
+    ensures { Puts (refusal_then refusal.now)
+        (state E.taken E.accepts E.faults errors.old output.old)
+        (state E.taken E.accepts E.faults errors.new output.new) }
 {
     output.put(b"refused ", errors);
     output.put(refusal.rule.name(), errors);
@@ -64,7 +72,9 @@ fn put_refusal<E: Sink>(refusal: &Refusal, output: &mut Output, errors: &mut E)
 /// Puts the limit of a design and its units.
 #[tactic(auto, unfolding(crate::specs::Lines::units_then))]
 fn put_units<E: Sink>(units: u64, output: &mut Output, errors: &mut E)
-    ensures { Puts (units_then units) (state E.taken E.accepts E.faults errors.old output.old) (state E.taken E.accepts E.faults errors.new output.new) }
+    ensures { Puts (units_then units)
+        (state E.taken E.accepts E.faults errors.old output.old)
+        (state E.taken E.accepts E.faults errors.new output.new) }
 {
     output.put(b"limit design ", errors);
     output.put_u64(units, errors);
@@ -72,7 +82,9 @@ fn put_units<E: Sink>(units: u64, output: &mut Output, errors: &mut E)
 
 /// Puts what is told of a failure.
 fn put_message<E: Sink>(failure: &Failure, output: &mut Output, errors: &mut E)
-    ensures { Puts (message_then failure.now) (state E.taken E.accepts E.faults errors.old output.old) (state E.taken E.accepts E.faults errors.new output.new) }
+    ensures { Puts (message_then failure.now)
+        (state E.taken E.accepts E.faults errors.old output.old)
+        (state E.taken E.accepts E.faults errors.new output.new) }
 {
     match failure {
         Failure::Text(fault) => put_fault(fault, output, errors),

@@ -22,8 +22,11 @@ fn carry_out<S: Source, O: Sink>(
     input: &mut S,
     output: &mut O,
 ) -> Result<(), Failure>
-    ensures does { Does O.taken O.accepts O.faults (meaning_of command.now) (supply S.left S.faults input.old) (supply S.left S.faults input.new) output.old output.new result }
-    ensures taken { TakesFrom (supply S.left S.faults input.old) (supply S.left S.faults input.new) }
+    ensures does { Does O.taken O.accepts O.faults (meaning_of command.now)
+        (supply S.left S.faults input.old) (supply S.left S.faults input.new)
+        output.old output.new result }
+    ensures taken { TakesFrom
+        (supply S.left S.faults input.old) (supply S.left S.faults input.new) }
 {
     match command {
         Command::Format => format(alloc, input, output),
@@ -40,8 +43,10 @@ fn perform<S: Source, O: Sink>(
     input: &mut S,
     output: &mut O,
 ) -> Result<(), Failure>
-    ensures performs { Performs O.taken O.accepts O.faults (supply S.left S.faults) (command words.now) input.old input.new output.old output.new result }
-    ensures taken { TakesFrom (supply S.left S.faults input.old) (supply S.left S.faults input.new) }
+    ensures performs { Performs O.taken O.accepts O.faults (supply S.left S.faults)
+        (command words.now) input.old input.new output.old output.new result }
+    ensures taken { TakesFrom
+        (supply S.left S.faults input.old) (supply S.left S.faults input.new) }
 {
     let asked = match Command::of(alloc, words) {
         Ok(asked) => asked,
@@ -66,19 +71,30 @@ pub fn run<S: Source, O: Sink, E: Sink>(
     errors: &mut E,
 ) -> Status
     ensures done { result ≡ Status.Done
-        → IfSome (command words.now) (λ c. WroteText O.taken O.accepts O.faults (meaning_of c) (supply S.left S.faults input.old) (supply S.left S.faults input.new) output.old output.new) }
+        → IfSome (command words.now) (λ c. WroteText O.taken O.accepts O.faults (meaning_of c)
+        (supply S.left S.faults input.old) (supply S.left S.faults input.new)
+        output.old output.new) }
     ensures write_fault { result ≡ Status.WriteFault
-        → IfSome (command words.now) (λ c. BrokeOff O.taken O.accepts O.faults (meaning_of c) (supply S.left S.faults input.old) (supply S.left S.faults input.new) output.old output.new) }
+        → IfSome (command words.now) (λ c. BrokeOff O.taken O.accepts O.faults (meaning_of c)
+        (supply S.left S.faults input.old) (supply S.left S.faults input.new)
+        output.old output.new) }
     ensures failed { result ≢ Status.Done
-        → TellsFailure E.taken E.accepts E.faults (command words.now) (supply S.left S.faults input.old) (supply S.left S.faults input.new) errors.old errors.new result }
+        → TellsFailure E.taken E.accepts E.faults (command words.now)
+        (supply S.left S.faults input.old) (supply S.left S.faults input.new)
+        errors.old errors.new result }
     ensures usage { (result ≡ Status.Usage) ↔ (command words.now ≡ None) }
-    ensures taken { TakesFrom (supply S.left S.faults input.old) (supply S.left S.faults input.new) }
+    ensures taken { TakesFrom
+        (supply S.left S.faults input.old) (supply S.left S.faults input.new) }
     ensures unread { result ≡ Status.Usage → input.new ≡ input.old }
-    ensures unwritten { result ≢ Status.Done → result ≢ Status.WriteFault → output.new ≡ output.old }
+    ensures unwritten { result ≢ Status.Done → result ≢ Status.WriteFault
+        → output.new ≡ output.old }
     ensures silent { result ≡ Status.Done → errors.new ≡ errors.old }
-    ensures exact { IfSome (command words.now) (λ c. IfSome (S.left input.old) (λ bs. FitsBytes (meaning_of c) bs result)) }
+    ensures exact { IfSome (command words.now) (λ c. IfSome (S.left input.old)
+        (λ bs. FitsBytes (meaning_of c) bs result)) }
     ensures complete { ¬ Rose (S.faults input.old) (S.faults input.new)
-        → IfSome (command words.now) (λ c. IfSome (S.left input.old) (λ bs. IsDecided (meaning_of c) bs (Rose (O.faults output.old) (O.faults output.new)) result)) }
+        → IfSome (command words.now) (λ c. IfSome (S.left input.old)
+        (λ bs. IsDecided (meaning_of c) bs
+        (Rose (O.faults output.old) (O.faults output.new)) result)) }
 {
     match perform(alloc, words, input, output) {
         Ok(()) => Status::Done,
