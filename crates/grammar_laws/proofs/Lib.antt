@@ -1,2 +1,5 @@
 pub mod Existing
 pub mod Ending
+pub mod Refusing
+pub mod GoingOn
+pub mod Agreeing

@@ -26,7 +26,7 @@ items_end : (p : Place) (bs : List ℕ) (x : Result (Piece Item) Flaw) (after : 
 items_end p bs (Ok piece) after rest e = item_ends piece.value p bs piece.count piece.seen after rest e
 items_end p bs (Err f) after rest e = cc
 
-never_over : (skipped : ℕ) (p : Place) (bs : List ℕ) → (tokens_from skipped p bs).finish ≡ Over → ⊥
+pub never_over : (skipped : ℕ) (p : Place) (bs : List ℕ) → (tokens_from skipped p bs).finish ≡ Over → ⊥
 unfolding tokens_from
 never_over zero p [] e = cc
 never_over (suc n) p [] e = cc

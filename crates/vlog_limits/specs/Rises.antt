@@ -5,9 +5,9 @@ use Rattle.nl_base.specs.declared.place.Place.{Place}
 use Rattle.nl_base.specs.declared.fault.TextFault.{TextFault}
 use Rattle.vlog_tokens.specs.declared.token.VFound.{VFound}
 
--- the stops of tokens rise from n on, up to that of the fault behind them; nothing is behind the end
+-- the stops of tokens rise from n on, up to that of the fault behind them; where all is told the end is there, and nothing is behind it
 abbrev pub Rises : ℕ → List (Terminal VFound Place) → Finish TextFault → Type 0
-Rises n [] Done = ⊤
+Rises n [] Done = ⊥
 Rises n [] (Bad fault) = n ≤ fault.stop
 Rises n [] Over = ⊤
 Rises n (proper x ∷ xs) finish = (n ≤ x.stop) × Rises x.stop xs finish
