@@ -36,9 +36,10 @@ live_number n h is table = live_one (λ _ x. say.version_of (pos n) x.token) tab
 
 live_version : LivesBy version
 unfolding version has
-live_version table =
-    (live_begin k.EdifVersion (k.EdifVersion ∷ []) refl table,
-     λ _. (live_number 2 refl (omega arith) table, λ _. (live_number 0 refl (omega arith) table, λ _. (live_number 0 refl (omega arith) table, λ _. live_closing table))))
+live_version table = (
+  live_begin k.EdifVersion (k.EdifVersion ∷ []) refl table,
+  λ _. (live_number 2 refl (omega arith) table, λ _. (live_number 0 refl (omega arith) table, λ _. (live_number 0 refl (omega arith) table, λ _. live_closing table))),
+)
 
 live_keyword_level : LivesBy keyword_level
 unfolding keyword_level has

@@ -152,9 +152,9 @@ module _ {X : Type 0} (P : X → Type 0) where
         (says_opened s ts (read κ (opened f q e s) ts)
         (says_ahead κ (f s) (λ c. sequence (q s c) (λ t. loop f q e t)) (e s) (quit s) ts
         (λ x c b is taken. let there : Keeps s (suc (length b)) = subst (λ (z : List X). Keeps s (length z)) is keeps in
-            let shorter : suc (length b) ≤ suc n = subst (λ (z : List X). length z ≤ suc n) is le in
-            says_sequence κ (q s c) (λ t. loop f q e t) (loop_text quit) b (one s c b there)
-            (λ t a d parts spells. says_loop Keeps quit one on end n t d (let l = ap length parts in let m = length-append a d in omega (arith, l, m, shorter)) (on s t c a d (subst (λ (z : List X). Keeps s (suc (length z))) parts there) spells)))
+        let shorter : suc (length b) ≤ suc n = subst (λ (z : List X). length z ≤ suc n) is le in
+        says_sequence κ (q s c) (λ t. loop f q e t) (loop_text quit) b (one s c b there)
+        (λ t a d parts spells. says_loop Keeps quit one on end n t d (let l = ap length parts in let m = length-append a d in omega (arith, l, m, shorter)) (on s t c a d (subst (λ (z : List X). Keeps s (suc (length z))) parts there) spells)))
         (end s ts)))
 
   -- Every answer of the reading of a part that is live by such tokens says what it should.
