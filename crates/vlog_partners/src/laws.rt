@@ -15,9 +15,9 @@ ghost use Rattle.vlog_partners.specs.Partners.{AreWritten};
 ghost use Rattle.vlog_values.specs.declared.module.VlogFile.{VlogFile};
 ghost use Rattle.vlog_written.specs.OwnNames.{AreDistinct};
 
-/// A file of modules that are written for the cells of a valid design, which have names of their own, breaks
-/// no rule under the name of the top, and each design with the cells, the top and the properties of the
-/// file's is the same as that design, cell by cell, and so as a whole.
+/// A file of modules that are written for the cells of a valid design, which have names of their
+/// own, breaks no rule under the name of the top, and each design with the cells, the top and the
+/// properties of the file's is the same as that design, cell by cell, and so as a whole.
 pub fn written_files_are_the_same()
     ensures no_refusal { (design : Design) (file : VlogFile) → AreWritten design file.modules
         → IsValid design → HaveOwnNames (λ (cell : HCell). cell.name) design.cells
@@ -38,8 +38,8 @@ pub fn written_files_are_the_same()
         → AreConstantNames names → SameDesign names design other }
 {}
 
-/// Cells of which no second has one name have names of their own. Ports and instances of which no port has
-/// the name of an instance are apart, and distinct names stay so with a new one.
+/// Cells of which no second has one name have names of their own. Ports and instances of which no
+/// port has the name of an instance are apart, and distinct names stay so with a new one.
 pub fn names_are_apart()
     ensures cells { (cells : List HCell)
         → clashing bytes_eq [] (map (λ (cell : HCell). cell.name) cells) ≡ []
@@ -50,8 +50,8 @@ pub fn names_are_apart()
         → (Contains names name → ⊥) → AreDistinct (names ++ name ∷ []) }
 {}
 
-/// The module of a cell whose port is joined to the constant zero, and the modules of a cell whose port is
-/// joined to that of an instance, are written for these: what the law asks for can be met.
+/// The module of a cell whose port is joined to the constant zero, and the modules of a cell whose
+/// port is joined to that of an instance, are written for these: what the law asks for can be met.
 pub fn example_files()
     ensures tied { AreWritten tied_design tied_file.modules
         × HaveOwnNames (λ (cell : HCell). cell.name) tied_design.cells }

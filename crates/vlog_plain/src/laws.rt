@@ -16,8 +16,8 @@ pub fn plain_files_break_no_rule()
         → IsPlainFile ps top name → first_G (plain_file ps) name ≡ None }
 {}
 
-/// The cell of a plain module has the ports, nets and instances that are written. The names of a plain
-/// module of a file are apart.
+/// The cell of a plain module has the ports, nets and instances that are written. The names of a
+/// plain module of a file are apart.
 pub fn plain_modules_are_cells()
     ensures cells { (modules : List Module) (p : PlainModule)
         → AreApart p → module_cell modules (plain_module p) ≡ plain_cell modules p }
@@ -25,8 +25,8 @@ pub fn plain_modules_are_cells()
         → IsPlainModule ps place p → AreApart p }
 {}
 
-/// In the design of a file of plain modules that fit together each module is a cell, in the order of the
-/// file, its number is its place, and the top is at the place of the top.
+/// In the design of a file of plain modules that fit together each module is a cell, in the order
+/// of the file, its number is its place, and the top is at the place of the top.
 pub fn plain_files_are_designs()
     ensures cells { (ps : List PlainModule) (top : ℕ) (name : Name) → IsPlainFile ps top name
         → (vlog_design (plain_file ps) name).cells ≡ map (plain_cell (plain_modules ps)) ps }

@@ -1,0 +1,2 @@
+pub mod StringCheck
+pub mod SoundDecided

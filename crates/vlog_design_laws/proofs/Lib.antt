@@ -1,0 +1,5 @@
+pub mod Lists
+pub mod ExprNames
+pub mod Parts
+pub mod ShortNames
+pub mod SoundValues
