@@ -15,7 +15,7 @@ fn instance(alloc: Global, name: &[u8], cell: u32) -> Result<HInst, NoMemory> {
     })
 }
 
-fn instances(alloc: Global, uses: &[(&[u8], u32)]) -> Result<Seq<HInst>, NoMemory> {
+pub fn instances(alloc: Global, uses: &[(&[u8], u32)]) -> Result<Seq<HInst>, NoMemory> {
     let mut made = Seq::empty(alloc);
     for (name, cell) in uses {
         made.push(instance(alloc, name, *cell)?)?;

@@ -7,3 +7,5 @@
 mod classes;
 #[cfg(test)]
 mod designs;
+#[cfg(test)]
+mod flat;

@@ -1,0 +1,5 @@
+pub mod Stops
+pub mod Front
+pub mod Faults
+pub mod Looked
+pub mod Law

@@ -1,0 +1,5 @@
+use Rattle.edif_limits.proofs.Law.{reads}
+use Rattle.edif_limits.proofs.texts.files_within_the_limit.Goals as goal
+
+pub returns : goal.returns
+returns c = reads

@@ -1,0 +1,5 @@
+use Rattle.vlog_limits.proofs.Law.{cut}
+use Rattle.vlog_limits.proofs.texts.cut_behind_the_limit.Goals as goal
+
+pub returns : goal.returns
+returns c = cut
