@@ -1,0 +1,5 @@
+pub mod Fits
+pub mod Listed
+pub mod Loops
+pub mod Sides
+pub mod Partner

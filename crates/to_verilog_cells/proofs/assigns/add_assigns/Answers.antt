@@ -1,0 +1,10 @@
+use Rattle.to_verilog_wires.specs.Roots.{of_live}
+use Rattle.vlog_written.specs.Written.{assign_item}
+use Rattle.to_verilog_cells.specs.Assigns.{assigns_among}
+use Rattle.to_verilog_cells.proofs.Loops.{items_turn}
+use Rattle.to_verilog_cells.proofs.assigns.add_assigns.Goals as goal
+
+pub loop-class-preserved : goal.loop-class-preserved
+loop-class-preserved c =
+    items_turn assign_item (of_live c.args.wiring.now.groups (assigns_among c.args.ports.now c.args.wiring.now)) c.loop-class.class c.args.items.now c.loop-class.items c.add_class.new.items
+    c.loop-class.invariant c.in_ok-add_class.ensures
