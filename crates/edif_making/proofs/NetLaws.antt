@@ -1,10 +1,10 @@
 -- What is read of the nets that are written.
-use Rattle.std.proofs.Common.{arith, lit<, ◌≡◌, ℕ, zero, suc, ◌+◌, ◌<◌, ◌≤◌, ◌^◌, ◌⊎◌, inl, inr, add-one, Bool, true, false, cond, List, [], ◌∷◌, ◌++◌, Option, Some, None, append-nil, append_assoc, drop, get_or, length, length-append, map, ℤ, pos, negsuc, refl, sym, ap, ◌∙◌, subst}
+use Rattle.std.proofs.Common.{arith, lit<, ◌≡◌, ℕ, zero, suc, ◌+◌, ◌<◌, ◌≤◌, ◌^◌, add-one, Bool, false, cond, List, [], ◌∷◌, ◌++◌, Option, Some, None, append-nil, get_or, length, length-append, map, ℤ, pos, negsuc, refl, sym, ap, ◌∙◌, subst}
 use Rattle.std.specs.Borrow.{Bor}
 use Rattle.std.specs.Prelude.{nat_abs, slice_get}
 use Rattle.std.specs.Fmt.{signed_decimal}
 use Rattle.std.specs.Int.Signed.{mag}
-use Rattle.std.specs.List.{AllByRecursion, filter_map, flat_map}
+use Rattle.std.specs.List.{AllByRecursion, filter_map}
 use Rattle.std.proofs.lemmas.Fmt.{IsAscii-signed, length_signed_le}
 use Rattle.std.proofs.lemmas.List.Concat.{flat_map-cons}
 use Rattle.nl_base.specs.Ranges.{Bounds, index_at}
@@ -15,7 +15,7 @@ use Rattle.edif_names.specs.declared.property.Property.{Property}
 use Rattle.edif_nets.specs.Values.{IsNetItem}
 use Rattle.edif_nets.specs.declared.net.NetItem.TheVariants as net_items
 use Rattle.edif_design.specs.Design.{net_property, property_value}
-use Rattle.edif_naming.specs.Naming.{seen, value_of}
+use Rattle.edif_naming.specs.Naming.{seen}
 use Rattle.edif_naming.specs.Sound.{AreSoundProps, IsShort, IsSoundProp}
 use Rattle.edif_naming.proofs.SoundLaws.{all_append, all_at, ascii_bytes}
 use Rattle.net_bits.specs.Classes.{ClassTable, members_of}

@@ -1,16 +1,13 @@
 -- What a reference names is there.
-use Rattle.std.proofs.Common.{arith, ◌≡◌, ℕ, zero, suc, ◌+◌, ◌-◌, ◌<◌, ◌≤◌, ◌^◌, Bool, true, false, List, [], ◌∷◌, ◌++◌, Option, Some, None, append_assoc, drop, length, pos, refl, sym, ap, ◌∙◌, subst}
-use Rattle.std.specs.Prelude.{IfSome, option_to_list, slice_get}
-use Rattle.std.specs.List.{AllByRecursion, filter_map}
+use Rattle.std.proofs.Common.{arith, ◌≡◌, ℕ, zero, suc, ◌<◌, ◌≤◌, ◌^◌, Bool, true, false, List, [], ◌∷◌, Option, Some, None, length, sym, ap, subst}
+use Rattle.std.specs.Prelude.{IfSome, slice_get}
 use Rattle.std.specs.Option.{option_map_or}
 use Rattle.nl_base.specs.Ranges.{Bounds}
 use Rattle.edif_keywords.specs.Values.{IsInteger}
-use Rattle.edif_nets.specs.declared.net.PortRef.{PortRef}
 use Rattle.net_hier.specs.Cells.{IsPinBit, IsPortBit}
 use Rattle.net_hier.specs.declared.cells.HInst.{HInst}
-use Rattle.net_hier.specs.declared.nodes.Node.{Node}
 use Rattle.edif_plans.specs.Plans.{HasHead, head_of}
-use Rattle.edif_plans.specs.References.{FitsScene, Scene, added_place, below_at, member_for, ref_for}
+use Rattle.edif_plans.specs.References.{FitsScene, Scene, added_place, below_at, member_for}
 use Rattle.edif_plans.specs.declared.added.Instances.{Instances}
 
 pub within : {A : Type 0} (xs : List A) (i : ℕ) (x : A) → slice_get xs i ≡ Some x → i < length xs

@@ -9,10 +9,7 @@ use nl_base::{NoMemory, Seq};
 use std::alloc::Global;
 
 /// Instances as parts of contents.
-fn instance_items(
-    alloc: Global,
-    instances: Vec<Instance>,
-) -> Result<Seq<ContentsItem>, NoMemory>
+fn instance_items(alloc: Global, instances: Vec<Instance>) -> Result<Seq<ContentsItem>, NoMemory>
     ensures { IfOk result (λ items. items ≡ map contents_items.Instance instances.items) }
 {
     let mut items = Seq::empty(alloc);

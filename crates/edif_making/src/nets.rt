@@ -115,12 +115,7 @@ fn name_at(alloc: Global, nets: &[HNet], net: usize) -> Result<Text, NoMemory>
 }
 
 /// The name of the class's first net, else of its first port bit, else `net`.
-fn net_name(
-    alloc: Global,
-    nets: &[HNet],
-    ports: &[HPort],
-    nodes: &[Node],
-) -> Result<Text, NoMemory>
+fn net_name(alloc: Global, nets: &[HNet], ports: &[HPort], nodes: &[Node]) -> Result<Text, NoMemory>
     ensures { AllByRecursion IsSoundPort ports.now → AllByRecursion IsSoundNet nets.now → IfOk result IsString }
 {
     if let Some(net) = first_net(nodes) {

@@ -1,6 +1,5 @@
 use Rattle.std.proofs.Common.{◌≡◌, Some, ap, get_or, subst, sym, ◌∙◌}
 use Rattle.std.specs.Prelude.{slice_get}
-use Rattle.net_hier.specs.Design.{IsCell}
 use Rattle.net_hier.specs.Facts.{cell_props}
 use Rattle.net_hier.specs.declared.cells.HCell.{HCell}
 use Rattle.edif_plans.specs.Made.{IsMadeCell}

@@ -1,4 +1,4 @@
-use Rattle.std.proofs.Common.{◌≡◌, ◌++◌, ◌<◌, List, ap, length, map, subst, sym, ◌∙◌}
+use Rattle.std.proofs.Common.{◌++◌, List, ap, length, map, subst, sym, ◌∙◌}
 use Rattle.std.specs.List.{AllByRecursion}
 use Rattle.net_hier.specs.Valid.{Each}
 use Rattle.net_hier.specs.declared.cells.HInst.{HInst}

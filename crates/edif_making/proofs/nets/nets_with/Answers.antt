@@ -1,4 +1,4 @@
-use Rattle.std.proofs.Common.{◌≡◌, ◌<◌, ap, length, refl, rules, subst, sym, ◌∙◌}
+use Rattle.std.proofs.Common.{◌<◌, ap, refl, rules, subst, sym, ◌∙◌}
 use Rattle.std.specs.List.{AllByRecursion}
 use Rattle.edif_keywords.specs.Values.{IsString}
 use Rattle.edif_nets.specs.Values.{IsNet}

@@ -1,4 +1,4 @@
-use Rattle.std.proofs.Common.{◌≡◌, ◌<◌, None, Some, [], length, get_or, subst, sym, ap, ◌∙◌}
+use Rattle.std.proofs.Common.{◌<◌, None, Some, [], length, get_or, subst, sym, ap, ◌∙◌}
 use Rattle.edif_making.specs.Scenes.{scene_of}
 use Rattle.edif_making.proofs.RefLaws.{added_fit, added_there}
 use Rattle.edif_making.proofs.refs.constant_ref.Goals as goal

@@ -1,4 +1,4 @@
-use Rattle.std.proofs.Common.{◌≡◌, ◌<◌, None, [], length, get_or, subst, sym, ◌∙◌}
+use Rattle.std.proofs.Common.{◌<◌, None, [], length, get_or, subst, sym, ◌∙◌}
 use Rattle.edif_plans.specs.References.{member_for, range_at}
 use Rattle.edif_making.specs.Scenes.{scene_of}
 use Rattle.edif_making.proofs.RefLaws.{port_there}
