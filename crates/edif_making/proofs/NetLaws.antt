@@ -1,0 +1,107 @@
+-- What is read of the nets that are written.
+use Rattle.std.proofs.Common.{arith, lit<, ◌≡◌, ℕ, zero, suc, ◌+◌, ◌<◌, ◌≤◌, ◌^◌, add-one, Bool, false, cond, List, [], ◌∷◌, ◌++◌, Option, Some, None, append-nil, get_or, length, length-append, map, ℤ, pos, negsuc, refl, sym, ap, ◌∙◌, subst}
+use Rattle.std.specs.Borrow.{Bor}
+use Rattle.std.specs.Prelude.{nat_abs, slice_get}
+use Rattle.std.specs.Fmt.{signed_decimal}
+use Rattle.std.specs.Int.Signed.{mag}
+use Rattle.std.specs.List.{AllByRecursion, filter_map}
+use Rattle.std.proofs.lemmas.Fmt.{IsAscii-signed, length_signed_le}
+use Rattle.std.proofs.lemmas.List.Concat.{flat_map-cons}
+use Rattle.nl_base.specs.Ranges.{Bounds, index_at}
+use Rattle.edif_tokens.specs.Proper.{AreBytes}
+use Rattle.edif_keywords.specs.Values.{IsString}
+use Rattle.edif_names.specs.Values.{IsProperty}
+use Rattle.edif_names.specs.declared.property.Property.{Property}
+use Rattle.edif_nets.specs.Values.{IsNetItem}
+use Rattle.edif_nets.specs.declared.net.NetItem.TheVariants as net_items
+use Rattle.edif_design.specs.Design.{net_property, property_value}
+use Rattle.edif_naming.specs.Naming.{seen}
+use Rattle.edif_naming.specs.Sound.{AreSoundProps, IsShort, IsSoundProp}
+use Rattle.edif_naming.proofs.SoundLaws.{all_append, all_at, ascii_bytes}
+use Rattle.net_bits.specs.Classes.{ClassTable, members_of}
+use Rattle.net_hier.specs.declared.cells.HNet.{HNet}
+use Rattle.net_hier.specs.declared.cells.HPort.{HPort}
+use Rattle.net_hier.specs.declared.cells.HProp.{HProp}
+use Rattle.net_hier.specs.declared.nodes.Node.{Node}
+use Rattle.net_hier.specs.declared.nodes.Node.TheVariants as nodes
+use Rattle.net_live.specs.Last.{last_of}
+use Rattle.net_live.specs.Live.{bit_word, class_props, index_word, is_live, props_of_net, props_of_node}
+use Rattle.edif_plans.specs.Sound.{IsSoundNet, IsSoundPort}
+use Rattle.edif_parts.proofs.PortLaws.{seen_sound}
+use Rattle.edif_making.specs.Nets.{HasFewDigits, live_below}
+
+-- ---- live classes
+
+pub live_none : (nets : List HNet) (classes : ClassTable) → live_below nets classes 0 ≡ []
+unfolding live_below
+live_none nets classes = refl
+
+pub live_more : (nets : List HNet) (classes : ClassTable) (n : ℕ) → live_below nets classes (n + 1) ≡ live_below nets classes n ++ cond (is_live nets (members_of classes n)) (n ∷ []) []
+unfolding live_below
+live_more nets classes n = ap (live_below nets classes) (add-one n)
+
+-- a class that is not live adds nothing, one that is live is added
+pub class_skipped : (live : Bool) (class : ℕ) (classes : List ℕ) → live ≡ false → classes ≡ classes ++ cond live (class ∷ []) []
+class_skipped live class classes is = sym (append-nil classes) ∙ ap (λ b. classes ++ cond b (class ∷ []) []) (sym is)
+
+-- ---- names
+
+mag_small : (z : ℤ) → nat_abs z ≤ 2 ^ 31 → mag z < 2 ^ 63
+mag_small (pos n) small = omega (arith, small)
+mag_small (negsuc n) small = omega (arith, small)
+
+few_digits : (z : ℤ) → nat_abs z ≤ 2 ^ 31 → mag z + 1 < 10 ^ 10
+few_digits (pos n) small = omega (arith, small)
+few_digits (negsuc n) small = omega (arith, small)
+
+word_bytes : (range : Option Bounds) (bit : ℕ) → HasFewDigits range bit → AreBytes (index_word range bit)
+word_bytes None bit small = tt
+word_bytes (Some range) bit small = (lit< tt, all_append (λ b. b < 256) (signed_decimal (index_at range bit)) (93 ∷ []) (ascii_bytes (signed_decimal (index_at range bit)) (IsAscii-signed (index_at range bit) (mag_small (index_at range bit) small))) (lit< tt, tt))
+
+word_short : (range : Option Bounds) (bit : ℕ) → HasFewDigits range bit → length (index_word range bit) ≤ 13
+word_short None bit small = omega arith
+word_short (Some range) bit small =
+    let digits : length (signed_decimal (index_at range bit)) ≤ 10 + 1 = length_signed_le 10 (index_at range bit) (few_digits (index_at range bit) small) (mag_small (index_at range bit) small) in
+    let whole = length-append (signed_decimal (index_at range bit)) (93 ∷ []) in
+    omega (arith, digits, whole)
+
+pub word_string : (port : HPort) (bit : ℕ) (word : List ℕ) → word ≡ bit_word port bit → HasFewDigits port.range bit → IsShort port.name → IsString word
+word_string port bit word is small h =
+    let short = word_short port.range bit small in
+    let whole = length-append port.name (index_word port.range bit) in
+    subst IsString (sym is) (all_append (λ b. b < 256) port.name (index_word port.range bit) h.bytes (word_bytes port.range bit small), omega (arith, h.short, short, whole))
+
+pub port_sound : (ports : List HPort) (i : ℕ) (x : HPort) → AllByRecursion IsSoundPort ports → i < length ports → x ≡ get_or ports i x → IsShort x.name
+port_sound ports i x all inside is = (all_at IsSoundPort ports i x x all inside is).name
+
+pub name_sound : (nets : List HNet) (i : ℕ) (x : HNet) → AllByRecursion IsSoundNet nets → i < length nets → x ≡ get_or nets i x → IsShort x.name
+name_sound nets i x all inside is = (all_at IsSoundNet nets i x x all inside is).name
+
+-- ---- properties
+
+pub props_read : (ps : List Property) → filter_map net_property (map net_items.Property ps) ≡ map property_value ps
+props_read [] = refl
+props_read (p ∷ ps) = ap (λ l. property_value p ∷ l) (props_read ps)
+
+pub items_sound : (ps : List Property) → AllByRecursion IsProperty ps → AllByRecursion IsNetItem (map net_items.Property ps)
+items_sound [] all = tt
+items_sound (p ∷ ps) all = (all.0, items_sound ps all.1)
+
+net_sound : (nets : List HNet) (net : ℕ) → AllByRecursion IsSoundNet nets → AreSoundProps (props_of_net (slice_get nets net))
+net_sound [] net all = tt
+net_sound (one ∷ nets) zero all = all.0.props
+net_sound (one ∷ nets) (suc net) all = net_sound nets net all.1
+
+node_sound : (nets : List HNet) (node : Node) → AllByRecursion IsSoundNet nets → AreSoundProps (props_of_node nets node)
+node_sound nets (nodes.Port port bit) all = tt
+node_sound nets (nodes.Pin instance port bit) all = tt
+node_sound nets (nodes.Net net) all = net_sound nets net all
+node_sound nets nodes.Zero all = tt
+node_sound nets nodes.One all = tt
+
+class_sound : (nets : List HNet) (members : List Node) → AllByRecursion IsSoundNet nets → AreSoundProps (class_props nets members)
+class_sound nets [] all = tt
+class_sound nets (node ∷ members) all = subst AreSoundProps (sym (flat_map-cons (props_of_node nets) node members)) (all_append IsSoundProp (props_of_node nets node) (class_props nets members) (node_sound nets node all) (class_sound nets members all))
+
+pub kept_class_sound : (nets : List HNet) (members : List Node) (kept : List (Bor HProp)) → seen kept ≡ last_of (class_props nets members) → AllByRecursion IsSoundNet nets → AreSoundProps (seen kept)
+kept_class_sound nets members kept are all = seen_sound (class_props nets members) kept are (class_sound nets members all)

@@ -1,0 +1,169 @@
+// A cell of the file.
+ghost use Rattle.std.specs.Prelude.{◌≡◌, ◌∷◌, ◌<◌, [], None, get_or, length, map, IfOk};
+ghost use Rattle.std.specs.List.{AllByRecursion};
+ghost use Rattle.edif_keywords.specs.Values.{IsWord};
+ghost use Rattle.edif_names.specs.Values.{IsProperty};
+ghost use Rattle.edif_library.specs.declared.cell.CellItem.TheVariants as cell_items;
+ghost use Rattle.edif_written.specs.Written.{cell_of as cell_for, contents_items_of, netlist};
+ghost use Rattle.edif_naming.specs.Naming.{name_for, seen, value_of};
+ghost use Rattle.edif_naming.specs.Sound.{AreSoundProps};
+ghost use Rattle.net_hier.specs.Facts.{cell_props as props_of_cell};
+ghost use Rattle.net_live.specs.Last.{last_of};
+ghost use Rattle.edif_plans.specs.Made.{new_cell_for, output_for};
+
+use crate::contents::contents_of;
+use edif_library::{Cell, CellItem, CellKind, ContentsItem, InterfaceItem, View, ViewItem};
+use edif_names::{NameDef, PortName, Property};
+use edif_naming::{named, properties_of};
+use edif_nets::{Instance, Net, Port};
+use edif_parts::{interface_of, output_port, view_ident};
+use edif_plans::Head;
+use net_hier::{ConstName, HCell, HProp, Hier};
+use net_live::{add_props, last_values};
+use nl_base::{Ident, NoMemory, Seq};
+use std::alloc::Global;
+
+/// The parts of a view: its contents, where there are any.
+fn view_items(alloc: Global, contents: Seq<ContentsItem>) -> Result<Seq<ViewItem>, NoMemory>
+    ensures { IfOk result (λ items. items ≡ contents_items_of contents) }
+{
+    let mut items = Seq::empty(alloc);
+    if contents.is_empty() {
+        return Ok(items);
+    }
+    items.push(ViewItem::Contents(contents))?;
+    Ok(items)
+}
+
+/// The view with this interface and these contents.
+fn view_of(
+    alloc: Global,
+    interface: Seq<InterfaceItem>,
+    contents: Seq<ContentsItem>,
+) -> Result<View, NoMemory>
+    ensures { IfOk result (λ view. view ≡ record { name = record { ident = netlist; text = None }; interface = interface; items = contents_items_of contents }) }
+{
+    let ident = view_ident(alloc)?;
+    let items = view_items(alloc, contents)?;
+    Ok(View {
+        name: NameDef { ident, text: None },
+        interface,
+        items,
+    })
+}
+
+/// The parts of a cell: its view and its properties.
+fn cell_items(
+    alloc: Global,
+    view: View,
+    properties: Vec<Property>,
+) -> Result<Seq<CellItem>, NoMemory>
+    ensures { IfOk result (λ items. items ≡ cell_items.View view ∷ map cell_items.Property properties.items) }
+{
+    let mut items = Seq::empty(alloc);
+    items.push(CellItem::View(view))?;
+    for property in properties {
+        items.push(CellItem::Property(property))?;
+    }
+    Ok(items)
+}
+
+/// The properties of the cell of this number: the top's are followed by the design's.
+fn cell_props<'a>(
+    alloc: Global,
+    hier: &'a Hier,
+    number: u32,
+    cell: &'a HCell,
+) -> Result<Vec<&'a HProp>, NoMemory>
+    ensures { IfOk result (λ found. seen found.items ≡ props_of_cell hier.now number cell.now) }
+{
+    let mut found = Vec::new(alloc);
+    add_props(cell.props.items(), &mut found)?;
+    if number != hier.top() {
+        return Ok(found);
+    }
+    add_props(hier.props(), &mut found)?;
+    Ok(found)
+}
+
+/// The properties of the cell that is written, the last value of each name.
+pub(crate) fn cell_properties(
+    alloc: Global,
+    hier: &Hier,
+    number: u32,
+    cell: &HCell,
+) -> Result<Vec<Property>, NoMemory>
+    ensures values { IfOk result (λ made. map value_of made.items ≡ last_of (props_of_cell hier.now number cell.now)) }
+    ensures sound { AreSoundProps (props_of_cell hier.now number cell.now) → IfOk result (λ made. AllByRecursion IsProperty made.items) }
+{
+    let props = cell_props(alloc, hier, number, cell)?;
+    let found = props.as_slice();
+    let kept = last_values(alloc, found)?;
+    let last = kept.as_slice();
+    let properties = properties_of(alloc, last)?;
+    Ok(properties)
+}
+
+/// The identifier is a word.
+pub(crate) fn word_of(ident: &Ident)
+    ensures { IsWord ident.now }
+{
+    let _bytes = ident.bytes();
+}
+
+/// The cell with these parts.
+#[tactic(auto, unfolding(edif_written::specs::Written::cell_of))]
+pub(crate) fn cell_with(
+    alloc: Global,
+    head: &Head,
+    name: &[u8],
+    ports: Vec<Port>,
+    instances: Vec<Instance>,
+    nets: Vec<Net>,
+    properties: Vec<Property>,
+) -> Result<Cell, NoMemory>
+    ensures { IfOk result (λ made. made ≡ cell_for (name_for head.now.cell name.now) ports.items instances.items nets.items properties.items) }
+{
+    let contents = contents_of(alloc, instances, nets)?;
+    let interface = interface_of(alloc, ports)?;
+    let view = view_of(alloc, interface, contents)?;
+    let items = cell_items(alloc, view, properties)?;
+    let name = named(alloc, &head.cell, name)?;
+    Ok(Cell {
+        name,
+        kind: CellKind::Generic,
+        items,
+    })
+}
+
+/// The port of the cell that is written for a constant.
+fn constant_port(alloc: Global, head: &Head, constant: &ConstName) -> Result<Vec<Port>, NoMemory>
+    requires { 0 < length head.now.ports }
+    ensures { IfOk result (λ made. made.items ≡ output_for (get_or head.now.ports 0 []) constant.now.port ∷ []) }
+{
+    let idents = head.ports.items();
+    let name = named(alloc, &idents[0], constant.port.bytes())?;
+    let port = output_port(alloc, PortName::Single(name))?;
+    let mut ports = Vec::new(alloc);
+    ports.push(port)?;
+    Ok(ports)
+}
+
+/// The cell that is written for a constant of which the design has no cell.
+pub fn new_cell(alloc: Global, head: &Head, constant: &ConstName) -> Result<Cell, NoMemory>
+    requires { 0 < length head.now.ports }
+    ensures { IfOk result (λ made. made ≡ new_cell_for head.now constant.now) }
+{
+    let ports = constant_port(alloc, head, constant)?;
+    let name = constant.cell.bytes();
+    let made = cell_with(
+        alloc,
+        head,
+        name,
+        ports,
+        Vec::new(alloc),
+        Vec::new(alloc),
+        Vec::new(alloc),
+    )?;
+    Ok(made)
+}

@@ -1,0 +1,44 @@
+// The contents of a cell.
+ghost use Rattle.std.specs.Prelude.{◌≡◌, ◌++◌, map, IfOk};
+ghost use Rattle.edif_library.specs.declared.view.ContentsItem.TheVariants as contents_items;
+ghost use Rattle.edif_written.specs.Written.{contents_of as contents_for};
+
+use edif_library::ContentsItem;
+use edif_nets::{Instance, Net};
+use nl_base::{NoMemory, Seq};
+use std::alloc::Global;
+
+/// Instances as parts of contents.
+fn instance_items(alloc: Global, instances: Vec<Instance>) -> Result<Seq<ContentsItem>, NoMemory>
+    ensures { IfOk result (λ items. items ≡ map contents_items.Instance instances.items) }
+{
+    let mut items = Seq::empty(alloc);
+    for instance in instances {
+        items.push(ContentsItem::Instance(instance))?;
+    }
+    Ok(items)
+}
+
+/// The parts with these nets behind them.
+fn with_nets(first: Seq<ContentsItem>, nets: Vec<Net>) -> Result<Seq<ContentsItem>, NoMemory>
+    ensures { IfOk result (λ items. items ≡ first ++ map contents_items.Net nets.items) }
+{
+    let mut items = first;
+    for net in nets {
+        items.push(ContentsItem::Net(net))?;
+    }
+    Ok(items)
+}
+
+/// The contents of a cell: its instances, and then its nets.
+pub fn contents_of(
+    alloc: Global,
+    instances: Vec<Instance>,
+    nets: Vec<Net>,
+) -> Result<Seq<ContentsItem>, NoMemory>
+    ensures { IfOk result (λ items. items ≡ contents_for instances.items nets.items) }
+{
+    let first = instance_items(alloc, instances)?;
+    let items = with_nets(first, nets)?;
+    Ok(items)
+}

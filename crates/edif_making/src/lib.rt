@@ -1,0 +1,18 @@
+// The cells of an EDIF file, made of the cells of a design.
+//
+// The public contract in plain words: `cell_of` makes what is written for a cell of the design: its ports, instances and properties under
+// their names, an added instance for each constant that the cell needs, and a net for each class of connected nodes that joins something,
+// which joins its port bits and pin bits and the pins of the constants. `new_cell` makes the cell of a constant. Only want of memory keeps
+// them from that.
+//
+// EDIF 2 0 0: cell, view, interface, contents, net, joined, portRef, member, instanceRef.
+#![tactic(auto)]
+
+pub mod cell;
+pub mod contents;
+pub mod made;
+pub mod nets;
+pub mod refs;
+
+pub use cell::new_cell;
+pub use made::cell_of;
