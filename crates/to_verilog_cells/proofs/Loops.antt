@@ -34,11 +34,11 @@ pub numbered_turn : {X Y : Type 0} (f : (ℕ × X) → Y) (xs : List X) (n : ℕ
 numbered_turn f xs n d h now new e m =
     ap (λ l. l ++ map f (enumerate_from (n + 1) (drop (n + 1) xs))) m
     ∙ moved now (f (n, get_or xs n d) ∷ []) (map f (enumerate_from (n + 1) (drop (n + 1) xs))) e
-      (ap (λ l. map f (enumerate_from n l)) (drop-cons xs n d h) ∙ ap (λ k. f (n, get_or xs n d) ∷ map f (enumerate_from (n + 1) (drop k xs))) (sym (add-one n)))
+    (ap (λ l. map f (enumerate_from n l)) (drop-cons xs n d h) ∙ ap (λ k. f (n, get_or xs n d) ∷ map f (enumerate_from (n + 1) (drop k xs))) (sym (add-one n)))
 
 pub numbered_items : {X Y Z : Type 0} (g : Y → Z) (f : (ℕ × X) → Y) (xs : List X) (n : ℕ) (d : X) → n < length xs → (now new : List Z) {goal : List Z} → now ++ map g (map f (enumerate_from n (drop n xs))) ≡ goal →
     new ≡ now ++ g (f (n, get_or xs n d)) ∷ [] → new ++ map g (map f (enumerate_from (n + 1) (drop (n + 1) xs))) ≡ goal
 numbered_items g f xs n d h now new e m =
     ap (λ l. l ++ map g (map f (enumerate_from (n + 1) (drop (n + 1) xs)))) m
     ∙ moved now (g (f (n, get_or xs n d)) ∷ []) (map g (map f (enumerate_from (n + 1) (drop (n + 1) xs)))) e
-      (ap (λ l. map g (map f (enumerate_from n l))) (drop-cons xs n d h) ∙ ap (λ k. g (f (n, get_or xs n d)) ∷ map g (map f (enumerate_from (n + 1) (drop k xs)))) (sym (add-one n)))
+    (ap (λ l. map g (map f (enumerate_from n l))) (drop-cons xs n d h) ∙ ap (λ k. g (f (n, get_or xs n d)) ∷ map g (map f (enumerate_from (n + 1) (drop k xs)))) (sym (add-one n)))

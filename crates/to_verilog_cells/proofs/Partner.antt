@@ -145,12 +145,12 @@ module _ (design : Design) (params : NameSet) (number : ℕ) (cell : HCell) (val
           elim (outer_sides design params number cell wiring decls w x outer a f) as (λ _. IsHubAssign design.cells cell (hub_node_of wiring) p set) [
             | inl self ↦ absurd (let g : None ≡ Some set = sym self.none ∙ made a f in cc)
             | inr sides ↦ record {
-                terminal = x;
-                hub = hub_node a;
-                is_terminal = outer_terminal x outer;
-                is_hub = ap (option_map hub_node) f;
-                sides = subst (λ s. AreSides p s x (hub_node a)) (one_item (member_assign cell.ports wiring.names a x) sides.set set sides.is_found (made a f)) sides.sides;
-              }
+              terminal = x;
+              hub = hub_node a;
+              is_terminal = outer_terminal x outer;
+              is_hub = ap (option_map hub_node) f;
+              sides = subst (λ s. AreSides p s x (hub_node a)) (one_item (member_assign cell.ports wiring.names a x) sides.set set sides.is_found (made a f)) sides.sides;
+            }
           ]
 
   of_class : (part : List Node → List Assignment) (class : ℕ) (set : Assignment) → Contains (of_live wiring.groups part class) set → Contains (part (members_of wiring.groups.classes class)) set
@@ -188,10 +188,10 @@ module _ (design : Design) (params : NameSet) (number : ℕ) (cell : HCell) (val
       elim (outer_sides design params number cell wiring decls w x outer a.0 a.1) as (λ _. (x ≡ hub) ⊎ HasAssignOf p x hub) [
         | inl self ↦ inl (self.same ∙ a.2)
         | inr sides ↦ inr (record {
-            set = sides.set;
-            is_there = assign_there x live.0 live.1 sides.set (ap (option_and_then (λ h. member_assign cell.ports wiring.names h x)) a.1 ∙ sides.is_found);
-            sides = subst (AreSides p sides.set x) a.2 sides.sides;
-          })
+          set = sides.set;
+          is_there = assign_there x live.0 live.1 sides.set (ap (option_and_then (λ h. member_assign cell.ports wiring.names h x)) a.1 ∙ sides.is_found);
+          sides = subst (AreSides p sides.set x) a.2 sides.sides;
+        })
       ]
 
   -- ---- instances
@@ -258,9 +258,9 @@ module _ (design : Design) (params : NameSet) (number : ℕ) (cell : HCell) (val
             let all : (k : ℕ) → 0 ≤ k → k < 0 + width → (expr : Expr) × (pin_expr cell.ports wiring (Pin place port k) ≡ Some expr) = λ k low high. all_pins e k (omega (arith, high)) in
             each_hub (pin_exprs cell.ports wiring place port (range_with_len 0 width))
             (λ k expr g.
-              let r = given_at (λ bit. pin_expr cell.ports wiring (Pin place port bit)) width 0 all k expr g in
-              let z : 0 + k ≡ k = omega arith in
-              of_pin k expr r.1 (subst (λ m. pin_expr cell.ports wiring (Pin place port m) ≡ Some expr) z r.0))
+            let r = given_at (λ bit. pin_expr cell.ports wiring (Pin place port bit)) width 0 all k expr g in
+            let z : 0 + k ≡ k = omega arith in
+            of_pin k expr r.1 (subst (λ m. pin_expr cell.ports wiring (Pin place port m) ≡ Some expr) z r.0))
             (all_given (λ bit. pin_expr cell.ports wiring (Pin place port bit)) width 0 all)
             (ap (λ b. chosen b (width == 1)) e ∙ ap (chosen true) f)
 
@@ -278,8 +278,8 @@ module _ (design : Design) (params : NameSet) (number : ℕ) (cell : HCell) (val
         params_once = distinct_names (λ (set : ParamSet). set.name) (given_params params (last_of instance.props)) (own_names (λ (set : ParamSet). set.name) (given_params params (last_of instance.props)) (given_once params instance.props));
         each_port = made_names (conn_of cell.ports wiring place) (λ (conn : NamedConn). conn.port) (λ (port : HPort). port.name) (λ k port. refl) 0 (below_ports design.cells instance) ∙ ap (map (λ (port : HPort). port.name)) ports;
         pins = λ port the_port conn e f.
-          let made : conn ≡ conn_of cell.ports wiring place (port, the_port) = made_at (conn_of cell.ports wiring place) (below_ports design.cells instance) port the_port conn (ap (λ l. slice_get l port) ports ∙ e) f in
-          subst (λ (c : NamedConn). IsPinOf p (hub_node_of wiring) place port (width_of the_port.range) c.value) (sym made) (pin_of place instance below.0 is_there below.1 port the_port e);
+            let made : conn ≡ conn_of cell.ports wiring place (port, the_port) = made_at (conn_of cell.ports wiring place) (below_ports design.cells instance) port the_port conn (ap (λ l. slice_get l port) ports ∙ e) f in
+            subst (λ (c : NamedConn). IsPinOf p (hub_node_of wiring) place port (width_of the_port.range) c.value) (sym made) (pin_of place instance below.0 is_there below.1 port the_port e);
       }
 
   -- ---- wires

@@ -17,7 +17,10 @@ fn is_port(hub: Hub, port: u32, bit: u32) -> bool
     ensures { result ≡ is_port hub port bit }
 {
     match hub {
-        Hub::Port { port: other, bit: place } => other == port && place == bit,
+        Hub::Port {
+            port: other,
+            bit: place,
+        } => other == port && place == bit,
         Hub::Wire(_) => false,
     }
 }

@@ -114,7 +114,14 @@ fn conn_of(
     ensures { IfOk result (λ made. made
         ≡ conn_of ports.now wiring.now instance (record { 0 = number; 1 = below.now })) }
 {
-    let value = connected(alloc, ports, wiring, instance, number, width_of(below.range))?;
+    let value = connected(
+        alloc,
+        ports,
+        wiring,
+        instance,
+        number,
+        width_of(below.range),
+    )?;
     let port = Text::copy(alloc, below.name.bytes())?;
     Ok(NamedConn { port, value })
 }
@@ -132,7 +139,14 @@ pub fn conns_of(
 {
     let mut conns = Seq::empty(alloc);
     for number in 0..below.len() {
-        let conn = conn_of(alloc, ports, wiring, instance, number as u32, &below[number])?;
+        let conn = conn_of(
+            alloc,
+            ports,
+            wiring,
+            instance,
+            number as u32,
+            &below[number],
+        )?;
         conns.push(conn)?;
     }
     Ok(conns)

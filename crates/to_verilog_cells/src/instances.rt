@@ -34,7 +34,8 @@ fn instance_made(
 ) -> Result<VInst, NoMemory>
     requires { length below.now ≤ 2 ^ 32 }
     ensures { IfOk result (λ made. made ≡ record {
-        name = name.now; conns = plain_conns (conns_of ports.now wiring.now number below.now)
+      name = name.now;
+      conns = plain_conns (conns_of ports.now wiring.now number below.now);
     }) }
 {
     let conns = conns_of(alloc, ports, wiring, number, below)?;
@@ -59,7 +60,14 @@ fn statement_of(
         params.now (record { 0 = number; 1 = instance.now }))) }
 {
     let below = &cells[instance.cell as usize];
-    let made = instance_made(alloc, ports, wiring, number, instance.name.bytes(), below.ports.items())?;
+    let made = instance_made(
+        alloc,
+        ports,
+        wiring,
+        number,
+        instance.name.bytes(),
+        below.ports.items(),
+    )?;
     let mut insts = Seq::empty(alloc);
     insts.push(made)?;
     let given = given_of(alloc, instance.props.items(), params)?;

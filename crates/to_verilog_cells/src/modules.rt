@@ -20,12 +20,7 @@ use to_verilog_wires::Wiring;
 use vlog_values::{Attr, ItemV, Module};
 
 /// The attributes of the cell of this number: its properties, and behind those of the top the properties of the design.
-fn cell_attrs(
-    alloc: Global,
-    hier: &Hier,
-    number: u32,
-    cell: &HCell,
-) -> Result<Seq<Attr>, NoMemory>
+fn cell_attrs(alloc: Global, hier: &Hier, number: u32, cell: &HCell) -> Result<Seq<Attr>, NoMemory>
     ensures { IfOk result (λ made. made ≡ attrs_of (cell_props hier.now number cell.now)) }
 {
     let mut gathered = Vec::new(alloc);
