@@ -1,0 +1,47 @@
+// The laws of designs that break no rule, and of their properties.
+ghost use Rattle.std.specs.Prelude.{◌≡◌, ℕ, [], List, None, true};
+ghost use Rattle.std.specs.List.{AllByRecursion};
+ghost use Rattle.nl_base.specs.declared.value.PropValue.{PropValue};
+ghost use Rattle.net_bits.specs.Names.{NameSet, has_name};
+ghost use Rattle.net_hier.specs.Design.{IsCell};
+ghost use Rattle.net_hier.specs.declared.cells.HCell.{HCell};
+ghost use Rattle.net_hier.specs.declared.cells.HProp.{HProp};
+ghost use Rattle.net_live.specs.Last.{last_of};
+ghost use Rattle.net_values.specs.Sound.{AreSoundProps, IsSoundValue};
+ghost use Rattle.to_verilog_props.specs.Constants.{attr_const, param_const};
+ghost use Rattle.to_verilog_props.specs.Written.{attrs_of, given_attrs, given_params};
+ghost use Rattle.to_verilog_rules.specs.Rules.{cells_twice, first_V, is_name};
+ghost use Rattle.to_verilog_values.specs.Kept.{HaveGoodNames, IsNamedCell};
+ghost use Rattle.vlog_values.specs.Values.{AreAttrs, IsConst, IsName, IsParamSet};
+
+/// A design that breaks no rule of the Verilog target.
+pub fn no_rule_is_broken()
+    ensures names { (cells : List HCell) (top : ℕ) (props : List HProp) (params : NameSet)
+        → first_V cells top props (has_name params) ≡ None
+        → (number : ℕ) (cell : HCell) → IsCell cells number cell → IsNamedCell params cell }
+    ensures cells { (cells : List HCell) (top : ℕ) (props : List HProp) (params : NameSet)
+        → first_V cells top props (has_name params) ≡ None → cells_twice cells ≡ [] }
+    ensures design { (cells : List HCell) (top : ℕ) (props : List HProp) (params : NameSet)
+        → first_V cells top props (has_name params) ≡ None → HaveGoodNames props }
+{}
+
+/// A name that can be written is one of a Verilog text.
+pub fn names_are_values()
+    ensures { (name : List ℕ) → is_name name ≡ true → IsName name }
+{}
+
+/// The constant of a value within the limits is within the limits of a Verilog text.
+pub fn constants_are_values()
+    ensures attributes { (value : PropValue) → IsSoundValue value → IsConst (attr_const value) }
+    ensures parameters { (value : PropValue) → IsSoundValue value → IsConst (param_const value) }
+{}
+
+/// So are the attributes of properties, and the attributes and parameters of instances.
+pub fn properties_are_values()
+    ensures attributes { (props : List HProp) → HaveGoodNames props → AreSoundProps props
+        → AreAttrs (attrs_of props) }
+    ensures given { (params : NameSet) (props : List HProp) → HaveGoodNames props
+        → AreSoundProps props → AreAttrs (given_attrs params (last_of props)) }
+    ensures parameters { (params : NameSet) (props : List HProp) → HaveGoodNames props
+        → AreSoundProps props → AllByRecursion IsParamSet (given_params params (last_of props)) }
+{}
