@@ -52,7 +52,7 @@ unfolding are_digits
 bit_digits true = refl
 bit_digits false = refl
 
-bit_is : (one : Bool) → IsLiteral (bit_literal one)
+pub bit_is : (one : Bool) → IsLiteral (bit_literal one)
 bit_is one = record {
   least = omega arith;
   most = omega arith;

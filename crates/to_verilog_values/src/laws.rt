@@ -1,8 +1,9 @@
-// The laws of designs that break no rule, and of their properties.
-ghost use Rattle.std.specs.Prelude.{◌≡◌, ℕ, [], List, None, true};
+// The laws of designs that break no rule, of their properties, and of plain modules.
+ghost use Rattle.std.specs.Prelude.{◌≡◌, ◌<◌, ◌≤◌, ℕ, Bool, [], List, None, IfSome, length, true};
 ghost use Rattle.std.specs.List.{AllByRecursion};
 ghost use Rattle.nl_base.specs.declared.value.PropValue.{PropValue};
 ghost use Rattle.net_bits.specs.Names.{NameSet, has_name};
+ghost use Rattle.net_hier.specs.Cells.{width_of};
 ghost use Rattle.net_hier.specs.Design.{IsCell};
 ghost use Rattle.net_hier.specs.declared.cells.HCell.{HCell};
 ghost use Rattle.net_hier.specs.declared.cells.HProp.{HProp};
@@ -12,7 +13,11 @@ ghost use Rattle.to_verilog_props.specs.Constants.{attr_const, param_const};
 ghost use Rattle.to_verilog_props.specs.Written.{attrs_of, given_attrs, given_params};
 ghost use Rattle.to_verilog_rules.specs.Rules.{cells_twice, first_V, is_name};
 ghost use Rattle.to_verilog_values.specs.Kept.{HaveGoodNames, IsNamedCell};
-ghost use Rattle.vlog_values.specs.Values.{AreAttrs, IsConst, IsName, IsParamSet};
+ghost use Rattle.to_verilog_values.specs.Writable.{IsGoodModule};
+ghost use Rattle.vlog_values.specs.Values.{AreAttrs, IsConst, IsExpr, IsExprWithin, IsModule, IsName, IsParamSet, IsRange, is_left};
+ghost use Rattle.vlog_values.specs.declared.expression.Expr.{Expr};
+ghost use Rattle.vlog_values.specs.declared.expression.Expr.TheVariants.{Cat, Lit};
+ghost use Rattle.vlog_written.specs.Written.{PlainModule, PlainPort, PlainWire, bit_literal, plain_module, port_expr, wire_expr};
 
 /// A design that breaks no rule of the Verilog target.
 pub fn no_rule_is_broken()
@@ -44,4 +49,21 @@ pub fn properties_are_values()
         → AreSoundProps props → AreAttrs (given_attrs params (last_of props)) }
     ensures parameters { (params : NameSet) (props : List HProp) → HaveGoodNames props
         → AreSoundProps props → AllByRecursion IsParamSet (given_params params (last_of props)) }
+{}
+
+/// The expressions of a plain module can be written: a bit of a port, a wire, a constant, and a concatenation of such.
+pub fn expressions_are_values()
+    ensures ports { (levels : ℕ) (port : PlainPort) (bit : ℕ) → IsName port.name
+        → IfSome port.range IsRange → bit < width_of port.range
+        → IsExprWithin levels (port_expr port bit) × (is_left (port_expr port bit) ≡ true) }
+    ensures wires { (levels : ℕ) (wire : PlainWire) → IsName wire.name
+        → IsExprWithin levels (wire_expr wire) × (is_left (wire_expr wire) ≡ true) }
+    ensures constants { (levels : ℕ) (one : Bool) → IsExprWithin levels (Lit (bit_literal one)) }
+    ensures concatenations { (exprs : List Expr) → 1 ≤ length exprs
+        → AllByRecursion (IsExprWithin 63) exprs → IsExpr (Cat exprs) }
+{}
+
+/// A plain module whose parts can be written is a module of a Verilog text.
+pub fn plain_modules_are_values()
+    ensures { (p : PlainModule) → IsGoodModule p → IsModule (plain_module p) }
 {}
