@@ -1,0 +1,9 @@
+pub mod AddedMeans
+pub mod CellRules
+pub mod Free
+pub mod InstanceRules
+pub mod Kept
+pub mod NetMeans
+pub mod NetRules
+pub mod PortRules
+pub mod RefMeans
