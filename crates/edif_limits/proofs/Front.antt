@@ -4,8 +4,11 @@ use Rattle.std.proofs.lemmas.Bool.{ltb-true, ltb-false}
 use Rattle.nl_bytes.specs.declared.bytes.TheConstants.{LIMIT}
 use Rattle.edif_tokens.specs.declared.token.Found.{Found}
 use Rattle.edif_tokens.specs.Streams.{Finish, End, Bad, Over, Stream, ends, follow, limited_from, limited_finish}
-use Rattle.edif_tokens.specs.Stream.{stop_of}
-use Rattle.edif_limits.proofs.Stops.{Rises}
+use Rattle.edif_tokens.specs.Stream.{stop_of, all_tokens}
+use Rattle.edif_keywords.specs.Language.{finish_of}
+use Rattle.grammar.specs.Whole as cuts
+use Rattle.nl_base.specs.Place.{place_at_start}
+use Rattle.edif_limits.proofs.Stops.{Rises, rises}
 
 -- all stops are within the limit
 abbrev pub EndsWithin : Finish → Type 0
@@ -52,3 +55,13 @@ parts_of (x ∷ xs) e m h = by (ltb LIMIT x.stop) refl (parts_of xs e x.stop h.1
     by : (t : Bool) → ltb LIMIT x.stop ≡ t → Parts xs e (limited_from stop_of xs e) → Parts (x ∷ xs) e (cond t (ends Over) (follow x (limited_from stop_of xs e)))
     by true is rest = let l = ltb-true _ _ is in cut [] (x ∷ xs) refl refl tt (omega (arith, l), h.1)
     by false is rest = let l = ltb-false _ _ is in more_parts x xs e (limited_from stop_of xs e) (omega (arith, l)) rest
+
+-- all tokens of a text are never cut
+not_over : (m : ℕ) (xs : List Found) (e : Finish) → Rises m xs e → finish_of e ≡ cuts.Over → ⊥
+not_over m [] (End p) h is = cc
+not_over m [] (Bad f) h is = cc
+not_over m [] Over h is = h
+not_over m (x ∷ xs) e h is = not_over x.stop xs e h.1 is
+
+pub all_finish : (bs : List ℕ) → finish_of (all_tokens bs).finish ≡ cuts.Over → ⊥
+all_finish bs is = not_over 0 (all_tokens bs).tokens (all_tokens bs).finish (rises 0 place_at_start bs 0 (omega arith) (λ _. omega arith)) is

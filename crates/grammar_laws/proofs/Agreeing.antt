@@ -1,5 +1,5 @@
 -- What begins a text of a closed part can be gone on with by tokens of which a fact holds, where the reading says so.
-use Rattle.std.proofs.Common.{◌≡◌, List, [], ◌∷◌, ◌++◌, Result, Ok, Err, refl, sym, ap, subst, ◌∙◌, append_assoc, append-nil}
+use Rattle.std.proofs.Common.{◌≡◌, List, [], ◌∷◌, ◌++◌, Ok, Err, refl, sym, ap, subst, ◌∙◌, append_assoc, append-nil}
 use Rattle.grammar.specs.Part.{Part}
 use Rattle.grammar.specs.Texts.{Spells, Begins}
 use Rattle.grammar.specs.Reading.{refused, ended, Found, read}

@@ -1,12 +1,12 @@
 -- What is read is spelled so, and what has been read can be gone on with by tokens of which a fact holds.
-use Rattle.std.proofs.Common.{◌≡◌, ℕ, zero, suc, ◌+◌, ◌≤◌, List, [], ◌∷◌, ◌++◌, length, Result, Ok, Err, refl, sym, ap, subst, ◌∙◌, append_assoc, arith, inl, inr}
+use Rattle.std.proofs.Common.{◌≡◌, ℕ, zero, suc, ◌≤◌, List, [], ◌∷◌, ◌++◌, length, Result, Ok, Err, refl, sym, ap, subst, ◌∙◌, append_assoc, arith, inl, inr}
 use Rattle.std.proofs.lemmas.List.{length-append}
 use Rattle.grammar.specs.Part.{Part, gives, token, sequence, ahead, loop, under, Glance, takes, refuses, leaves}
 use Rattle.grammar.specs.Texts.{ends, Spells}
 use Rattle.grammar.specs.Reading.{refused, ended, and_then, Found, judged, take_token, glanced, read_rounds, read}
 use Rattle.grammar.proofs.Laws.{Alike}
 use Rattle.grammar_laws.specs.GoesOn.{AllOf, BeginsBy}
-use Rattle.grammar_laws.proofs.Refusing.{all_both}
+use Rattle.grammar_laws.proofs.Refusing.{AllFit, all_both}
 use Rattle.grammar.proofs.Loops.{opened, read_loop, close_loop}
 
 -- tokens of which the fact holds are a text
@@ -168,3 +168,31 @@ module _ {X : Type 0} (P : X → Type 0) where
 
   pub text_then : {K R A B : Type 0} (κ : K) (p : Part K X R A) (q : A → Part K X R B) → HasText P κ p → ((u : A) → HasText P κ (q u)) → HasText P κ (sequence p q)
   text_then κ p q h k = let u = k h.1 in (h.0 ++ u.0, u.1, all_both P h.0 u.0 h.2 u.2, (h.1, h.0, u.0, refl, h.3, u.3))
+
+-- ---- the same, with what is taken
+
+-- from each place in the part some tokens of which P holds lead to its end, and G holds of each token that it takes
+abbrev pub IsKeptBy : {K X R A : Type 0} → (X → Type 0) → (X → Type 0) → K → Part K X R A → Type 0
+IsKeptBy P G k (gives a) = Unit {0}
+IsKeptBy {X = X} P G k (token {A = A} f) = ((x : X) × (a : A) × (f k x ≡ Ok a) × P x) × ((x : X) (a : A) → f k x ≡ Ok a → G x)
+IsKeptBy P G k (sequence {A = A} p q) = IsKeptBy P G k p × ((u : A) → IsKeptBy P G k (q u))
+IsKeptBy {X = X} P G k (ahead {C = C} f p q) = ((x : X) (c : C) → f k x ≡ takes c → G x) × ((c : C) → IsKeptBy P G k (p c)) × IsKeptBy P G k q
+IsKeptBy {X = X} P G k (loop {C = C} {S = S} f q e s) = ((s : S) (x : X) (c : C) → f s k x ≡ takes c → G x) × ((s : S) (c : C) → IsKeptBy P G k (q s c)) × ((s : S) → IsKeptBy P G k (e s))
+IsKeptBy P G k (under j p) = IsKeptBy P G j p
+
+module _ {X : Type 0} (P G : X → Type 0) where
+  pub live_of : {K R A : Type 0} (κ : K) (p : Part K X R A) → IsKeptBy P G κ p → IsLiveBy P κ p
+  live_of κ (gives a) h = tt
+  live_of κ (token f) h = h.0
+  live_of κ (sequence p q) h = (live_of κ p h.0, λ u. live_of κ (q u) (h.1 u))
+  live_of κ (ahead f p q) h = (λ c. live_of κ (p c) (h.1 c), live_of κ q h.2)
+  live_of κ (loop f q e s) h = (λ s c. live_of κ (q s c) (h.1 s c), λ s. live_of κ (e s) (h.2 s))
+  live_of κ (under j p) h = live_of j p h
+
+  pub taken_of : {K R A : Type 0} (κ : K) (p : Part K X R A) → IsKeptBy P G κ p → AllFit (λ _ _. Unit {0}) G κ p
+  taken_of κ (gives a) h = tt
+  taken_of κ (token f) h = (λ _ _ _. tt, h.1)
+  taken_of κ (sequence p q) h = (taken_of κ p h.0, λ u. taken_of κ (q u) (h.1 u))
+  taken_of κ (ahead f p q) h = (λ _ _ _. tt, h.0, λ c. taken_of κ (p c) (h.1 c), taken_of κ q h.2)
+  taken_of κ (loop f q e s) h = (λ _ _ _ _. tt, h.0, λ s x c i. taken_of κ (q s c) (h.1 s c), λ s. taken_of κ (e s) (h.2 s))
+  taken_of κ (under j p) h = taken_of j p h

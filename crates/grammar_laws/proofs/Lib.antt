@@ -3,3 +3,4 @@ pub mod Ending
 pub mod Refusing
 pub mod GoingOn
 pub mod Agreeing
+pub mod Opening

@@ -3,7 +3,7 @@ use Rattle.std.proofs.Common.{◌≡◌, ℕ, zero, suc, List, [], ◌∷◌, le
 use Rattle.grammar.specs.Part.{Part, gives, token, sequence, ahead, loop, under, Glance, takes, refuses, leaves}
 use Rattle.grammar.specs.Texts.{Spells, Rounds, ends, goes}
 use Rattle.grammar_laws.specs.GoesOn.{AllOf}
-use Rattle.grammar.specs.Reading.{Stop, refused, ended, Found, and_then, judged, glanced, look_ahead, rounds, read_rounds, read}
+use Rattle.grammar.specs.Reading.{refused, ended, Found, and_then, judged, glanced, look_ahead, rounds, read_rounds, read}
 
 -- wherever the part refuses a token for a reason, F holds of them, and G holds of each token that it takes
 abbrev pub AllFit : {K X R A : Type 0} → (X → R → Type 0) → (X → Type 0) → K → Part K X R A → Type 0

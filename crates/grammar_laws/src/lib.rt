@@ -6,4 +6,5 @@
 // each token that a part takes holds of all tokens of its texts.
 // `proofs/GoingOn.antt`, `proofs/Agreeing.antt`: where tokens of which a fact holds lead from each place of a part to its end, tokens that
 // can be gone on with can be gone on with by such tokens.
+// `proofs/Opening.antt`: where the reading of a part needs one more token.
 #![tactic(auto)]

@@ -1,0 +1,2 @@
+pub mod Wholly
+pub mod Single

@@ -1,0 +1,163 @@
+-- Ported: live by proper tokens.
+use Rattle.std.proofs.Common.{◌≡◌, refl, arith, Bool, true, false, cond, List, [], ◌∷◌, None, codes}
+use Rattle.grammar.specs.Part.{gives, sequence}
+use Rattle.nl_base.specs.declared.value.Dir.TheVariants as dirs
+use Rattle.edif_faults.proofs.Base.{live_if}
+use Rattle.edif_keywords.specs.declared.keyword.Keyword.{Keyword}
+use Rattle.edif_keywords.specs.declared.keyword.Keyword.TheVariants as k
+use Rattle.edif_keywords.specs.Keywords.{has, same_keyword}
+use Rattle.edif_keywords.specs.Language.{Edif}
+use Rattle.edif_keywords.specs.Reasons as say
+use Rattle.edif_keywords.specs.Reasons.{meant_by}
+use Rattle.edif_keywords.specs.Grammar.{closing, keyword, form_or}
+use Rattle.edif_faults.proofs.Base.{Lives, live_word, live_string, live_integer, live_closing, live_choice, live_keyword, live_begin, live_items}
+use Rattle.edif_faults.proofs.NamesLive.{live_name, live_port_name, live_property}
+use Rattle.edif_faults.proofs.StatusLive.{live_note}
+use Rattle.edif_nets.specs.declared.port.PortItem.{PortItem}
+use Rattle.edif_nets.specs.declared.instance.InstanceItem.{InstanceItem}
+use Rattle.edif_nets.specs.declared.net.PortRef.{PortRef}
+use Rattle.edif_nets.specs.declared.net.NetItem.{NetItem}
+use Rattle.edif_nets.specs.Grammar.{designator, direction_words, direction, port_property, port_designator, port_note, port_item, has_direction, port_keywords, port_rest, port, library_named, no_library, maybe_library, cell_ref, view_ref, instance_property, instance_designator, instance_note, instance_item, instance_keywords, instance_rest, instance, member, whole_port, port_or_member, instance_named, no_instance, maybe_instance, port_ref, joined_keywords, joined_rest, joined, net_property, net_note, net_item, net_keywords, net_rest, net}
+
+live_one_of : {A : Type 0} (b : Bool) (p q : Edif A) → Lives p → Lives q → Lives (cond b p q)
+live_one_of true p q h l = h
+live_one_of false p q h l = l
+
+pub live_designator : Lives designator
+unfolding designator
+live_designator table = (live_string table, λ _. (live_closing table, λ _. tt))
+
+live_direction : Lives direction
+unfolding direction meant_by
+live_direction table = (live_choice direction_words (codes "INPUT") dirs.Input refl (refl, omega arith) table, λ _. (live_closing table, λ _. tt))
+
+live_port_property : Lives port_property
+unfolding port_property
+live_port_property table = (live_property table, λ _. tt)
+
+live_port_designator : Lives port_designator
+unfolding port_designator
+live_port_designator table = (live_designator table, λ _. tt)
+
+live_port_note : (q : Keyword) → Lives (port_note q)
+unfolding port_note
+live_port_note q table = (live_note q table, λ _. tt)
+
+live_port_item : (q : Keyword) → Lives (port_item q)
+unfolding port_item
+live_port_item q =
+    live_one_of (same_keyword q k.Direction) direction _ live_direction
+    (live_one_of (same_keyword q k.Property) port_property _ live_port_property (live_one_of (same_keyword q k.Designator) port_designator (port_note q) live_port_designator (live_port_note q)))
+
+has_property : (b : Bool) → has (port_keywords b) k.Property ≡ true
+unfolding has port_keywords
+has_property true = refl
+has_property false = refl
+
+live_port_rest : (so_far : List PortItem) → Lives (port_rest so_far)
+unfolding port_rest
+live_port_rest so_far = live_items (λ is. port_keywords (has_direction is)) port_item so_far (λ is. live_keyword k.Property (port_keywords (has_direction is)) (has_property (has_direction is))) live_port_item
+
+pub live_port : Lives port
+unfolding port
+live_port table = (live_port_name table, λ _. (live_port_rest [] table, λ _. tt))
+
+live_library_named : Lives library_named
+unfolding library_named
+live_library_named table = (live_word table, λ _. (live_closing table, λ _. (live_closing table, λ _. tt)))
+
+live_maybe_library : Lives maybe_library
+unfolding maybe_library form_or no_library has
+live_maybe_library table =
+    live_if (λ _ x. say.at_opening x.token) (λ _. sequence (keyword (k.LibraryRef ∷ [])) (λ _. library_named)) (sequence closing (λ _. gives None)) table
+    (λ _. (live_keyword k.LibraryRef (k.LibraryRef ∷ []) refl table, λ _. live_library_named table)) (live_closing table, λ _. tt)
+
+live_cell_ref : Lives cell_ref
+unfolding cell_ref has
+live_cell_ref table = (live_begin k.CellRef (k.CellRef ∷ []) refl table, λ _. (live_word table, λ _. (live_maybe_library table, λ _. tt)))
+
+live_view_ref : Lives view_ref
+unfolding view_ref has
+live_view_ref table = (live_begin k.ViewRef (k.ViewRef ∷ []) refl table, λ _. (live_word table, λ _. (live_cell_ref table, λ _. (live_closing table, λ _. tt))))
+
+live_instance_property : Lives instance_property
+unfolding instance_property
+live_instance_property table = (live_property table, λ _. tt)
+
+live_instance_designator : Lives instance_designator
+unfolding instance_designator
+live_instance_designator table = (live_designator table, λ _. tt)
+
+live_instance_note : (q : Keyword) → Lives (instance_note q)
+unfolding instance_note
+live_instance_note q table = (live_note q table, λ _. tt)
+
+live_instance_item : (q : Keyword) → Lives (instance_item q)
+unfolding instance_item
+live_instance_item q =
+    live_one_of (same_keyword q k.Property) instance_property _ live_instance_property
+    (live_one_of (same_keyword q k.Designator) instance_designator (instance_note q) live_instance_designator (live_instance_note q))
+
+live_instance_rest : (so_far : List InstanceItem) → Lives (instance_rest so_far)
+unfolding instance_rest has
+live_instance_rest so_far = live_items (λ _. instance_keywords) instance_item so_far (λ _. live_keyword k.Property instance_keywords refl) live_instance_item
+
+pub live_instance : Lives instance
+unfolding instance
+live_instance table = (live_name table, λ _. (live_view_ref table, λ _. (live_instance_rest [] table, λ _. tt)))
+
+live_member : Lives member
+unfolding member
+live_member table = (live_word table, λ _. (live_integer table, λ _. (live_closing table, λ _. tt)))
+
+live_whole_port : Lives whole_port
+unfolding whole_port
+live_whole_port table = (live_word table, λ _. tt)
+
+live_port_or_member : Lives port_or_member
+unfolding port_or_member form_or has
+live_port_or_member table =
+    live_if (λ _ x. say.at_opening x.token) (λ _. sequence (keyword (k.Member ∷ [])) (λ _. member)) whole_port table
+    (λ _. (live_keyword k.Member (k.Member ∷ []) refl table, λ _. live_member table)) (live_whole_port table)
+
+live_instance_named : Lives instance_named
+unfolding instance_named
+live_instance_named table = (live_word table, λ _. (live_closing table, λ _. (live_closing table, λ _. tt)))
+
+live_maybe_instance : Lives maybe_instance
+unfolding maybe_instance form_or no_instance has
+live_maybe_instance table =
+    live_if (λ _ x. say.at_opening x.token) (λ _. sequence (keyword (k.InstanceRef ∷ [])) (λ _. instance_named)) (sequence closing (λ _. gives None)) table
+    (λ _. (live_keyword k.InstanceRef (k.InstanceRef ∷ []) refl table, λ _. live_instance_named table)) (live_closing table, λ _. tt)
+
+live_port_ref : Lives port_ref
+unfolding port_ref
+live_port_ref table = (live_port_or_member table, λ _. (live_maybe_instance table, λ _. tt))
+
+live_joined_rest : (so_far : List PortRef) → Lives (joined_rest so_far)
+unfolding joined_rest has
+live_joined_rest so_far = live_items (λ _. joined_keywords) (λ _. port_ref) so_far (λ _. live_keyword k.PortRef joined_keywords refl) (λ _. live_port_ref)
+
+live_joined : Lives joined
+unfolding joined has
+live_joined table = (live_begin k.Joined (k.Joined ∷ []) refl table, λ _. live_joined_rest [] table)
+
+live_net_property : Lives net_property
+unfolding net_property
+live_net_property table = (live_property table, λ _. tt)
+
+live_net_note : (q : Keyword) → Lives (net_note q)
+unfolding net_note
+live_net_note q table = (live_note q table, λ _. tt)
+
+live_net_item : (q : Keyword) → Lives (net_item q)
+unfolding net_item
+live_net_item q = live_one_of (same_keyword q k.Property) net_property (net_note q) live_net_property (live_net_note q)
+
+live_net_rest : (so_far : List NetItem) → Lives (net_rest so_far)
+unfolding net_rest has
+live_net_rest so_far = live_items (λ _. net_keywords) net_item so_far (λ _. live_keyword k.Property net_keywords refl) live_net_item
+
+pub live_net : Lives net
+unfolding net
+live_net table = (live_name table, λ _. (live_joined table, λ _. (live_net_rest [] table, λ _. tt)))
