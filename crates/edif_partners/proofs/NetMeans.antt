@@ -67,9 +67,9 @@ module _ (name design_name : NameDef) (cells : List Cell) (top : List ℕ) (scen
       let p : ℕ = added_place scene.instances value in
       let count : length (map (own_face scene.plan) scene.cell.instances) ≡ length scene.cell.instances = length-map scene.cell.instances (own_face scene.plan) in
       let at : slice_get (map instance_face is) p ≡ Some (added_face scene.plan a.one) =
-          ap (λ l. slice_get l p) are_instances.faces
-          ∙ (get_right (map (own_face scene.plan) scene.cell.instances) (map (added_face scene.plan) scene.instances.added) p a.place (let e = a.at in omega (arith, e, count))
-          ∙ (slice_get-map (added_face scene.plan) scene.instances.added a.place ∙ ap (option_map (added_face scene.plan)) a.is_there)) in
+      ap (λ l. slice_get l p) are_instances.faces
+      ∙ (get_right (map (own_face scene.plan) scene.cell.instances) (map (added_face scene.plan) scene.instances.added) p a.place (let e = a.at in omega (arith, e, count))
+      ∙ (slice_get-map (added_face scene.plan) scene.instances.added a.place ∙ ap (option_map (added_face scene.plan)) a.is_there)) in
       let found = shown_at instance_face is p (added_face scene.plan a.one) at in
       let ident : slice_get scene.instances.idents p ≡ Some found.item.name.ident = ap (λ l. slice_get l p) (sym are_instances.idents) ∙ (slice_get-map instance_ident is p ∙ ap (option_map instance_ident) found.is_there) in
       let named : slice_get (constant_head scene.plan value).ports 0 ≡ Some (port_ident stands.port) = ap (λ l. slice_get l 0) stands.head.ports_named ∙ (slice_get-map port_ident (ports stands.made) 0 ∙ ap (option_map port_ident) stands.has_port) in

@@ -81,10 +81,10 @@ module _ (name design_name : NameDef) (cells : List Cell) (top : List ℕ) (scen
       let in_ns : slice_get ns j ≡ Some net = subst (λ l. slice_get l j ≡ Some net) e (get_left before after j net here) in
       let at = net_at j net in_ns in
       let means : slice_get (map (map (stand_in added)) (map (ends_of classes) live)) j ≡ Some (meant linked net) =
-          ap (λ l. slice_get l j) (sym (nets_mean name design_name cells top scene placed cell_name ps is ns properties are_ports are_instances ports_apart idents_apart classes are_added constants are good live nets))
-          ∙ (slice_get-map (meant linked) ns j ∙ ap (option_map (meant linked)) in_ns) in
+      ap (λ l. slice_get l j) (sym (nets_mean name design_name cells top scene placed cell_name ps is ns properties are_ports are_instances ports_apart idents_apart classes are_added constants are good live nets))
+      ∙ (slice_get-map (meant linked) ns j ∙ ap (option_map (meant linked)) in_ns) in
       let shown : slice_get (map (map (stand_in added)) (map (ends_of classes) live)) j ≡ Some (map (stand_in added) (ends_of classes at.0)) =
-          slice_get-map (map (stand_in added)) (map (ends_of classes) live) j ∙ ap (option_map (map (stand_in added))) (slice_get-map (ends_of classes) live j ∙ ap (option_map (ends_of classes)) at.1) in
+      slice_get-map (map (stand_in added)) (map (ends_of classes) live) j ∙ ap (option_map (map (stand_in added))) (slice_get-map (ends_of classes) live j ∙ ap (option_map (ends_of classes)) at.1) in
       let same : meant linked net ≡ map (stand_in added) (ends_of classes at.0) = same_list (slice_get (map (map (stand_in added)) (map (ends_of classes) live)) j) (meant linked net) (map (stand_in added) (ends_of classes at.0)) means shown in
       let other = map_contains (stand_in added) (ends_of classes at.0) (stand_in added node) (subst (λ l. Contains l (stand_in added node)) same m) in
       let found = passed is_end (members_of classes at.0) other.0 other.1 in
