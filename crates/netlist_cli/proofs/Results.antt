@@ -40,6 +40,7 @@ exact_of commands.Format = edif_exact
 exact_of commands.Vformat = verilog_exact
 exact_of commands.Check = edif_exact
 exact_of (commands.CheckTop top) = verilog_exact
+exact_of (commands.ToVerilog names) = edif_exact
 
 module _ (m : Meaning) (exact : IsExact m.language) (bs : List ℕ) where
   pub one_outcome : (a b : Outcome) → Gives m bs a → Gives m bs b → a ≡ b

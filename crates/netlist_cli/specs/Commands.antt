@@ -1,5 +1,5 @@
 -- What the words behind the program's name ask for: a command, and behind it its options in their order.
-use Rattle.std.specs.Prelude.{ℕ, List, [], ◌∷◌, length, Bool, Option, Some, None, codes, if◌then◌else◌, ◌&&◌, ◌==◌, not}
+use Rattle.std.specs.Prelude.{ℕ, List, [], ◌∷◌, length, Bool, true, false, Option, Some, None, codes, if◌then◌else◌, ◌&&◌, ◌==◌, not}
 use Rattle.nl_base.specs.Case.{same_bytes}
 use Rattle.netlist_cli.specs.declared.command.Command.{Command}
 use Rattle.netlist_cli.specs.declared.command.Command.TheVariants as commands
@@ -22,6 +22,18 @@ behind_option name [] = []
 behind_option name (word ∷ []) = word ∷ []
 behind_option name (word ∷ value ∷ words) = if is_option name word value then words else word ∷ value ∷ words
 
+-- the words are the option of this name and a value, any number of times
+abbrev pub are_options : List ℕ → List (List ℕ) → Bool
+are_options name [] = true
+are_options name (word ∷ []) = false
+are_options name (word ∷ value ∷ words) = is_option name word value && are_options name words
+
+-- the values of words that are options with values, in their order
+abbrev pub values_of : List (List ℕ) → List (List ℕ)
+values_of [] = []
+values_of (word ∷ []) = []
+values_of (word ∷ value ∷ words) = value ∷ values_of words
+
 -- the command, where no word is left behind its options
 abbrev pub if_none_left : List (List ℕ) → Command → Option Command
 if_none_left [] asked = Some asked
@@ -38,10 +50,15 @@ check_under (Some top) = commands.CheckTop top
 abbrev pub check_of : List (List ℕ) → Option Command
 check_of words = if_none_left (behind_option (codes "--top") words) (check_under (option_value (codes "--top") words))
 
+-- `to-verilog {--parameter NAME}`, by the words behind `to-verilog`
+abbrev pub to_verilog_of : List (List ℕ) → Option Command
+to_verilog_of words = if are_options (codes "--parameter") words then Some (commands.ToVerilog (values_of words)) else None
+
 -- the command whose form the words have, if any
 abbrev pub command : List (List ℕ) → Option Command
 command [] = None
 command (word ∷ words) =
     if same_bytes word (codes "format") then if_none_left words commands.Format
     else (if same_bytes word (codes "vformat") then if_none_left words commands.Vformat
-    else (if same_bytes word (codes "check") then check_of words else None))
+    else (if same_bytes word (codes "check") then check_of words
+    else (if same_bytes word (codes "to-verilog") then to_verilog_of words else None)))

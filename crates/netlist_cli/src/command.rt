@@ -1,6 +1,6 @@
-ghost use Rattle.std.specs.Prelude.{◌≡◌, IsSome, MatchResult};
+ghost use Rattle.std.specs.Prelude.{◌≡◌, IfOk, IsSome, MatchResult};
 ghost use Rattle.std.specs.Option.{option_map};
-ghost use Rattle.netlist_cli.specs.Commands.{behind_option, check_of, command, if_none_left, is_option, option_value};
+ghost use Rattle.netlist_cli.specs.Commands.{are_options, behind_option, check_of, command, if_none_left, is_option, option_value, to_verilog_of, values_of};
 
 use nl_base::{NoMemory, Seq, Text};
 use std::alloc::Global;
@@ -16,6 +16,8 @@ pub enum Command {
     CheckTop(Text),
     /// Reads a Verilog file and writes it in the project's layout.
     Vformat,
+    /// Reads an EDIF file and writes its design in Verilog, with these names of parameters.
+    ToVerilog(Seq<Text>),
 }
 
 /// The value of an option, where words begin with it, and the words behind it.
@@ -51,6 +53,34 @@ fn take_option<'a>(name: &[u8], words: &'a [Text]) -> Taken<'a>
     }
 }
 
+/// Whether words are the option of this name and a value, any number of times.
+fn are_options(name: &[u8], words: &[Text]) -> bool
+    ensures { result ≡ are_options name.now words.now }
+{
+    let mut left = words;
+    while let [word, value, rest @ ..] = left {
+        if !is_option(name, word.bytes(), value.bytes()) {
+            return false;
+        }
+        left = rest;
+    }
+    left.is_empty()
+}
+
+/// The values of words that are options with values, in their order.
+fn values_of(alloc: Global, words: &[Text]) -> Result<Seq<Text>, NoMemory>
+    ensures { IfOk result (λ values. values ≡ values_of words.now) }
+{
+    let mut values = Seq::empty(alloc);
+    let mut left = words;
+    while let [_, value, rest @ ..] = left {
+        let value = Text::copy(alloc, value.bytes())?;
+        values.push(value)?;
+        left = rest;
+    }
+    Ok(values)
+}
+
 /// The command, where no word is left behind its options.
 fn if_none_left(words: &[Text], asked: Command) -> Option<Command>
     ensures { result ≡ if_none_left words.now asked }
@@ -79,6 +109,18 @@ fn check_of(alloc: Global, words: &[Text]) -> Result<Option<Command>, NoMemory>
     }
 }
 
+/// `to-verilog`, with these words behind it.
+fn to_verilog_of(alloc: Global, words: &[Text]) -> Result<Option<Command>, NoMemory>
+    ensures { MatchResult result (λ found. found ≡ to_verilog_of words.now)
+        (λ _. IsSome (to_verilog_of words.now)) }
+{
+    if !are_options(b"--parameter", words) {
+        return Ok(None);
+    }
+    let names = values_of(alloc, words)?;
+    Ok(Some(Command::ToVerilog(names)))
+}
+
 impl Command {
     /// The command whose form the words have. Memory may run out only where they have that of one.
     pub fn of(alloc: Global, words: &Seq<Text>) -> Result<Option<Command>, NoMemory>
@@ -96,6 +138,10 @@ impl Command {
         }
         if word.bytes() == b"check".as_slice() {
             let found = check_of(alloc, options)?;
+            return Ok(found);
+        }
+        if word.bytes() == b"to-verilog".as_slice() {
+            let found = to_verilog_of(alloc, options)?;
             return Ok(found);
         }
         Ok(None)

@@ -21,3 +21,4 @@ pub mod formatting;
 pub mod line;
 pub mod run;
 pub mod status;
+pub mod translating;

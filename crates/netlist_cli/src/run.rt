@@ -11,6 +11,7 @@ use crate::failure::Failure;
 use crate::formatting::{format, vformat};
 use crate::line::report;
 use crate::status::Status;
+use crate::translating::translate;
 use nl_base::{Seq, Text};
 use nl_io::{Sink, Source};
 use std::alloc::Global;
@@ -33,6 +34,7 @@ fn carry_out<S: Source, O: Sink>(
         Command::Vformat => vformat(alloc, input, output),
         Command::Check => check(alloc, input, output),
         Command::CheckTop(top) => check_top(alloc, top, input, output),
+        Command::ToVerilog(names) => translate(alloc, names, input, output),
     }
 }
 
