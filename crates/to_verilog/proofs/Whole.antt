@@ -1,19 +1,25 @@
 -- The modules of a design's cells are those of a file that is translated.
 use Rattle.std.proofs.Common.{◌≡◌, ℕ, zero, suc, ◌+◌, ◌<◌, ◌≤◌, List, [], ◌∷◌, ◌++◌, None, Some, length, slice_get, get_or, take, sym, ◌∙◌, ap, subst, arith, length-append}
 use Rattle.std.proofs.lemmas.List.{length-map, take_all, take_more}
-use Rattle.std.proofs.lemmas.Option.{slice_get-get_or}
+use Rattle.std.proofs.lemmas.Option.{slice_get-get_or, slice_get_within}
 use Rattle.net_bits.specs.Names.{NameSet, has_name}
+use Rattle.net_values.specs.Sound.{IsSound}
 use Rattle.net_hier.specs.Design.{Design, below_of, cells_below}
 use Rattle.net_hier.specs.Valid.{IsHier, IsValid}
 use Rattle.to_verilog_rules.specs.Rules.{first_V}
-use Rattle.to_verilog_cells.specs.Modules.{IsModuleOf}
+use Rattle.to_verilog_cells.specs.Modules.{IsModuleOf, plain_of}
+use Rattle.to_verilog_cells.proofs.Listed.{there_below}
+use Rattle.to_verilog_values.proofs.Broken.{good_design, named_cell}
+use Rattle.to_verilog_values.proofs.Plain.{module_is}
 use Rattle.vlog_partners.specs.Partners.{AreWritten, IsWritten}
 use Rattle.vlog_partners.proofs.Collected.{file_good, file_same_cells, file_same_design}
 use Rattle.vlog_partners.proofs.Orders.{order_within}
+use Rattle.vlog_values.specs.Values.{IsModule, IsVlogValue}
 use Rattle.vlog_values.specs.declared.module.Module.{Module}
 use Rattle.vlog_values.specs.declared.module.VlogFile.{VlogFile}
 use Rattle.to_verilog.specs.Answers.{AreModules, IsTranslated}
-use Rattle.to_verilog.proofs.NoRefusal.{own_cells}
+use Rattle.to_verilog.proofs.Good.{all_places, module_good}
+use Rattle.to_verilog.proofs.NoRefusal.{own_cells, writable}
 
 -- a number of the order is that of a cell
 pub number_within : (design : Design) → IsValid design → (place number : ℕ) → slice_get design.order place ≡ Some number → number < length design.cells
@@ -76,3 +82,14 @@ pub number_there : (design : Design) → IsValid design → (numbers : List ℕ)
 number_there design valid numbers i d e h =
     let lt = number_within design valid i (get_or numbers i d) (ap (λ l. slice_get l i) (sym e) ∙ slice_get-get_or numbers i d h) in
     lt
+
+-- ---- the value
+pub value_is : (design : Design) (params : NameSet) (modules : List Module) → IsHier design → first_V design.cells design.top design.props (has_name params) ≡ None → AreModules design params design.order modules → IsSound design →
+    IsVlogValue (record { modules = modules })
+value_is design params modules hier none are sound = all_places IsModule modules (λ place m e.
+    let lt : place < length modules = slice_get_within modules place m e in
+    let number = there_below design.order place (omega (arith, lt, are.as_many)) in
+    let is = are.plain place number.0 m number.1 e in
+    subst IsModule (sym is.is_plain) (module_is (plain_of design params number.0 is.cell is.wiring is.is_wiring.wires)
+    (module_good design params number.0 is.cell hier.valid is.is_cell (writable design.cells design.top design.props params none number.0 is.cell is.is_cell)
+    (named_cell design.cells design.top design.props params none) (good_design design.cells design.top design.props params none) sound is.wiring is.decls is.is_wiring)))

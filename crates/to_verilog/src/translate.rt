@@ -1,8 +1,10 @@
 // The translation.
 ghost use Rattle.std.specs.Prelude.{◌≡◌, None, IfOk, MatchResult};
 ghost use Rattle.net_bits.specs.Names.{has_name};
+ghost use Rattle.net_values.specs.Sound.{IsSound};
 ghost use Rattle.to_verilog_rules.specs.Rules.{first_V};
 ghost use Rattle.to_verilog.specs.Answers.{IsTargetFault, IsTranslated};
+ghost use Rattle.vlog_values.specs.Values.{IsVlogValue};
 
 use net_bits::Names;
 use net_hier::Hier;
@@ -23,7 +25,8 @@ pub enum TargetError {
 /// The file of a design that breaks no rule: the modules of its cells, in its order.
 fn file_of(alloc: Global, hier: &Hier, params: &Names) -> Result<VlogFile, NoMemory>
     requires { first_V hier.now.cells hier.now.top hier.now.props (has_name params.now) ≡ None }
-    ensures { IfOk result (IsTranslated hier.now params.now) }
+    ensures translated { IfOk result (IsTranslated hier.now params.now) }
+    ensures value { IfOk result (λ file. IsSound hier.now → IsVlogValue file) }
 {
     let order = hier.order();
     let mut modules = Seq::empty(alloc);
@@ -36,8 +39,9 @@ fn file_of(alloc: Global, hier: &Hier, params: &Names) -> Result<VlogFile, NoMem
 
 /// The design as a Verilog file. The properties of instances whose names are among `params` are parameters.
 pub fn to_verilog(alloc: Global, hier: &Hier, params: &Names) -> Result<VlogFile, TargetError>
-    ensures { MatchResult result (IsTranslated hier.now params.now)
+    ensures translated { MatchResult result (IsTranslated hier.now params.now)
         (IsTargetFault hier.now params.now) }
+    ensures value { IfOk result (λ file. IsSound hier.now → IsVlogValue file) }
 {
     match first_refusal(alloc, hier, params) {
         Ok(None) => match file_of(alloc, hier, params) {

@@ -213,7 +213,7 @@ module _ (design : Design) (params : NameSet) (number : ℕ) (cell : HCell) (val
 
   module _ (place : ℕ) (instance : HInst) (below : HCell) (is_there : slice_get cell.instances place ≡ Some instance) (is_below : IsCell design.cells instance.cell below) (port : ℕ) (the_port : HPort)
       (is_port : slice_get below.ports port ≡ Some the_port) where
-    abbrev width : ℕ
+    abbrev pub width : ℕ
     width = width_of the_port.range
 
     a_bit : (bit : ℕ) → bit < width → IsPinBit design.cells cell place port bit
@@ -238,10 +238,10 @@ module _ (design : Design) (params : NameSet) (number : ℕ) (cell : HCell) (val
             let found = pin_found place port bit (a_bit bit h) hub f in
             (hub_node hub, ap (option_map hub_node) f, subst (IsNodeExpr p (hub_node hub)) (one_item (pin_expr cell.ports wiring (Pin place port bit)) found.expr expr found.is_found e) found.of_node)
 
-    abbrev value : Option Expr
+    abbrev pub value : Option Expr
     value = connected cell.ports wiring place port width
 
-    pin_of : IsPinOf p (hub_node_of wiring) place port width value
+    pub pin_of : IsPinOf p (hub_node_of wiring) place port width value
     pin_of = by (is_written wiring (Pin place port 0)) refl (width == 1) refl
       where
         chosen : (b c : Bool) → Option Expr

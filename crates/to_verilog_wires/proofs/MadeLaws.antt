@@ -125,6 +125,7 @@ given_start cell groups made none = record {
         ∙ (sym (list_any-append (same_bytes name) ports instances)
         ∙ ap (list_any (same_bytes name)) (sym (ap (λ l. (ports ++ instances) ++ l) none.names ∙ append-nil (ports ++ instances))))));
     named = record { apart = tt; new = λ wire h. absurd (let l = h.1 in omega (arith, l)); can_be_written = λ wire h. absurd (let l = h.1 in omega (arith, l)) };
+    attrs = λ wire h. absurd (let l = h.1 in omega (arith, l));
   };
   are_given = record {
     only = λ root a e. absurd (let f : None ≡ Some a = e in cc);
@@ -170,6 +171,10 @@ made_more cell nodes before after wires made more = record {
       | inr e ↦ subst (λ (v : PlainWire). is_name v.name ≡ true) e (named_can before.used more.name more.is_named)
     ];
   };
+  attrs = λ w h. elim (Contains-push_cases wires wire w h) as (λ _. (ns : List Node) × (w.attrs ≡ wire_attrs cell ns)) [
+    | inl m ↦ made.attrs w m
+    | inr e ↦ (nodes, ap (λ (v : PlainWire). v.attrs) (sym e))
+  ];
 }
   where
     wire : PlainWire

@@ -325,6 +325,7 @@ wiring_is cells cell groups are marks good ports roots written listed entries ma
   decls_are = gives.are_made.decls;
   names_are = gives.are_made.names;
   named = gives.are_made.named;
+  attrs = gives.are_made.attrs;
   hubs = hubs_are cells cell groups are marks good.joins_in_range ports roots listed (hub_in entries) gives.wires gives.are_given;
   properties = λ partner nets. properties_are cells cell groups are marks good.joins_in_range ports roots listed (hub_in entries) gives.wires gives.are_given partner nets;
   written = record {

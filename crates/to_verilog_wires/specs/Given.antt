@@ -64,6 +64,10 @@ pub record AreNamed (cell : HCell) (wires : List PlainWire) : Type 0 where
   pub new : (wire : PlainWire) → Contains wires wire → ¬ Contains (own_names cell) wire.name
   pub can_be_written : (wire : PlainWire) → Contains wires wire → is_name wire.name ≡ true
 
+-- each wire has the attributes of the nets among some nodes
+abbrev pub HaveNetAttrs : HCell → List PlainWire → Type 0
+HaveNetAttrs cell wires = (wire : PlainWire) → Contains wires wire → (nodes : List Node) × (wire.attrs ≡ wire_attrs cell nodes)
+
 -- the wires while hubs are given
 pub record AreMade (cell : HCell) (made : Wires) (wires : List PlainWire) : Type 0 where
   pub decls : made.decls ≡ map wire_item wires
@@ -72,6 +76,7 @@ pub record AreMade (cell : HCell) (made : Wires) (wires : List PlainWire) : Type
   pub exact : made.used.up_to_case ≡ false
   pub used : (name : List ℕ) → has_name made.used name ≡ list_any (same_bytes name) (own_names cell ++ made.names)
   pub named : AreNamed cell wires
+  pub attrs : HaveNetAttrs cell wires
 
 -- the hubs of nodes, and the wires that were made for them
 pub record GivesHubs (cell : HCell) (groups : GroupTable) (roots : List Node) (entries : List (Node × Hub)) (made : Wires) : Type 0 where

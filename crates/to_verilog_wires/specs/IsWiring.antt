@@ -10,7 +10,7 @@ use Rattle.net_stars.specs.Stars.{AreHubs, AreWires, HasHub}
 use Rattle.vlog_design.specs.Design.{attr_props}
 use Rattle.vlog_values.specs.declared.module.ItemV.{ItemV}
 use Rattle.vlog_written.specs.Written.{PlainWire, wire_item}
-use Rattle.to_verilog_wires.specs.Given.{AreNamed}
+use Rattle.to_verilog_wires.specs.Given.{AreNamed, HaveNetAttrs}
 use Rattle.to_verilog_wires.specs.Groups.{AreGroups, HasMarks, live_class}
 use Rattle.to_verilog_wires.specs.Roots.{pin_port}
 use Rattle.to_verilog_wires.specs.Wiring.{WiringTable, hub_node_of, is_written}
@@ -40,6 +40,7 @@ pub record IsWiring (cells : List HCell) (cell : HCell) (wiring : WiringTable) (
   pub decls_are : decls ≡ map wire_item wires
   pub names_are : wiring.names ≡ map (λ wire. wire.name) wires
   pub named : AreNamed cell wires
+  pub attrs : HaveNetAttrs cell wires
   pub hubs : AreHubs cells cell itself (HasHub (hub_node_of wiring))
   pub properties : (partner : HCell) → partner.nets ≡ map wire_net wires → AreWires cells cell partner (HasHub (hub_node_of wiring))
   pub written : AreWritten cells cell wiring
