@@ -1,5 +1,5 @@
 -- What is made of a cell has the same local connection and the same properties of nets.
-use Rattle.std.proofs.Common.{◌≡◌, ℕ, Bool, true, List, Option, Some, map, refl, sym, ap, ◌∙◌, subst}
+use Rattle.std.proofs.Common.{◌≡◌, ℕ, Bool, true, List, Option, Some, map, sym, ap, ◌∙◌, subst}
 use Rattle.std.specs.Prelude.{◌↔◌, option_map, slice_get}
 use Rattle.std.specs.List.{flat_map}
 use Rattle.std.proofs.lemmas.Option.{slice_get-map}
@@ -68,7 +68,7 @@ module _ (name design_name : NameDef) (cells : List Cell) (top : List ℕ) (scen
   net_kept : (place class : ℕ) → slice_get live place ≡ Some class → (net : HNet) × (slice_get partner.nets place ≡ Some net) × SameValues (class_props scene.cell.nets (members_of classes class)) net.props
   net_kept place class there =
       let at : slice_get (map (λ (n : Net). (net_value n).props) ns) place ≡ Some (last_of (class_props scene.cell.nets (members_of classes class))) =
-          ap (λ l. slice_get l place) nets.props ∙ (slice_get-map (λ c. last_of (class_props scene.cell.nets (members_of classes c))) live place ∙ ap (option_map (λ c. last_of (class_props scene.cell.nets (members_of classes c)))) there) in
+      ap (λ l. slice_get l place) nets.props ∙ (slice_get-map (λ c. last_of (class_props scene.cell.nets (members_of classes c))) live place ∙ ap (option_map (λ c. last_of (class_props scene.cell.nets (members_of classes c)))) there) in
       let found = shown_at (λ (n : Net). (net_value n).props) ns place (last_of (class_props scene.cell.nets (members_of classes class))) at in (
         net_value found.item,
         ap (λ l. slice_get l place) partner_nets ∙ (slice_get-map net_value ns place ∙ ap (option_map net_value) found.is_there),

@@ -1,10 +1,9 @@
 -- The nets that are made of the live classes of a cell break no rule.
-use Rattle.std.proofs.Common.{arith, ◌≡◌, ℕ, zero, suc, ◌+◌, ◌<◌, Bool, true, false, cond, List, [], ◌∷◌, ◌++◌, Option, Some, None, filter, length, map, refl, sym, ap, ◌∙◌, subst}
+use Rattle.std.proofs.Common.{arith, ◌≡◌, ℕ, Bool, true, false, cond, List, [], ◌∷◌, ◌++◌, Option, Some, None, length, map, refl, sym, ap, ◌∙◌, subst}
 use Rattle.std.specs.Prelude.{Contains, option_map, slice_get}
 use Rattle.std.specs.List.{cons_option, filter_map, flat_map, list_any}
 use Rattle.std.proofs.lemmas.List.Concat.{flat_map-cons}
 use Rattle.std.proofs.lemmas.Option.{slice_get-map}
-use Rattle.nl_base.specs.declared.rule.Refusal.{Refusal}
 use Rattle.edif_names.specs.Names.{original}
 use Rattle.edif_names.specs.declared.name.NameDef.{NameDef}
 use Rattle.edif_names.specs.declared.property.Property.{Property}
@@ -81,10 +80,10 @@ module _ (name design_name : NameDef) (cells : List Cell) (top : List ℕ) (scen
       let in_ns : slice_get ns j ≡ Some net = subst (λ l. slice_get l j ≡ Some net) e (get_left before after j net here) in
       let at = net_at j net in_ns in
       let means : slice_get (map (map (stand_in added)) (map (ends_of classes) live)) j ≡ Some (meant linked net) =
-          ap (λ l. slice_get l j) (sym (nets_mean name design_name cells top scene placed cell_name ps is ns properties are_ports are_instances ports_apart idents_apart classes are_added constants are good live nets))
-          ∙ (slice_get-map (meant linked) ns j ∙ ap (option_map (meant linked)) in_ns) in
+      ap (λ l. slice_get l j) (sym (nets_mean name design_name cells top scene placed cell_name ps is ns properties are_ports are_instances ports_apart idents_apart classes are_added constants are good live nets))
+      ∙ (slice_get-map (meant linked) ns j ∙ ap (option_map (meant linked)) in_ns) in
       let shown : slice_get (map (map (stand_in added)) (map (ends_of classes) live)) j ≡ Some (map (stand_in added) (ends_of classes at.0)) =
-          slice_get-map (map (stand_in added)) (map (ends_of classes) live) j ∙ ap (option_map (map (stand_in added))) (slice_get-map (ends_of classes) live j ∙ ap (option_map (ends_of classes)) at.1) in
+      slice_get-map (map (stand_in added)) (map (ends_of classes) live) j ∙ ap (option_map (map (stand_in added))) (slice_get-map (ends_of classes) live j ∙ ap (option_map (ends_of classes)) at.1) in
       let same : meant linked net ≡ map (stand_in added) (ends_of classes at.0) = same_list (slice_get (map (map (stand_in added)) (map (ends_of classes) live)) j) (meant linked net) (map (stand_in added) (ends_of classes at.0)) means shown in
       let other = map_contains (stand_in added) (ends_of classes at.0) (stand_in added node) (subst (λ l. Contains l (stand_in added node)) same m) in
       let found = passed is_end (members_of classes at.0) other.0 other.1 in

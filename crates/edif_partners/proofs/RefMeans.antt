@@ -1,9 +1,7 @@
 -- What the references of the nets that are made of the classes of a cell mean.
-use Rattle.std.proofs.Common.{arith, ◌≡◌, ℕ, zero, suc, ◌+◌, ◌-◌, ◌<◌, ◌≤◌, Bool, true, false, cond, List, [], ◌∷◌, ◌++◌, Option, Some, None, get_or, length, map, ℤ, refl, sym, ap, ◌∙◌, subst}
+use Rattle.std.proofs.Common.{arith, ◌≡◌, ℕ, ◌<◌, List, [], Option, Some, None, get_or, map, refl, sym, ap, ◌∙◌, subst}
 use Rattle.std.specs.Prelude.{option_map, slice_get}
 use Rattle.std.specs.Option.{option_and_then, option_map_or}
-use Rattle.std.proofs.lemmas.Bool.{false≢true}
-use Rattle.std.proofs.lemmas.List.{length-map}
 use Rattle.std.proofs.lemmas.Option.{slice_get-map}
 use Rattle.nl_base.specs.Ranges.{Bounds, range_bits}
 use Rattle.edif_names.specs.declared.name.NameDef.{NameDef}
@@ -22,7 +20,7 @@ use Rattle.net_hier.specs.declared.nodes.Node.TheVariants as nodes
 use Rattle.edif_meanings.specs.Apart.{AreApart}
 use Rattle.edif_design.specs.CellRules.{bit_meant, port_ident, size_of}
 use Rattle.edif_design.specs.Parts.{instances, ports}
-use Rattle.edif_design.specs.References.{CellPlace, LinkedCell, all_cells, cell_meant, file_cells, link_meant, linked_cell, number_meant, place_in, with_number}
+use Rattle.edif_design.specs.References.{CellPlace, LinkedCell, cell_meant, file_cells, link_meant, linked_cell, number_meant, place_in, with_number}
 use Rattle.edif_written.specs.Written.{cell_of, file_of, work}
 use Rattle.edif_written.proofs.Cells.{all_cells_are, link_means}
 use Rattle.edif_written.proofs.Parts.{instances_are, ports_are}
@@ -92,7 +90,7 @@ module _ (name design_name : NameDef) (cells : List Cell) (top : List ℕ) (scen
       let at : slice_get (instances made) i ≡ Some x = ap (λ l. slice_get l i) (instances_are cell_name ps is ns properties) ∙ here in
       let link : link_meant file 0 x.library x.cell ≡ Some (number, place_in 0 inner) = (λ j. link_meant file 0 (library j) (of_cell j)) ∙ link_means name design_name cells top 0 number inner there placed.apart in
       let meant : option_and_then (with_number (file_cells file)) (number_meant (cell_meant file 0 x)) ≡ Some (number, inner) =
-          ap (λ o. option_and_then (with_number (file_cells file)) (number_meant o)) link ∙ ap (option_map (λ (c : Cell). (number, c))) (cell_there number inner there) in
+      ap (λ o. option_and_then (with_number (file_cells file)) (number_meant o)) link ∙ ap (option_map (λ (c : Cell). (number, c))) (cell_there number inner there) in
       at_get linked.below i (Some (number, inner)) None
       (slice_get-map (option_and_then (with_number (file_cells file))) (map (λ (inst : Instance). number_meant (cell_meant file 0 inst)) (instances made)) i
       ∙ (ap (option_map (option_and_then (with_number (file_cells file)))) (slice_get-map (λ (inst : Instance). number_meant (cell_meant file 0 inst)) (instances made) i ∙ ap (option_map (λ (inst : Instance). number_meant (cell_meant file 0 inst))) at)
@@ -109,8 +107,8 @@ module _ (name design_name : NameDef) (cells : List Cell) (top : List ℕ) (scen
   pin_found i port bit h =
       let stands = placed.stand h.the_instance.cell h.below h.is_below in
       let at : slice_get (map instance_face is) i ≡ Some (own_face scene.plan h.the_instance) =
-          ap (λ l. slice_get l i) are_instances.faces
-          ∙ get_left (map (own_face scene.plan) scene.cell.instances) (map (added_face scene.plan) scene.instances.added) i (own_face scene.plan h.the_instance) (slice_get-map (own_face scene.plan) scene.cell.instances i ∙ ap (option_map (own_face scene.plan)) h.is_there) in
+      ap (λ l. slice_get l i) are_instances.faces
+      ∙ get_left (map (own_face scene.plan) scene.cell.instances) (map (added_face scene.plan) scene.instances.added) i (own_face scene.plan h.the_instance) (slice_get-map (own_face scene.plan) scene.cell.instances i ∙ ap (option_map (own_face scene.plan)) h.is_there) in
       let found = shown_at instance_face is i (own_face scene.plan h.the_instance) at in
       let ident : slice_get scene.instances.idents i ≡ Some found.item.name.ident = ap (λ l. slice_get l i) (sym are_instances.idents) ∙ (slice_get-map instance_ident is i ∙ ap (option_map instance_ident) found.is_there) in
       let is_below : below_at scene.cell.instances i ≡ h.the_instance.cell = ap (λ o. option_map_or (λ (one : HInst). one.cell) o 0) h.is_there in
