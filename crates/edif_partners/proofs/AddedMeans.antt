@@ -1,13 +1,11 @@
 -- Where the instances stand that are added for the constants.
-use Rattle.std.proofs.Common.{arith, ◌≡◌, ℕ, zero, suc, ◌+◌, ◌-◌, ◌<◌, ◌≤◌, Bool, true, false, cond, List, [], ◌∷◌, ◌++◌, Option, Some, None, length, map, refl, sym, ap, ◌∙◌, subst}
+use Rattle.std.proofs.Common.{arith, ◌≡◌, ℕ, zero, suc, ◌+◌, Bool, true, false, cond, List, [], ◌∷◌, ◌++◌, Some, None, length, map, refl, sym, ap, ◌∙◌}
 use Rattle.std.specs.Prelude.{slice_get}
-use Rattle.std.proofs.lemmas.Bool.{false≢true}
 use Rattle.std.proofs.lemmas.List.{length-map}
 use Rattle.net_bits.specs.Classes.{ClassTable}
-use Rattle.net_hier.specs.declared.cells.HCell.{HCell}
 use Rattle.net_live.specs.Live.{needs_constant}
 use Rattle.net_stars.specs.StandIns.{AreAddedAfter}
-use Rattle.edif_plans.specs.Made.{AreAddedTo, needed_values}
+use Rattle.edif_plans.specs.Made.{AreAddedTo}
 use Rattle.edif_plans.specs.References.{Scene, added_place}
 use Rattle.edif_plans.specs.declared.added.Added.{Added}
 use Rattle.edif_making.proofs.CellLaws.{idents_count}

@@ -1,5 +1,5 @@
 -- The instances that are made of those of a cell, and of the constants that it needs, break no rule.
-use Rattle.std.proofs.Common.{arith, ◌≡◌, ℕ, zero, suc, ◌+◌, ◌<◌, ◌≤◌, ◌⊎◌, inl, inr, Bool, true, false, cond, List, [], ◌∷◌, ◌++◌, Option, Some, None, length, map, refl, sym, ap, ◌∙◌, subst}
+use Rattle.std.proofs.Common.{◌≡◌, ℕ, zero, suc, ◌⊎◌, inl, inr, Bool, true, List, [], ◌∷◌, ◌++◌, Some, map, refl, sym, ap, ◌∙◌, subst}
 use Rattle.std.specs.Prelude.{option_map, slice_get}
 use Rattle.std.proofs.lemmas.List.{map-append}
 use Rattle.std.proofs.lemmas.Option.{slice_get-map}
@@ -13,16 +13,14 @@ use Rattle.net_hier.specs.declared.cells.HCell.{HCell}
 use Rattle.net_hier.specs.declared.cells.HInst.{HInst}
 use Rattle.net_live.specs.Live.{needs_constant}
 use Rattle.edif_meanings.specs.Apart.{AreApart}
-use Rattle.edif_design.specs.CellRules.{means_view}
-use Rattle.edif_written.specs.Written.{netlist}
 use Rattle.edif_written.proofs.CellLaws.{AreInstances, IsOf}
-use Rattle.edif_plans.specs.Faces.{InstanceFace, added_face, instance_face, instance_faces, instance_ident, instance_names, own_face}
-use Rattle.edif_plans.specs.Made.{AreAddedTo, AreFree, AreInstancesFor, needed_values}
-use Rattle.edif_plans.specs.Plans.{constant_number, head_of, number_of}
+use Rattle.edif_plans.specs.Faces.{InstanceFace, added_face, instance_face, instance_faces, instance_names, own_face}
+use Rattle.edif_plans.specs.Made.{AreAddedTo, AreInstancesFor}
+use Rattle.edif_plans.specs.Plans.{constant_number, number_of}
 use Rattle.edif_plans.specs.declared.added.Added.{Added}
 use Rattle.edif_plans.specs.declared.added.Instances.{Instances}
 use Rattle.edif_plans.specs.declared.plan.Plan.{Plan}
-use Rattle.edif_partners.specs.Placed.{ArePlaced, ConstantStands, IsHeadFor, StandsAt}
+use Rattle.edif_partners.specs.Placed.{ArePlaced, ConstantStands}
 use Rattle.edif_partners.proofs.Free.{free_append, names_own, none_earlier, own_free, shown_at}
 use Rattle.edif_making.proofs.CellLaws.{added_value}
 

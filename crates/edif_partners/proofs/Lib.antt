@@ -1,5 +1,6 @@
 pub mod AddedMeans
 pub mod CellRules
+pub mod FileRules
 pub mod Free
 pub mod InstanceRules
 pub mod Kept
@@ -7,3 +8,4 @@ pub mod NetMeans
 pub mod NetRules
 pub mod PortRules
 pub mod RefMeans
+pub mod Same

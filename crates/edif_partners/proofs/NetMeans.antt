@@ -1,5 +1,5 @@
 -- The nets that are made of the live classes of a cell join what stands for their nodes, each net the nodes of its class.
-use Rattle.std.proofs.Common.{arith, ◌≡◌, ℕ, zero, suc, ◌+◌, ◌<◌, ◌⊎◌, inl, inr, Bool, true, false, cond, List, [], ◌∷◌, ◌++◌, Option, Some, None, filter, get_or, length, map, refl, sym, ap, ◌∙◌, subst}
+use Rattle.std.proofs.Common.{arith, ◌≡◌, ℕ, Bool, true, false, cond, List, [], ◌∷◌, Option, Some, None, filter, length, map, refl, sym, ap, ◌∙◌, subst}
 use Rattle.std.specs.Prelude.{Contains, option_map, slice_get}
 use Rattle.std.specs.List.{cons_option, filter_map, flat_map}
 use Rattle.std.proofs.lemmas.List.{length-map}
@@ -7,7 +7,6 @@ use Rattle.std.proofs.lemmas.Option.{slice_get-map}
 use Rattle.edif_names.specs.declared.name.NameDef.{NameDef}
 use Rattle.edif_names.specs.declared.property.Property.{Property}
 use Rattle.edif_library.specs.declared.cell.Cell.{Cell}
-use Rattle.edif_library.specs.declared.file.EdifFile.{EdifFile}
 use Rattle.edif_nets.specs.declared.instance.Instance.{Instance}
 use Rattle.edif_nets.specs.declared.net.Net.{Net}
 use Rattle.edif_nets.specs.declared.net.PortRef.{PortRef}
@@ -18,14 +17,14 @@ use Rattle.net_hier.specs.SameCells.{stand_in}
 use Rattle.net_hier.specs.Valid.{IsGoodCell}
 use Rattle.net_hier.specs.declared.nodes.Node.{Node}
 use Rattle.net_hier.specs.declared.nodes.Node.TheVariants as nodes
-use Rattle.net_live.specs.Live.{AreLiveClasses, ends_of, is_end, is_live, needs_constant}
-use Rattle.net_live.proofs.LiveLaws.{element_at, joined_node, place_of}
+use Rattle.net_live.specs.Live.{ends_of, is_end, is_live, needs_constant}
+use Rattle.net_live.proofs.LiveLaws.{joined_node, place_of}
 use Rattle.net_stars.specs.Nets.{stars}
 use Rattle.net_stars.proofs.Lists.{contains_first, contains_later}
 use Rattle.edif_meanings.specs.Apart.{AreApart}
-use Rattle.edif_design.specs.CellRules.{bit_meant, port_ident, size_of}
+use Rattle.edif_design.specs.CellRules.{bit_meant, port_ident}
 use Rattle.edif_design.specs.Design.{net_joins}
-use Rattle.edif_design.specs.Parts.{instances, numbered, ports}
+use Rattle.edif_design.specs.Parts.{numbered, ports}
 use Rattle.edif_design.specs.References.{LinkedCell, linked_cell, place_in}
 use Rattle.edif_written.specs.Written.{cell_of, file_of}
 use Rattle.edif_written.proofs.JoinLaws.{joins_are, meant}

@@ -1,10 +1,9 @@
 -- The nets that are made of the live classes of a cell break no rule.
-use Rattle.std.proofs.Common.{arith, ◌≡◌, ℕ, zero, suc, ◌+◌, ◌<◌, Bool, true, false, cond, List, [], ◌∷◌, ◌++◌, Option, Some, None, filter, length, map, refl, sym, ap, ◌∙◌, subst}
+use Rattle.std.proofs.Common.{arith, ◌≡◌, ℕ, Bool, true, false, cond, List, [], ◌∷◌, ◌++◌, Option, Some, None, length, map, refl, sym, ap, ◌∙◌, subst}
 use Rattle.std.specs.Prelude.{Contains, option_map, slice_get}
 use Rattle.std.specs.List.{cons_option, filter_map, flat_map, list_any}
 use Rattle.std.proofs.lemmas.List.Concat.{flat_map-cons}
 use Rattle.std.proofs.lemmas.Option.{slice_get-map}
-use Rattle.nl_base.specs.declared.rule.Refusal.{Refusal}
 use Rattle.edif_names.specs.Names.{original}
 use Rattle.edif_names.specs.declared.name.NameDef.{NameDef}
 use Rattle.edif_names.specs.declared.property.Property.{Property}

@@ -1,5 +1,5 @@
 -- The ports that are made of those of a cell break no rule.
-use Rattle.std.proofs.Common.{arith, ◌≡◌, ℕ, ◌+◌, ◌<◌, ◌≤◌, Bool, true, false, ◌||◌, List, [], ◌∷◌, Option, Some, None, map, ℤ, pos, refl, sym, ap, ◌∙◌, subst}
+use Rattle.std.proofs.Common.{arith, ◌≡◌, ℕ, ◌≤◌, false, ◌||◌, List, [], ◌∷◌, Option, Some, None, map, pos, refl, sym, ap, ◌∙◌, subst}
 use Rattle.std.specs.Prelude.{int_lt, option_map, slice_get}
 use Rattle.std.proofs.lemmas.Bool.Decides.{nat_tests}
 use Rattle.std.proofs.lemmas.Option.{slice_get-map}
@@ -10,7 +10,7 @@ use Rattle.net_hier.specs.Valid.{Each, HaveOwnNames, IsPortWidth}
 use Rattle.net_hier.specs.declared.cells.HCell.{HCell}
 use Rattle.net_hier.specs.declared.cells.HPort.{HPort}
 use Rattle.edif_meanings.specs.Apart.{AreApart}
-use Rattle.edif_design.specs.CellRules.{is_bad_size, port_ident, port_name, size_of}
+use Rattle.edif_design.specs.CellRules.{is_bad_size, port_name, size_of}
 use Rattle.edif_written.proofs.CellLaws.{ArePorts}
 use Rattle.edif_plans.specs.Faces.{PortFace, face_for, face_of, size_for}
 use Rattle.edif_plans.specs.Made.{ArePortsFor}

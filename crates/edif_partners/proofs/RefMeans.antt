@@ -1,9 +1,7 @@
 -- What the references of the nets that are made of the classes of a cell mean.
-use Rattle.std.proofs.Common.{arith, ◌≡◌, ℕ, zero, suc, ◌+◌, ◌-◌, ◌<◌, ◌≤◌, Bool, true, false, cond, List, [], ◌∷◌, ◌++◌, Option, Some, None, get_or, length, map, ℤ, refl, sym, ap, ◌∙◌, subst}
+use Rattle.std.proofs.Common.{arith, ◌≡◌, ℕ, ◌<◌, List, [], Option, Some, None, get_or, map, refl, sym, ap, ◌∙◌, subst}
 use Rattle.std.specs.Prelude.{option_map, slice_get}
 use Rattle.std.specs.Option.{option_and_then, option_map_or}
-use Rattle.std.proofs.lemmas.Bool.{false≢true}
-use Rattle.std.proofs.lemmas.List.{length-map}
 use Rattle.std.proofs.lemmas.Option.{slice_get-map}
 use Rattle.nl_base.specs.Ranges.{Bounds, range_bits}
 use Rattle.edif_names.specs.declared.name.NameDef.{NameDef}
@@ -22,7 +20,7 @@ use Rattle.net_hier.specs.declared.nodes.Node.TheVariants as nodes
 use Rattle.edif_meanings.specs.Apart.{AreApart}
 use Rattle.edif_design.specs.CellRules.{bit_meant, port_ident, size_of}
 use Rattle.edif_design.specs.Parts.{instances, ports}
-use Rattle.edif_design.specs.References.{CellPlace, LinkedCell, all_cells, cell_meant, file_cells, link_meant, linked_cell, number_meant, place_in, with_number}
+use Rattle.edif_design.specs.References.{CellPlace, LinkedCell, cell_meant, file_cells, link_meant, linked_cell, number_meant, place_in, with_number}
 use Rattle.edif_written.specs.Written.{cell_of, file_of, work}
 use Rattle.edif_written.proofs.Cells.{all_cells_are, link_means}
 use Rattle.edif_written.proofs.Parts.{instances_are, ports_are}
