@@ -1,0 +1,7 @@
+// The tests of the crates of the translator to Verilog: worked rows, and calls that take memory, of which no clause can say that they succeed.
+//
+// There is nothing here but tests and what they read: they stand above the crates that they call, so that each of those is proved once.
+#![tactic(auto)]
+
+#[cfg(test)]
+mod rules;
