@@ -255,13 +255,13 @@ module _ (design : Design) (params : NameSet) (number : ℕ) (cell : HCell) (val
         params = parameters_are params instance.props names.props_are values;
         name = name_is instance.name names.name_is;
         conns = all_made IsNamedConn (conn_of cell.ports wiring place) 0 (below_ports design.cells instance) (λ k port f.
-          let z : 0 + k ≡ k = omega arith in
-          let g : slice_get is_below.0.ports k ≡ Some port = sym (ap (λ l. slice_get l k) ports) ∙ f in
-          subst (λ n. IsNamedConn (conn_of cell.ports wiring place (n, port))) (sym z) (record {
-            port = name_is port.name (all_at (λ (q : HPort). IsNamedObject q.name q.props) is_below.0.ports (named instance.cell is_below.0 is_below.1).ports k port g).name_is;
-            value = pin_good place k (width_of port.range) (connected cell.ports wiring place k (width_of port.range)) ((valid.good_cells instance.cell is_below.0 is_below.1).widths k port g).0
-                (pin_of design params number cell valid is_cell writable wiring decls w place instance is_below.0 e is_below.1 k port g);
-          }));
+            let z : 0 + k ≡ k = omega arith in
+            let g : slice_get is_below.0.ports k ≡ Some port = sym (ap (λ l. slice_get l k) ports) ∙ f in
+            subst (λ n. IsNamedConn (conn_of cell.ports wiring place (n, port))) (sym z) (record {
+              port = name_is port.name (all_at (λ (q : HPort). IsNamedObject q.name q.props) is_below.0.ports (named instance.cell is_below.0 is_below.1).ports k port g).name_is;
+              value = pin_good place k (width_of port.range) (connected cell.ports wiring place k (width_of port.range)) ((valid.good_cells instance.cell is_below.0 is_below.1).widths k port g).0
+                  (pin_of design params number cell valid is_cell writable wiring decls w place instance is_below.0 e is_below.1 k port g);
+            }));
       }
 
   pub module_good : IsGoodModule p
@@ -272,6 +272,6 @@ module _ (design : Design) (params : NameSet) (number : ℕ) (cell : HCell) (val
     wires = wires_good;
     assigns = assigns_good;
     instances = all_made IsGoodInstance (instance_of design.cells cell.ports wiring params) 0 cell.instances (λ k instance e.
-      let z : 0 + k ≡ k = omega arith in
-      subst (λ n. IsGoodInstance (instance_of design.cells cell.ports wiring params (n, instance))) (sym z) (instance_good k instance e));
+        let z : 0 + k ≡ k = omega arith in
+        subst (λ n. IsGoodInstance (instance_of design.cells cell.ports wiring params (n, instance))) (sym z) (instance_good k instance e));
   }
