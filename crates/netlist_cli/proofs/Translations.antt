@@ -2,12 +2,9 @@
 use Rattle.std.proofs.Common.{◌≡◌, List, Option, Result, Ok, Err, refl, sym, ap, subst, ◌∙◌}
 use Rattle.std.specs.Prelude.{MatchResult}
 use Rattle.nl_base.specs.declared.rule.Refusal.{Refusal}
-use Rattle.net_bits.specs.Names.{has_name}
 use Rattle.net_hier.specs.Design.{Design}
-use Rattle.edif_design.specs.Design.{edif_design}
 use Rattle.edif_library.specs.declared.file.EdifFile.{EdifFile}
 use Rattle.edif_resolve.specs.Answers.{IsDesignOf}
-use Rattle.to_verilog_rules.specs.Rules.{first_V}
 use Rattle.vlog_design.specs.Names.{Name}
 use Rattle.vlog_rereading.proofs.Law.{text_spells}
 use Rattle.vlog_values.specs.declared.module.VlogFile.{VlogFile}

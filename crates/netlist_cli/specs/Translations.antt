@@ -1,6 +1,5 @@
 -- What is made on the way from a file of one language to a text of the other.
-use Rattle.std.specs.Prelude.{◌≡◌, List, Option}
-use Rattle.nl_base.specs.declared.rule.Refusal.{Refusal}
+use Rattle.std.specs.Prelude.{◌≡◌, List}
 use Rattle.net_bits.specs.Names.{NameSet, has_name}
 use Rattle.net_hier.specs.Design.{Design}
 use Rattle.edif_library.specs.declared.file.EdifFile.{EdifFile}

@@ -38,7 +38,7 @@ fn params_of(alloc: Global, names: &Seq<Text>) -> Result<Names, NoMemory>
 ///
 /// # Errors
 /// The first object of the lowest rule of the target that the design breaks. Want of memory is also answered where the modules could not be
-/// written: no design that is made of a text is known that gives such modules, but this is not proved.
+/// written; that no design of a text gives such modules is not proved yet.
 fn modules_of(alloc: Global, hier: &Hier, params: &Names) -> Result<VlogFile, Failure>
     ensures { MatchResult result (IsMadeFor hier.now params.now)
         (IsFailureOf (said_of_design hier.now params.now)) }
@@ -87,6 +87,10 @@ fn translated(alloc: Global, file: &EdifFile, names: &Seq<Text>) -> Result<VlogF
 }
 
 /// Reads an EDIF file and writes its design in Verilog. Properties of instances with one of these names are written as parameters.
+///
+/// # Errors
+/// Those of reading; the first object of the lowest rule of EDIF, or else of Verilog as a target, that is broken; a design of too many units;
+/// and a put that failed. Want of memory is also answered where the modules could not be written (`modules_of`).
 pub fn translate<S: Source, O: Sink>(
     alloc: Global,
     names: &Seq<Text>,
