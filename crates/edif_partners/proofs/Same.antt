@@ -140,7 +140,7 @@ module _ (name design_name : NameDef) (cells : List Cell) (top : List ℕ) (name
   own_at : (i : ℕ) (instance : HInst) → slice_get cell.instances i ≡ Some instance → (x : Instance) × (slice_get is.made_instances i ≡ Some x) × (instance_face x ≡ own_face plan instance)
   own_at i instance h =
       let at : slice_get (map instance_face is.made_instances) i ≡ Some (own_face plan instance) = ap (λ l. slice_get l i) is.are_instances.faces
-          ∙ get_left (map (own_face plan) cell.instances) (map (added_face plan) is.instances.added) i (own_face plan instance) (slice_get-map (own_face plan) cell.instances i ∙ ap (option_map (own_face plan)) h) in
+      ∙ get_left (map (own_face plan) cell.instances) (map (added_face plan) is.instances.added) i (own_face plan instance) (slice_get-map (own_face plan) cell.instances i ∙ ap (option_map (own_face plan)) h) in
       let found = shown_at instance_face is.made_instances i (own_face plan instance) at in
       (found.item, found.is_there, found.shows)
 
@@ -161,7 +161,7 @@ module _ (name design_name : NameDef) (cells : List Cell) (top : List ℕ) (name
       let p : ℕ = added_place is.instances value in
       let count : length (map (own_face plan) cell.instances) ≡ length cell.instances = length-map cell.instances (own_face plan) in
       let at : slice_get (map instance_face is.made_instances) p ≡ Some (added_face plan a.one) = ap (λ l. slice_get l p) is.are_instances.faces
-          ∙ (get_right (map (own_face plan) cell.instances) (map (added_face plan) is.instances.added) p a.place (let e = a.at in omega (arith, e, count)) ∙ (slice_get-map (added_face plan) is.instances.added a.place ∙ ap (option_map (added_face plan)) a.is_there)) in
+      ∙ (get_right (map (own_face plan) cell.instances) (map (added_face plan) is.instances.added) p a.place (let e = a.at in omega (arith, e, count)) ∙ (slice_get-map (added_face plan) is.instances.added a.place ∙ ap (option_map (added_face plan)) a.is_there)) in
       let found = shown_at instance_face is.made_instances p (added_face plan a.one) at in
       let below = constant_cells value needed in
       record {
