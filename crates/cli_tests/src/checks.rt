@@ -63,7 +63,7 @@ fn files_are_checked(rt: HostRuntime) -> Result<(), Fail> {
 }
 
 /// Texts behind one another.
-fn text_of(alloc: Global, pieces: &[&[u8]]) -> Result<Vec<u8>, Fail> {
+pub fn text_of(alloc: Global, pieces: &[&[u8]]) -> Result<Vec<u8>, Fail> {
     let mut text = Vec::new(alloc);
     for piece in pieces {
         text.extend_from_slice(*piece)?;

@@ -11,3 +11,5 @@ mod tests;
 mod texts;
 #[cfg(test)]
 mod tops;
+#[cfg(test)]
+mod translations;

@@ -262,6 +262,29 @@ module blinker (
 endmodule
 ";
 
+/// The same modules, where INIT is the name of a parameter.
+pub const BLINKER_PARAMETERS: &[u8] = b"module FDRE (
+  output Q,
+  input C,
+  input D
+);
+endmodule
+module LUT1 (
+  output O,
+  input I0
+);
+endmodule
+(* part = \"xc7\" *)
+module blinker (
+  input clk,
+  output [3:0] q
+);
+  wire d;
+  FDRE #(.INIT(1'b0)) \\q_reg[0]  (.Q(q[0]), .C(clk), .D(d));
+  (* DONT_TOUCH = 1'b1 *) LUT1 #(.INIT(2'h1)) lut (.O(d), .I0(q[0]));
+endmodule
+";
+
 /// Replications, concatenations, literals and a supply net.
 pub const LITERALS: &[u8] = b"module AND4 (input [3:0] A, output Y); endmodule
 module top (input [1:0] b, input c, output y, output z);

@@ -5,7 +5,8 @@ use nl_base::{Seq, Text};
 use std::alloc::Global;
 use std::test::Fail;
 
-fn words_of(alloc: Global, line: &[&[u8]]) -> Result<Seq<Text>, Fail> {
+/// Words, in order.
+pub fn words_of(alloc: Global, line: &[&[u8]]) -> Result<Seq<Text>, Fail> {
     let mut words = Seq::empty(alloc);
     for word in line {
         words.push(Text::copy(alloc, *word)?)?;
