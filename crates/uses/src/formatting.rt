@@ -1,6 +1,6 @@
-use edif_library::{ReadError, read_edif};
+use edif_library::read_edif;
 use edif_writer::write_edif;
-use nl_base::Place;
+use nl_base::{Place, ReadError};
 use nl_io::{Sink, Source};
 use std::alloc::Global;
 
