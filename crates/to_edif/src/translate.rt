@@ -32,10 +32,10 @@ fn file_of(
     // What `Constants` keeps is known of one whose names are read.
     let _zero = constants.zero();
     stems_of(constants);
-    let first = new_cells(alloc, constants, &planned.plan, planned.missing.as_slice())?;
-    let cells = with_cells(alloc, hier, constants, &planned.plan, all, first)?;
     let top = &hier.cells()[hier.top() as usize];
     let word = top.name.bytes();
+    let first = new_cells(alloc, constants, &planned.plan, planned.missing.as_slice())?;
+    let cells = with_cells(alloc, hier, constants, &planned.plan, all, first)?;
     let name = lone_name(alloc, word)?;
     let design_name = lone_name(alloc, word)?;
     let head = planned.plan.head(hier.top());
