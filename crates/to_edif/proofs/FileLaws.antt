@@ -7,7 +7,7 @@ use Rattle.std.proofs.lemmas.List.{length-map}
 use Rattle.std.proofs.lemmas.Option.{slice_get_within}
 use Rattle.net_bits.specs.Classes.{AreClasses, ClassTable}
 use Rattle.net_hier.specs.Constants.{AreConstantNames, ConstantNames}
-use Rattle.net_hier.specs.Design.{Design, IsCell}
+use Rattle.net_hier.specs.Design.{Design, IsCell, top_name}
 use Rattle.net_hier.specs.Valid.{IsGoodCell, IsValid}
 use Rattle.net_hier.specs.declared.cells.HCell.{HCell}
 use Rattle.net_hier.specs.declared.cells.HPort.{HPort}
@@ -33,7 +33,7 @@ use Rattle.edif_rereading.specs.Values.{IsEdifValue}
 use Rattle.edif_value_laws.specs.Named.{HasWords}
 use Rattle.edif_value_laws.proofs.Files.{made_value}
 use Rattle.to_edif.specs.Cells.{HasConstants, HasNewHead, HaveHeads}
-use Rattle.to_edif.specs.Files.{IsLoneName}
+use Rattle.to_edif.specs.Files.{IsLoneName, IsNamedAfterTop}
 use Rattle.to_edif.proofs.Named.{planned_named}
 
 module _ (names : ConstantNames) (design : Design) (valid : IsValid design) (values : List Bool) (plan : Plan) (is : IsPlan names design values plan) where
@@ -91,6 +91,14 @@ planned_file names design planned cells name design_name top file is are is_top 
 -- each design that says what the file says is the same as the design
 pub edif_for : (names : ConstantNames) (design : Design) (file : EdifFile) → AreConstantNames names → IsValid design → IsPlannedFile names design file → IsEdifFor names design file
 edif_for names design file good valid planned = planned_is_edif names design file valid planned good
+
+-- the file and its design are named after the top
+pub named_after_top : (design : Design) (cells : List Cell) (name design_name : NameDef) (top : List ℕ) (file : EdifFile) (cell : HCell) (word : List ℕ) → IsCell design.cells design.top cell → word ≡ cell.name → IsLoneName word name → IsLoneName word design_name → file ≡ file_of name design_name cells top
+    → IsNamedAfterTop design file
+unfolding file_of
+named_after_top design cells name design_name top file cell word there is_word is_name is_design_name is_file =
+    let named : word ≡ top_name design.cells design.top = is_word ∙ sym (ap (λ o. option_map_or (λ (c : HCell). c.name) o []) there) in
+    subst (IsNamedAfterTop design) (sym is_file) (record { file_name = is_name.is_name ∙ named; design_names = ap (λ n. n ∷ []) (is_design_name.is_name ∙ named) })
 
 -- ---- the file can be written
 

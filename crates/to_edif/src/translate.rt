@@ -5,6 +5,7 @@ ghost use Rattle.edif_planning.specs.Classes.{AreAllClasses};
 ghost use Rattle.edif_planning.specs.Plans.{IsPlanned};
 ghost use Rattle.edif_plans.specs.Sound.{IsSoundDesign};
 ghost use Rattle.edif_rereading.specs.Values.{IsEdifValue};
+ghost use Rattle.to_edif.specs.Files.{IsNamedAfterTop};
 
 use crate::cells::{new_cells, with_cells};
 use crate::file::{file_with, lone_name};
@@ -27,6 +28,7 @@ fn file_of(
     requires classes { AreAllClasses hier.now.cells all.now }
     requires planned { IsPlanned constants.now hier.now planned.now }
     ensures same { IfOk result (IsEdifFor constants.now hier.now) }
+    ensures named { IfOk result (IsNamedAfterTop hier.now) }
     ensures value { IfOk result (λ file. IsSoundDesign hier.now → IsEdifValue file) }
 {
     // What `Constants` keeps is known of one whose names are read.
@@ -50,6 +52,7 @@ fn file_of(
 /// `NoMemory`: memory ran out.
 pub fn to_edif(alloc: Global, hier: &Hier, constants: &Constants) -> Result<EdifFile, NoMemory>
     ensures same { IfOk result (IsEdifFor constants.now hier.now) }
+    ensures named { IfOk result (IsNamedAfterTop hier.now) }
     ensures value { IfOk result (λ file. IsSoundDesign hier.now → IsEdifValue file) }
 {
     let all = all_classes(alloc, hier)?;

@@ -4,7 +4,7 @@ use Rattle.edif_copies.specs.Planned.{AreCells}
 use Rattle.edif_plans.specs.Plans.{HasHead, head_of}
 use Rattle.edif_planning.proofs.ClassLaws.{cell_here}
 use Rattle.to_edif.specs.Cells.{AreNewCells}
-use Rattle.to_edif.proofs.FileLaws.{edif_for, file_value, has_constants, have_heads, planned_file}
+use Rattle.to_edif.proofs.FileLaws.{edif_for, file_value, has_constants, have_heads, named_after_top, planned_file}
 use Rattle.to_edif.proofs.translate.file_of.Goals as goal
 
 pub new_cells-requires : goal.new_cells-requires
@@ -36,3 +36,12 @@ returns-clause-value c =
     cell_here c.args.hier.now.cells c.cells.result.now c.top.result c.index-cells-top.result c.index-cells-top.result c.cells.ensures.cells (omega (arith, same, has_top, c.top.ensures.top)) c.index-cells-top.is in
     file_value c.args.constants.now c.args.hier.now c.args.planned.now c.in_ok-cells.cells.items c.in_ok-name.name c.in_ok-design_name.design_name c.head-head.result.now.cell c.in_ok-file.file c.index-cells-top.result c.bytes-word.result.now c.requires.planned
     (c.in_ok-cells.ensures c.args.planned.now.missing.items new) new.words c.stems_of.ensures (subst (λ n. IsCell c.args.hier.now.cells n c.index-cells-top.result) c.top.ensures.top here) c.bytes-word.ensures c.in_ok-name.ensures c.in_ok-design_name.ensures c.words_of.ensures.cell c.in_ok-file.ensures
+
+pub returns-clause-named : goal.returns-clause-named
+returns-clause-named c =
+    let same = ap length c.cells.ensures.cells in
+    let has_top = c.cells.ensures.valid.valid.has_top in
+    let here : IsCell c.args.hier.now.cells c.top.result c.index-cells-top.result =
+    cell_here c.args.hier.now.cells c.cells.result.now c.top.result c.index-cells-top.result c.index-cells-top.result c.cells.ensures.cells (omega (arith, same, has_top, c.top.ensures.top)) c.index-cells-top.is in
+    named_after_top c.args.hier.now c.in_ok-cells.cells.items c.in_ok-name.name c.in_ok-design_name.design_name c.head-head.result.now.cell c.in_ok-file.file c.index-cells-top.result c.bytes-word.result.now
+    (subst (λ n. IsCell c.args.hier.now.cells n c.index-cells-top.result) c.top.ensures.top here) c.bytes-word.ensures c.in_ok-name.ensures c.in_ok-design_name.ensures c.in_ok-file.ensures
