@@ -1,20 +1,17 @@
 -- What the cells of the file need is there, and what the file is.
-use Rattle.std.proofs.Common.{arith, ◌≡◌, ◌⊎◌, inl, inr, ℕ, zero, suc, ◌+◌, ◌<◌, Bool, true, List, [], ◌∷◌, Option, None, Some, length, map, refl, sym, ap, ◌∙◌, subst}
+use Rattle.std.proofs.Common.{arith, ◌≡◌, inl, inr, ℕ, zero, suc, ◌<◌, Bool, List, [], ◌∷◌, Some, length, sym, ap, ◌∙◌, subst}
 use Rattle.std.specs.Prelude.{slice_get}
 use Rattle.std.specs.Option.{option_map_or}
 use Rattle.std.specs.List.{AllByRecursion}
 use Rattle.std.proofs.lemmas.List.{length-map}
 use Rattle.std.proofs.lemmas.Option.{slice_get_within}
-use Rattle.net_bits.specs.Classes.{AreClasses, ClassTable}
 use Rattle.net_hier.specs.Constants.{AreConstantNames, ConstantNames}
 use Rattle.net_hier.specs.Design.{Design, IsCell, top_name}
 use Rattle.net_hier.specs.Valid.{IsGoodCell, IsValid}
 use Rattle.net_hier.specs.declared.cells.HCell.{HCell}
 use Rattle.net_hier.specs.declared.cells.HPort.{HPort}
-use Rattle.net_live.specs.Live.{needs_constant}
 use Rattle.net_live.proofs.NeedLaws.{need_is}
 use Rattle.edif_keywords.specs.Values.{IsString, IsWord}
-use Rattle.edif_names.specs.Values.{IsNameDef}
 use Rattle.edif_names.specs.declared.name.NameDef.{NameDef}
 use Rattle.edif_naming.proofs.SoundLaws.{short_string}
 use Rattle.edif_library.specs.declared.cell.Cell.{Cell}

@@ -1,5 +1,4 @@
-use Rattle.std.proofs.Common.{arith, ◌≡◌, ◌<◌, ap, length, subst, sym, ◌∙◌}
-use Rattle.net_hier.specs.Constants.{name_of_constant}
+use Rattle.std.proofs.Common.{arith, ◌<◌, ap, length, subst, sym, ◌∙◌}
 use Rattle.edif_plans.specs.Made.{new_cell_for}
 use Rattle.edif_value_laws.specs.Named.{HasWords}
 use Rattle.to_edif.proofs.CellLaws.{all_new, head_here, one_new}

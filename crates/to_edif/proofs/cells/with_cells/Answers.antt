@@ -1,8 +1,7 @@
-use Rattle.std.proofs.Common.{arith, ◌≡◌, ◌<◌, Some, ap, get_or, length}
-use Rattle.std.specs.Prelude.{slice_get}
+use Rattle.std.proofs.Common.{arith, ◌<◌, get_or, length}
 use Rattle.edif_planning.proofs.ClassLaws.{classes_at, classes_here, item_there}
 use Rattle.edif_planning.proofs.OrderLaws.{order_there, order_within}
-use Rattle.to_edif.proofs.CellLaws.{all_cells, made_of, new_alone, one_cell}
+use Rattle.to_edif.proofs.CellLaws.{all_cells, made_of, one_cell}
 use Rattle.to_edif.proofs.cells.with_cells.Goals as goal
 
 pub bounds-all-number : goal.bounds-all-number
@@ -27,7 +26,7 @@ cell_of-requires-clause-constants c =
     order_within c.args.hier.now c.order-order.ensures.valid.valid c.loop-number.number-index _ (order_there c.args.hier.now c.order-order.result.now c.order-order.ensures.order c.loop-number.number-index 0 c.loop-number-test.true) in
     let cell = item_there c.args.hier.now.cells (get_or c.order-order.result.now c.loop-number.number-index 0) within in
     let are = classes_at c.args.hier.now.cells c.args.all.now c.requires.classes (get_or c.order-order.result.now c.loop-number.number-index 0) c.index-all-number.result
-        (classes_here c.args.all.now (get_or c.order-order.result.now c.loop-number.number-index 0) c.index-all-number.result c.index-all-number.result (omega (arith, within, c.requires.classes.as_many)) c.index-all-number.is) in
+    (classes_here c.args.all.now (get_or c.order-order.result.now c.loop-number.number-index 0) c.index-all-number.result c.index-all-number.result (omega (arith, within, c.requires.classes.as_many)) c.index-all-number.is) in
     λ value needed. c.requires.constants _ cell.0 c.index-all-number.result value cell.1 (are cell.0 cell.1) needed
 
 pub loop-number-preserved : goal.loop-number-preserved
@@ -36,7 +35,7 @@ loop-number-preserved c =
     order_within c.args.hier.now c.order-order.ensures.valid.valid c.loop-number.number-index _ (order_there c.args.hier.now c.order-order.result.now c.order-order.ensures.order c.loop-number.number-index 0 c.loop-number-test.true) in
     let cell = item_there c.args.hier.now.cells (get_or c.order-order.result.now c.loop-number.number-index 0) within in
     let are = classes_at c.args.hier.now.cells c.args.all.now c.requires.classes (get_or c.order-order.result.now c.loop-number.number-index 0) c.index-all-number.result
-        (classes_here c.args.all.now (get_or c.order-order.result.now c.loop-number.number-index 0) c.index-all-number.result c.index-all-number.result (omega (arith, within, c.requires.classes.as_many)) c.index-all-number.is) in
+    (classes_here c.args.all.now (get_or c.order-order.result.now c.loop-number.number-index 0) c.index-all-number.result c.index-all-number.result (omega (arith, within, c.requires.classes.as_many)) c.index-all-number.is) in
     λ values first. one_cell c.args.constants.now c.args.hier.now c.args.plan.now values c.order-order.result.now c.loop-number.number-index 0 c.loop-number.made.items _ c.in_ok-cell.cell c.loop-number-test.true c.in_ok-push.ensures.items
     (made_of c.args.hier.now c.args.plan.now _ c.index-all-number.result c.in_ok-cell.cell cell.0 cell.1 (are cell.0 cell.1) (c.in_ok-cell.ensures cell.0 cell.1)) (c.loop-number.invariant values first)
 

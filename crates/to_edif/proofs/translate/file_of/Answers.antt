@@ -1,6 +1,5 @@
-use Rattle.std.proofs.Common.{arith, ◌≡◌, ◌<◌, Bool, List, ap, length, subst, sym, ◌∙◌}
+use Rattle.std.proofs.Common.{arith, Bool, List, ap, length, subst, sym, ◌∙◌}
 use Rattle.net_hier.specs.Design.{IsCell}
-use Rattle.edif_copies.specs.Planned.{AreCells}
 use Rattle.edif_plans.specs.Plans.{HasHead, head_of}
 use Rattle.edif_planning.proofs.ClassLaws.{cell_here}
 use Rattle.to_edif.specs.Cells.{AreNewCells}
