@@ -251,6 +251,7 @@ module _ (design : Design) (params : NameSet) (number : ℕ) (cell : HCell) (val
         one_hub (hub_node hub) found.expr (ap (option_map hub_node) f) found.of_node one (e ∙ found.is_found)
 
     pub pin_of : IsPinOf p (hub_node_of wiring) place port width value
+    unfolding a_bit pin_is
     pin_of = by (width == 1) refl (is_written wiring (Pin place port 0)) refl
       where
         chosen : (b c : Bool) → Option Expr

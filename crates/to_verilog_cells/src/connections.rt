@@ -7,8 +7,8 @@ use crate::exprs::hub_expr;
 use net_hier::{HPort, Node};
 use nl_base::{NoMemory, Seq, Text};
 use std::alloc::Global;
-use to_verilog_wires::Wiring;
 use to_verilog_classes::roots::width_of;
+use to_verilog_wires::Wiring;
 use vlog_values::{Expr, NamedConn};
 
 /// What stands for a pin bit.
