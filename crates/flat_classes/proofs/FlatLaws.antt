@@ -72,7 +72,7 @@ least_kept p (suc n) a i x e = by (p a) i e (λ j f. least_kept p n (a + 1) j x 
     by true (suc i) f rest = let r = rest i f in omega (arith, r)
     by false i f rest = let r = rest i f in omega (arith, r)
 
-filtered_range : (p : ℕ → Bool) (n a i j x y : ℕ) → i < j → slice_get (filter p (range_with_len a n)) i ≡ Some x → slice_get (filter p (range_with_len a n)) j ≡ Some y → x < y
+pub filtered_range : (p : ℕ → Bool) (n a i j x y : ℕ) → i < j → slice_get (filter p (range_with_len a n)) i ≡ Some x → slice_get (filter p (range_with_len a n)) j ≡ Some y → x < y
 filtered_range p zero a i j x y lt e f = absurd (cc)
 filtered_range p (suc n) a i j x y lt e f = by (p a) i j lt e f (λ k l less g h. filtered_range p n (a + 1) k l x y less g h) (λ k g. least_kept p n (a + 1) k y g)
   where

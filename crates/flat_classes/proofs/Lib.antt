@@ -1,4 +1,6 @@
+pub mod Chains
 pub mod FlatLaws
+pub mod FlatSumLaws
 pub mod GroupLaws
 pub mod GroupLists
 pub mod KindLaws

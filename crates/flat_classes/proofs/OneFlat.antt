@@ -1,24 +1,22 @@
 -- a valid design has one value of flat classes
-use Rattle.std.proofs.Common.{◌≡◌, ℕ, zero, suc, ◌+◌, ◌<◌, ◌≤◌, ◌⊎◌, inl, inr, List, [], ◌∷◌, ◌++◌, refl, sym, ◌∙◌, ap, subst, subst₂, slice_get, get_or, Some, Bool, true, false, not, ◌==◌, length, filter, arith}
-use Rattle.std.specs.Prelude.{Contains, ◌↔◌, slice_index}
-use Rattle.std.specs.List.{flat_map}
+use Rattle.std.proofs.Common.{◌≡◌, ℕ, zero, suc, ◌+◌, ◌<◌, inl, inr, List, [], ◌∷◌, ◌++◌, refl, sym, ◌∙◌, ap, subst, subst₂, slice_get, get_or, Some, true, false, not, ◌==◌, length, filter, arith}
+use Rattle.std.specs.Prelude.{Contains, ◌↔◌}
 use Rattle.std.proofs.lemmas.List.Elements.{Contains-append_cases}
-use Rattle.std.proofs.lemmas.Option.{slice_get-get_or, slice_get_within}
+use Rattle.std.proofs.lemmas.Option.{slice_get-get_or}
 use Rattle.net_hier.specs.Constants.{ConstantNames}
-use Rattle.net_hier.specs.Design.{Design, IsCell}
+use Rattle.net_hier.specs.Design.{Design}
 use Rattle.net_hier.specs.Flat.{FlatNode, Constant, At}
 use Rattle.net_hier.specs.Valid.{IsValid}
 use Rattle.net_hier.specs.declared.cells.HCell.{HCell}
 use Rattle.net_hier.specs.declared.nodes.Node.TheVariants.{Port as PortNode}
 use Rattle.net_hier.proofs.PathLaws.{same_element}
-use Rattle.flat_numbers.specs.Numbers.{CellOf}
 use Rattle.flat_numbers.specs.Spots.{Walks, lists, ends, spots_below}
 use Rattle.flat_numbers.specs.declared.spots.Spot.{Spot}
 use Rattle.flat_numbers.proofs.Linking.{contains_there}
 use Rattle.flat_numbers.proofs.PathSpots.{spot_has_path}
 use Rattle.flat_numbers.proofs.SpotLaws.{SpotFacts, spot_facts}
-use Rattle.flat_classes.specs.Groups.{AreGroupNumbers, AreInOrder, group_at}
-use Rattle.flat_classes.specs.Terminals.{AreFlatClasses, AreGroups, AreLeaves, FlatValue, IsLeafSpot, IsNodeOf, of_port, of_pin, of_zero, of_one, bits_of_ports, ports_at, terminals_of}
+use Rattle.flat_classes.specs.Groups.{AreInOrder, group_at}
+use Rattle.flat_classes.specs.Terminals.{AreFlatClasses, FlatValue, IsLeafSpot, IsNodeOf, of_port, of_pin, of_zero, of_one, bits_of_ports, ports_at, terminals_of}
 use Rattle.flat_classes.specs.declared.flat.Terminal.{Terminal}
 use Rattle.flat_classes.specs.declared.flat.Terminal.TheVariants.{Port, Pin, Zero, One}
 use Rattle.flat_classes.proofs.KindLaws.{first_or_rest, from_flat, in_first, in_rest, nothing_in}

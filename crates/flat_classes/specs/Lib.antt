@@ -1,4 +1,5 @@
 pub mod FlatFaults
+pub mod FlatSums
 pub mod Groups
 pub mod Kinds
 pub mod TerminalNumbers

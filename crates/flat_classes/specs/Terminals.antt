@@ -1,8 +1,7 @@
-use Rattle.std.specs.Prelude.{◌≡◌, ℕ, suc, ◌<◌, ◌≤◌, ◌↔◌, ◌++◌, ◌==◌, List, [], ◌∷◌, ◌&&◌, Bool, is_none, length, map, slice_get, slice_index, slice_index_or, Option, Some, None, true, false, not, Contains}
+use Rattle.std.specs.Prelude.{◌≡◌, ℕ, suc, ◌<◌, ◌↔◌, ◌++◌, ◌==◌, List, [], ◌∷◌, ◌&&◌, Bool, is_none, length, map, slice_get, slice_index, slice_index_or, Option, Some, None, true, false, not, Contains}
 use Rattle.std.specs.List.{filter, flat_map, range_with_len}
 use Rattle.net_hier.specs.Constants.{ConstantNames}
 use Rattle.net_hier.specs.Cells.{IsAnyConstantCell, IsLeaf, width_of}
-use Rattle.net_hier.specs.FlatCount.{FlatCount}
 use Rattle.net_hier.specs.Design.{Design}
 use Rattle.net_hier.specs.Flat.{FlatNode, Constant, At, IsConnected}
 use Rattle.net_hier.specs.Paths.{Path}
@@ -87,9 +86,3 @@ pub record AreFlatClasses (names : ConstantNames) (design : Design) (flat : Flat
   pub are_terminals : flat.terminals ≡ terminals_of design.cells flat.spots flat.leaves
   pub are_groups : AreGroups names design flat.spots flat.terminals (slice_index flat.groups)
   pub are_numbers : AreGroupNumbers flat.groups flat.count (length flat.terminals)
-
--- the flat count is within the limit of the flat tools
-pub record IsFewFlat (design : Design) : Type 0 where
-  pub count : ℕ
-  pub is_count : FlatCount design.cells design.top count
-  pub few : count ≤ 2000000

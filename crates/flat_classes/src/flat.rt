@@ -2,12 +2,13 @@
 ghost use Rattle.std.specs.Prelude.{ℕ, ◌≡◌, ◌<◌, ◌≤◌, length, map, slice_index, IfOk, IfErr};
 ghost use Rattle.net_hier.specs.FlatCount.{FlatCount};
 ghost use Rattle.flat_classes.specs.FlatFaults.{IsFlatFault};
+ghost use Rattle.flat_classes.specs.FlatSums.{IsFewFlat};
 ghost use Rattle.flat_numbers.specs.FlatJoins.{AreFew};
 ghost use Rattle.flat_classes.specs.Groups.{AreMembers};
 ghost use Rattle.flat_classes.specs.Kinds.{AreKinds};
 ghost use Rattle.flat_numbers.specs.TableParts.{HasTables, bases_in, spots_in};
 ghost use Rattle.flat_classes.specs.TerminalNumbers.{AreFlatLabels};
-ghost use Rattle.flat_classes.specs.Terminals.{AreFlatClasses, IsFewFlat};
+ghost use Rattle.flat_classes.specs.Terminals.{AreFlatClasses};
 ghost use Rattle.flat_classes.specs.declared.flat.FlatFault.TheVariants.{NoMemory};
 
 use crate::groups::{labels_of, members_of, numbers_in_order};
@@ -154,6 +155,7 @@ impl Flat {
             IsFewFlat hier.now) }
         ensures fault { IfErr result (IsFlatFault hier.now) }
     {
+        let _cells = hier.cells();
         let count = flat_count(alloc, hier)?;
         if count > FLAT_LIMIT {
             return Err(FlatFault::TooLarge(count));

@@ -5,6 +5,7 @@ ghost use Rattle.flat_numbers.specs.Numbers.{AreFlatJoins};
 ghost use Rattle.flat_numbers.specs.TableParts.{HasTables, bases_in, spots_in};
 
 use crate::numbers::{Tables, node_number};
+use crate::spots::Spot;
 use net_hier::{Constants, Hier, Join, Node};
 use nl_base::NoMemory;
 use std::alloc::Global;
@@ -47,6 +48,14 @@ fn push_constant(
             Ok(())
         }
     }
+}
+
+/// The links of the cell at a spot.
+fn links_at<'a>(spot: Spot, links: &'a [Vec<Join>]) -> &'a [Join]
+    requires { spot.cell < length links.now }
+    ensures { result.now ≡ links_in links.now spot.cell }
+{
+    links[spot.cell as usize].as_slice()
 }
 
 /// Adds the links of the cell at a spot, by the numbers of their nodes.
@@ -125,14 +134,8 @@ pub fn flat_joins(
     let _cells = hier.cells();
     let mut joins = Vec::new(alloc);
     for number in 0..tables.layout.spots.len() {
-        let cell = tables.layout.spots[number].cell;
-        push_links(
-            hier,
-            tables,
-            links[cell as usize].as_slice(),
-            number as u32,
-            &mut joins,
-        )?;
+        let here = links_at(tables.layout.spots[number], links);
+        push_links(hier, tables, here, number as u32, &mut joins)?;
         push_constants(hier, tables, names, constants, number as u32, &mut joins)?;
     }
     Ok(joins)

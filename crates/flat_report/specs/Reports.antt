@@ -4,8 +4,7 @@ use Rattle.nl_io.specs.declared.source.Failed.{Failed as failed}
 use Rattle.nl_output.specs.Writing.{Writes}
 use Rattle.net_hier.specs.Constants.{ConstantNames}
 use Rattle.net_hier.specs.Design.{Design}
-use Rattle.flat_numbers.specs.FlatCounts.{IsFlatCount}
-use Rattle.flat_classes.specs.Terminals.{IsFewFlat}
+use Rattle.flat_classes.specs.FlatSums.{IsFewFlat, flat_count, flat_limit}
 use Rattle.flat_report.specs.Report.{IsReport}
 use Rattle.flat_report.specs.declared.reporting.ReportError.{ReportError}
 use Rattle.flat_report.specs.declared.reporting.ReportError.TheVariants.{FlatTooLarge, Failed, NoMemory}
@@ -21,5 +20,5 @@ pub record HasReported {O : Type 0} (taken : O → List ℕ → Type 0) (accepts
 abbrev pub Reports : {O : Type 0} → (O → List ℕ → Type 0) → (O → ℕ → Type 0) → (O → ℕ) → ConstantNames → Design → O → O → Result (Unit {0}) ReportError → Type 0
 Reports taken accepts faults names design old new (Ok done) = HasReported taken accepts faults names design old new (Ok done)
 Reports taken accepts faults names design old new (Err Failed) = (e : failed) × HasReported taken accepts faults names design old new (Err e)
-Reports taken accepts faults names design old new (Err (FlatTooLarge count)) = IsFlatCount design count × (2000000 < count) × (new ≡ old)
+Reports taken accepts faults names design old new (Err (FlatTooLarge count)) = (count ≡ flat_count design.cells design.top) × (flat_limit < count) × (new ≡ old)
 Reports taken accepts faults names design old new (Err NoMemory) = new ≡ old

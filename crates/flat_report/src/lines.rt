@@ -55,7 +55,7 @@ fn put_bit<O: Sink>(port: &HPort, bit: u32, output: &mut Output, sink: &mut O)
 }
 
 /// The port of this number of the cell at a spot.
-fn port_at<'a>(hier: &'a Hier, spots: &[Spot], spot: u32, port: u32) -> &'a HPort
+pub fn port_at<'a>(hier: &'a Hier, spots: &[Spot], spot: u32, port: u32) -> &'a HPort
     requires { (cell : CellValue) × CellOf hier.now.cells spots.now spot cell ×
         (port < length cell.ports) }
     ensures { port_of hier.now.cells spots.now spot port ≡ Some result.now }

@@ -105,7 +105,7 @@ fn groups_of_two(members: &[Vec<u32>]) -> usize
 }
 
 /// Puts a group of two terminals or more: the line `net` and the terminals at these places.
-fn put_net<O: Sink>(
+pub fn put_net<O: Sink>(
     hier: &Hier,
     flat: &Flat,
     places: &[u32],
@@ -200,7 +200,7 @@ fn write_report<O: Sink>(
 }
 
 /// Room for a place for each spot.
-fn room_for(alloc: Global, spots: &[Spot]) -> Result<Vec<u32>, NoMemory>
+pub fn room_for(alloc: Global, spots: &[Spot]) -> Result<Vec<u32>, NoMemory>
     ensures { IfOk result (λ room. length room.items ≡ length spots.now) }
 {
     let room = vec![in alloc; 0; spots.len()]?;

@@ -7,11 +7,11 @@ use Rattle.flat_numbers.specs.FlatJoins.{links_in}
 use Rattle.flat_numbers.specs.Layout.{base_of}
 use Rattle.flat_numbers.specs.Numbers.{CellOf}
 use Rattle.flat_numbers.proofs.Finding.{cell_there_at}
-use Rattle.flat_numbers.proofs.Linking.{JoinsOf, below_more, joins_whole, links_of_cell, links_read, spot_joins}
+use Rattle.flat_numbers.proofs.Linking.{JoinsOf, below_more, joins_whole, links_of_cell, spot_joins}
 use Rattle.flat_numbers.proofs.joins.flat_joins.Goals as goal
 
-pub bounds-links-cell : goal.bounds-links-cell
-bounds-links-cell c =
+pub links_at-here-requires : goal.links_at-here-requires
+links_at-here-requires c =
     let at = cell_there_at c.args.hier.now.cells c.args.hier.now.top c.requires.are_tables.0 c.args.tables.now.layout c.requires.are_tables.1.is_layout c.loop-number.number c.index.result.now (omega (arith, c.loop-number-test.true, c.len-number-end.ensures, c.args.tables.now.layout.spots.ok)) c.index.ensures in
     let cell : HCell = at.0 in
     let is : IsCell c.args.hier.now.cells c.index.result.now.cell cell = at.1 in
@@ -25,7 +25,7 @@ push_links-requires-clause-links c =
     let is : IsCell c.args.hier.now.cells c.index.result.now.cell cell = at.1 in
     let lt = slice_get_within c.args.hier.now.cells c.index.result.now.cell cell is in
     let of : CellOf c.args.hier.now.cells c.args.tables.now.layout.spots.items c.loop-number.number cell = record { spot = c.index.result.now; is_spot = at.2; is_cell = is } in
-    let e : c.as_slice.result.now ≡ links_in c.args.links.now c.index.result.now.cell = links_read c.args.links.now c.index.result.now.cell c.index-links-cell.result c.as_slice.result.now (omega (arith, lt, c.requires.are_links.len)) c.index-links-cell.is c.as_slice.ensures.value in
+    let e : c.links_at-here.result.now ≡ links_in c.args.links.now c.index.result.now.cell = c.links_at-here.ensures in
     let links = c.requires.are_links.are c.index.result.now.cell cell is in
     record {
       cell = cell;
@@ -40,10 +40,10 @@ loop-number-preserved c =
     let is : IsCell c.args.hier.now.cells c.index.result.now.cell cell = at.1 in
     let lt = slice_get_within c.args.hier.now.cells c.index.result.now.cell cell is in
     let of : CellOf c.args.hier.now.cells c.args.tables.now.layout.spots.items c.loop-number.number cell = record { spot = c.index.result.now; is_spot = at.2; is_cell = is } in
-    let e : c.as_slice.result.now ≡ links_in c.args.links.now c.index.result.now.cell = links_read c.args.links.now c.index.result.now.cell c.index-links-cell.result c.as_slice.result.now (omega (arith, lt, c.requires.are_links.len)) c.index-links-cell.is c.as_slice.ensures.value in
+    let e : c.links_at-here.result.now ≡ links_in c.args.links.now c.index.result.now.cell = c.links_at-here.ensures in
     below_more (JoinsOf c.args.names.now c.args.hier.now.cells c.args.tables.now.layout.spots.items (base_of c.args.tables.now.layout.bases.items c.args.tables.now.layout.count) (links_in c.args.links.now)) c.loop-number.number [] c.loop-number.joins.items c.push_constants.new.joins.items c.loop-number.invariant
     (spot_joins c.args.names.now c.args.hier.now.cells c.args.tables.now.layout.spots.items (base_of c.args.tables.now.layout.bases.items c.args.tables.now.layout.count) (links_in c.args.links.now) c.loop-number.number c.loop-number.joins.items c.push_links.new.joins.items c.push_constants.new.joins.items
-    (links_of_cell c.args.hier.now.cells c.args.tables.now.layout.spots.items (base_of c.args.tables.now.layout.bases.items c.args.tables.now.layout.count) (links_in c.args.links.now) c.loop-number.number c.as_slice.result.now cell c.loop-number.joins.items c.push_links.new.joins.items of e c.in_ok-push_links.ensures) c.in_ok-push_constants.ensures)
+    (links_of_cell c.args.hier.now.cells c.args.tables.now.layout.spots.items (base_of c.args.tables.now.layout.bases.items c.args.tables.now.layout.count) (links_in c.args.links.now) c.loop-number.number c.links_at-here.result.now cell c.loop-number.joins.items c.push_links.new.joins.items of e c.in_ok-push_links.ensures) c.in_ok-push_constants.ensures)
 
 pub returns : goal.returns
 returns c =

@@ -1,0 +1,5 @@
+pub mod Lists
+pub mod Clean
+pub mod Ranges
+pub mod Parts
+pub mod Designs

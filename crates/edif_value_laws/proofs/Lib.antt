@@ -1,0 +1,5 @@
+pub mod Lists
+pub mod Stems
+pub mod Parts
+pub mod Sound
+pub mod Files
