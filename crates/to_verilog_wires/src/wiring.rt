@@ -11,15 +11,15 @@ ghost use Rattle.to_verilog_classes.specs.Roots.{pin_port};
 ghost use Rattle.to_verilog_wires.specs.Wires.{HasNoWires};
 ghost use Rattle.to_verilog_wires.specs.Wiring.{hub_of, is_written};
 
-use to_verilog_classes::Groups;
 use crate::hubs::{Hub, port_hub};
 use crate::naming::Wires;
-use to_verilog_classes::roots::{pin_port, roots_of, wide_ports};
 use indexmap::{IndexMap, IndexSet};
 use net_hier::{HCell, Hier, Node};
 use nl_base::{NoMemory, Seq, Text};
 use std::alloc::Global;
 use std::marker::Model;
+use to_verilog_classes::Groups;
+use to_verilog_classes::roots::{pin_port, roots_of, wide_ports};
 use vlog_values::ItemV;
 
 /// What stands for each bit of a cell: each class that is written has a hub, and so has each other bit of a port of which a bit is written.
