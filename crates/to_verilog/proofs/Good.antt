@@ -32,7 +32,7 @@ use Rattle.vlog_written.specs.Written.{PlainModule, PlainWire, bit_literal, sele
 use Rattle.to_verilog_props.specs.Written.{attrs_of}
 use Rattle.to_verilog_rules.specs.Rules.{is_name}
 use Rattle.to_verilog_wires.specs.IsWiring.{IsWiring}
-use Rattle.to_verilog_wires.specs.Roots.{of_live}
+use Rattle.to_verilog_classes.specs.Roots.{of_live}
 use Rattle.to_verilog_wires.specs.Wiring.{WiringTable, hub_node_of, hub_of}
 use Rattle.to_verilog_wires.specs.declared.hubs.Hub.{Hub}
 use Rattle.to_verilog_wires.specs.declared.hubs.Hub.TheVariants as hubs
