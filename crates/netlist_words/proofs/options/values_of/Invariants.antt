@@ -1,6 +1,6 @@
 use Rattle.std.proofs.Common.{◌≡◌, ◌++◌, length}
-use Rattle.netlist_cli.specs.Commands.{values_of}
-use Rattle.netlist_cli.proofs.command.values_of.Given as goal
+use Rattle.netlist_words.specs.Parsing.{values_of}
+use Rattle.netlist_words.proofs.options.values_of.Given as goal
 
 abbrev pub invariant-loop-left : goal.invariant-loop-left
 invariant-loop-left l = l.values ++ values_of l.left ≡ values_of l.words
