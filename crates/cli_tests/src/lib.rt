@@ -8,6 +8,8 @@ mod checks;
 #[cfg(test)]
 mod designs;
 #[cfg(test)]
+mod edif;
+#[cfg(test)]
 mod formats;
 #[cfg(test)]
 mod given;

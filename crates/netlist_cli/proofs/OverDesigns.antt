@@ -1,28 +1,38 @@
 -- What a command does that asks for the design of its input.
 use Rattle.std.proofs.Common.{◌≡◌, ℕ, List, Option, Some, None, IfSome, Result, Ok, Err, refl, ap, ◌∙◌}
-use Rattle.std.specs.Prelude.{MatchResult}
+use Rattle.std.specs.Prelude.{IfOk, MatchResult}
 use Rattle.std.specs.Io.KnownBytes.{IsAtEnd}
 use Rattle.nl_io.specs.declared.source.Failed.{Failed}
 use Rattle.nl_output.specs.Writing.{Writes}
 use Rattle.readers.specs.Sources.{Supply}
+use Rattle.edif_copies.specs.Answers.{IsEdifFor}
 use Rattle.edif_library.specs.Text.{EdifReads}
 use Rattle.edif_library.specs.declared.file.EdifFile.{EdifFile}
+use Rattle.edif_plans.specs.Sound.{IsSoundDesign}
+use Rattle.edif_rereading.proofs.Law as edif_law
+use Rattle.edif_rereading.specs.Values.{IsEdifValue}
 use Rattle.edif_resolve.specs.Answers as edif_answers
+use Rattle.edif_value_laws.proofs.Sound.{sound_design}
+use Rattle.edif_writer.specs.Forms.{edif_text}
 use Rattle.flat_report.specs.Report.{IsReport}
 use Rattle.flat_report.specs.Reports.{HasReported}
 use Rattle.net_bits.specs.Names.{NameSet}
 use Rattle.net_hier.specs.Constants.{ConstantNames}
 use Rattle.net_hier.specs.Design.{Design}
 use Rattle.vlog_design.specs.Names.{Name}
+use Rattle.vlog_design_laws.proofs.ShortNames.{short_names}
+use Rattle.vlog_design_laws.proofs.SoundValues.{sound}
+use Rattle.vlog_design_laws.specs.Designs.{IsVlogDesign}
 use Rattle.vlog_elab.specs.Answers as verilog_answers
 use Rattle.vlog_modules.specs.Text.{VlogReads}
 use Rattle.vlog_rereading.proofs.Law.{text_spells}
+use Rattle.vlog_values.specs.Values.{IsVlogValue}
 use Rattle.vlog_values.specs.declared.module.VlogFile.{VlogFile}
 use Rattle.vlog_writer.specs.Forms.{vlog_text}
 use Rattle.netlist_cli.specs.declared.failure.Failure.{Failure}
 use Rattle.netlist_cli.specs.declared.failure.Failure.TheVariants as failures
 use Rattle.netlist_cli.specs.Designs.{HasDesign, IsDesignRead, IsNoDesign, Makes, MakesOf, PutsMade, question_of, AreModulesFor}
-use Rattle.netlist_cli.specs.Meanings.{IsMadeOfDesign, IsVerilogOf, Judgement, any_design, edif, edif_verdict, few_flat, meaning, of_design, target_rules, verilog, verilog_verdict}
+use Rattle.netlist_cli.specs.Meanings.{IsEdifOf, IsMadeOfDesign, IsVerilogOf, Judgement, any_design, edif, edif_verdict, few_flat, meaning, of_design, target_rules, verilog, verilog_verdict}
 use Rattle.netlist_cli.specs.Outcomes.{FileLanguage, Verdict, fine, or_refused}
 use Rattle.netlist_cli.specs.Runs.{Does, IsFailureOf}
 use Rattle.netlist_cli.specs.Statuses.{after_writing}
@@ -46,6 +56,14 @@ design_under_is_read top i j file reads ended (Err f) h = record {
   unwritten = said_unwritten (verilog_verdict top any_design file) f (h any_design);
   cause = λ judge. said_causes (question_of (Some top) judge) i j file reads f (h judge);
 }
+
+-- the design of a Verilog file that can be written can be written in EDIF
+pub design_under_is_sound : (top : Name) (file : VlogFile) → IsVlogValue file → (found : Result Design Failure)
+    → MatchResult found (verilog_answers.IsDesignOf file top) (λ f. (judge : Judgement) → IsFailureOf (verilog_verdict top judge file) f) → IfOk found IsSoundDesign
+design_under_is_sound top file value (Ok design) h =
+    let said : IsVlogDesign file top design = record { same_cells = h.same_cells; same_top = h.same_top; same_props = h.same_props } in
+    sound_design design (short_names file top value design said) (sound file top value design said)
+design_under_is_sound top file value (Err f) h = tt
 
 -- ---- from a design to what is done
 
@@ -79,6 +97,12 @@ module _ {O : Type 0} (taken : O → List ℕ → Type 0) (accepts : O → ℕ �
   modules_are_made design params modules r h w =
       text_is_made (target_rules params design.cells design.top design.props) (IsVerilogOf design) (vlog_text modules) r (ap (λ first. or_refused first fine) h.translated.no_refusal)
       (record { modules = modules; same = h.translated.same; is_text = refl; spells = text_spells modules h.value }) w
+
+  -- an EDIF file of a design is written, or a front of its text
+  pub edif_is_made : (design : Design) (names : ConstantNames) (file : EdifFile) (r : Result (Unit {0}) Failed) → IsEdifFor names design file → IsEdifValue file → Writes taken accepts faults old new (edif_text file) r
+      → MakesOf taken accepts faults any_design (IsEdifOf names) design old new (after_writing r)
+  edif_is_made design names file r same value w =
+      text_is_made fine (IsEdifOf names design) (edif_text file) r refl (record { file = file; same = same; is_text = refl; spells = edif_law.text_spells file value }) w
 
   module _ (i j : Supply) where
     module _ (language : FileLanguage) (verdict : language.File → Verdict) (IsDesignOf : language.File → Design → Type 0) (IsMade : Design → List ℕ → Type 0) (design : Design)

@@ -48,6 +48,7 @@ exact_of commands.Vformat = verilog_exact
 exact_of (commands.Check top) = design_exact top _ _
 exact_of (commands.Report top names) = design_exact top _ _
 exact_of (commands.ToVerilog names) = edif_exact
+exact_of (commands.ToEdif top names) = verilog_exact
 
 module _ (q : Question) (exact : IsExact q.language) (bs : List ℕ) where
   pub one_outcome : (a b : Outcome) → Gives q bs a → Gives q bs b → a ≡ b

@@ -1,17 +1,20 @@
 -- What each command makes of its input.
 use Rattle.std.specs.Prelude.{◌≡◌, ℕ, List, [], ◌∷◌, false, Option, Some, None, codes}
+use Rattle.edif_copies.specs.Answers.{IsEdifFor}
 use Rattle.edif_library.specs.Text.{EdifReads, EdifFault, EdifCut}
 use Rattle.edif_library.specs.declared.file.EdifFile.{EdifFile}
 use Rattle.edif_writer.specs.Forms.{edif_text}
 use Rattle.flat_classes.specs.FlatSums.{flat_count}
 use Rattle.flat_report.specs.Report.{IsReport}
 use Rattle.net_bits.specs.Names.{NameSet, has_name, with_name}
+use Rattle.net_hier.specs.Constants.{ConstantNames}
 use Rattle.net_hier.specs.Design.{Design}
 use Rattle.net_hier.specs.Units.{units}
 use Rattle.net_hier.specs.declared.cells.HCell.{HCell}
 use Rattle.net_hier.specs.declared.cells.HProp.{HProp}
 use Rattle.edif_design.specs.Design.{edif_design}
 use Rattle.edif_design.specs.FileRules.{first_E}
+use Rattle.edif_rereading.specs.Whole.{EdifSpells}
 use Rattle.edif_resolve.specs.Answers as edif_answers
 use Rattle.to_verilog.specs.Answers.{IsVerilogFor}
 use Rattle.to_verilog_rules.specs.Rules.{first_V}
@@ -83,6 +86,14 @@ pub record IsVerilogOf (design : Design) (text : List ℕ) : Type 0 where
   pub is_text : text ≡ vlog_text modules
   pub spells : VlogSpells text modules
 
+-- The text is that of an EDIF file that is the same as the design, where these cells stand for the constants: cell by cell, and so as a
+-- whole. Whatever its length, the text spells this file.
+pub record IsEdifOf (names : ConstantNames) (design : Design) (text : List ℕ) : Type 0 where
+  pub file : EdifFile
+  pub same : IsEdifFor names design file
+  pub is_text : text ≡ edif_text file
+  pub spells : EdifSpells text file
+
 -- The text is made of a design that says what the file says.
 pub record IsMadeOfDesign {File : Type 0} (IsDesignOf : File → Design → Type 0) (IsMade : Design → List ℕ → Type 0) (file : File) (text : List ℕ) : Type 0 where
   pub design : Design
@@ -107,3 +118,4 @@ meaning_of commands.Vformat = meaning verilog (λ file. fine) (λ file text. tex
 meaning_of (commands.Check top) = of_design top any_design (λ design text. text ≡ ok_text)
 meaning_of (commands.Report top names) = of_design top few_flat (IsReport names)
 meaning_of (commands.ToVerilog names) = of_design None (target_rules (params_of names)) IsVerilogOf
+meaning_of (commands.ToEdif top names) = of_design (Some top) any_design (IsEdifOf names)

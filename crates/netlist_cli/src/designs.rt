@@ -1,7 +1,8 @@
 // The design of an input, as the commands that ask for one get it.
-ghost use Rattle.std.specs.Prelude.{◌≤◌, MatchResult, None, Some};
+ghost use Rattle.std.specs.Prelude.{◌≤◌, IfOk, MatchResult, None, Some};
 ghost use Rattle.net_hier.specs.Valid.{count_limit};
 ghost use Rattle.edif_library.specs.Sizes.{edif_size};
+ghost use Rattle.edif_plans.specs.Sound.{IsSoundDesign};
 ghost use Rattle.edif_resolve.specs.Answers.{IsDesignOf as IsEdifDesign};
 ghost use Rattle.readers.specs.Sources.{supply};
 ghost use Rattle.vlog_elab.specs.Answers.{IsDesignOf as IsVlogDesign};
@@ -85,6 +86,7 @@ pub fn read_design_under<S: Source>(
         (supply S.left S.faults input.old) (supply S.left S.faults input.new))
         (IsNoDesign (Some top.now)
         (supply S.left S.faults input.old) (supply S.left S.faults input.new)) }
+    ensures sound { IfOk result IsSoundDesign }
     ensures taken { TakesFrom
         (supply S.left S.faults input.old) (supply S.left S.faults input.new) }
 {

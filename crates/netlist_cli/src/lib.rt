@@ -9,7 +9,9 @@
 // the file says, where the cells of the words stand for the constants. `to-verilog {--parameter NAME}` asks for the rules of Verilog as a
 // target, where these are the names of parameters; what is written is the text of modules that break no rule; whatever its length it spells
 // these modules, and each design that says what they say is the same as the design of the EDIF file, cell by cell, and so as a whole,
-// whichever cells stand for the constants.
+// whichever cells stand for the constants. `to-edif --top NAME` asks nothing of a design; what is written is the text of an EDIF file that
+// breaks no rule; whatever its length it spells this file, and each design that says what the file says is the same as the design of the
+// modules, cell by cell, and so as a whole, where the cells of the words stand for the constants.
 //
 // `run` does what the words ask for: it reads the input to its end or to its first fault, and writes nothing before all is known. Its contract
 // says for each status when it comes and what was written then:
@@ -28,6 +30,7 @@ pub mod failure;
 pub mod formatting;
 pub mod line;
 pub mod reporting;
+pub mod retranslating;
 pub mod run;
 pub mod status;
 pub mod translating;

@@ -10,6 +10,7 @@ use crate::failure::Failure;
 use crate::formatting::{format, vformat};
 use crate::line::report;
 use crate::reporting::write_report;
+use crate::retranslating::translate_back;
 use crate::status::Status;
 use crate::translating::translate;
 use netlist_words::Command;
@@ -36,6 +37,7 @@ fn carry_out<S: Source, O: Sink>(
         Command::Check(top) => check(alloc, top, input, output),
         Command::Report(top, constants) => write_report(alloc, top, constants, input, output),
         Command::ToVerilog(names) => translate(alloc, names, input, output),
+        Command::ToEdif(top, constants) => translate_back(alloc, top, constants, input, output),
     }
 }
 

@@ -1,12 +1,12 @@
 -- Words ask for the command that is found by taking them apart, and for no other.
-use Rattle.std.proofs.Common.{◌≡◌, ℕ, List, [], ◌∷◌, ◌++◌, append-nil, Bool, true, false, if◌then◌else◌, Option, Some, None, IfSome, option_map, refl, sym, ap, subst, ◌∙◌, Result, Ok, Err}
+use Rattle.std.proofs.Common.{◌≡◌, ℕ, List, [], ◌∷◌, ◌++◌, append-nil, Bool, true, false, if◌then◌else◌, Option, Some, None, IfSome, option_and_then, option_map, refl, sym, ap, subst, ◌∙◌, Result, Ok, Err}
 use Rattle.std.specs.Prelude.{IsSome, MatchResult, codes}
 use Rattle.nl_base.specs.Case.{same_bytes}
 use Rattle.nl_base.specs.declared.memory.NoMemory.{NoMemory}
 use Rattle.net_hier.specs.Constants.{ConstantNames, usual_names}
 use Rattle.net_hier.specs.declared.constants.ConstName.{ConstName}
 use Rattle.netlist_words.specs.Commands.{IsAsked, IsChosen, IsCommand, IsName, NamesDesign, NamesTop, option_words}
-use Rattle.netlist_words.specs.Parsing.{Wanted, are_options, behind_option, check_of, command, constants_behind, constants_of, if_none_left, option_value, report_of, to_verilog_of, values_of, wanted_of}
+use Rattle.netlist_words.specs.Parsing.{Wanted, are_options, behind_option, check_of, command, constants_behind, constants_of, if_none_left, option_value, report_of, to_edif_for, to_edif_of, to_verilog_of, values_of, wanted_of}
 use Rattle.netlist_words.specs.declared.command.Command.{Command}
 use Rattle.netlist_words.specs.declared.command.Command.TheVariants as commands
 use Rattle.netlist_words.proofs.Taken.{same_text, not_empty, option_taken, option_named, none_left, options_taken, repeated_are, repeated_values, taken, passes_option, passes_words}
@@ -92,6 +92,19 @@ to_verilog_is words c e = go (are_options (codes "--parameter") words) refl e
         subst (λ (d : Command). IsCommand (codes "to-verilog" ∷ words) d) same (record { are = ap (λ rest. codes "to-verilog" ∷ rest) those.0; named = those.1 })
     go false t e = absurd cc
 
+to_edif_is : (words : List (List ℕ)) (c : Command) → to_edif_of words ≡ Some c → IsCommand (codes "to-edif" ∷ words) c
+to_edif_is words c e = go (wanted_of words) refl e
+  where
+    top_there : (top : Option (List ℕ)) (names : ConstantNames) → wanted_of words ≡ Some (record { top = top; names = names }) → option_map (λ name. commands.ToEdif name names) top ≡ Some c → IsCommand (codes "to-edif" ∷ words) c
+    top_there None names f e = absurd cc
+    top_there (Some top) names f e =
+        let same : commands.ToEdif top names ≡ c = cc in
+        subst (λ (d : Command). IsCommand (codes "to-edif" ∷ words) d) same (wanted_is (codes "to-edif") words (record { top = Some top; names = names }) f)
+
+    go : (found : Option Wanted) → wanted_of words ≡ found → option_and_then to_edif_for found ≡ Some c → IsCommand (codes "to-edif" ∷ words) c
+    go None f e = absurd cc
+    go (Some wanted) f e = top_there wanted.top wanted.names f e
+
 format_is : (words : List (List ℕ)) (c : Command) → if_none_left words (Some commands.Format) ≡ Some c → IsCommand (codes "format" ∷ words) c
 format_is words c e =
     let left = none_left words (Some commands.Format) c e in
@@ -118,7 +131,8 @@ command_is (word ∷ words) c e =
     (either word (codes "vformat") words c _ _ (vformat_is words c)
     (either word (codes "check") words c _ _ (check_is words c)
     (either word (codes "report") words c _ _ (report_is words c)
-    (either word (codes "to-verilog") words c _ None (to_verilog_is words c) (λ h. absurd cc))))) e
+    (either word (codes "to-verilog") words c _ _ (to_verilog_is words c)
+    (either word (codes "to-edif") words c _ None (to_edif_is words c) (λ h. absurd cc)))))) e
 
 -- ---- what is asked for is found
 
@@ -146,6 +160,7 @@ is_found words (commands.Check None) h = rw h.are refl
 is_found words (commands.Check (Some top)) h = rw h.are (rw (not_empty top h.named) refl)
 is_found words (commands.Report top names) h = rw h.are (ap (option_map (λ wanted. commands.Report wanted.top wanted.names)) (wanted_found (codes "report") words top names h))
 is_found words (commands.ToVerilog names) h = rw h.are (rw (repeated_are (codes "--parameter") names h.named, repeated_values (codes "--parameter") names) refl)
+is_found words (commands.ToEdif top names) h = rw h.are (ap (option_and_then to_edif_for) (wanted_found (codes "to-edif") words (Some top) names h))
 
 -- words ask for one command at most
 pub one_command : (words : List (List ℕ)) (c d : Command) → IsCommand words c → IsCommand words d → c ≡ d

@@ -63,6 +63,7 @@ IsCommand words commands.Vformat = words ≡ codes "vformat" ∷ []
 IsCommand words (commands.Check top) = NamesTop (codes "check") words top
 IsCommand words (commands.Report top names) = NamesDesign (codes "report") words top names
 IsCommand words (commands.ToVerilog names) = NamesParameters (codes "to-verilog") words names
+IsCommand words (commands.ToEdif top names) = NamesDesign (codes "to-edif") words (Some top) names
 
 -- what is so of the command for which the words ask, if they ask for one
 abbrev pub IfCommand : List (List ℕ) → (Command → Type 0) → Type 0

@@ -103,6 +103,13 @@ report_of words = option_map (λ wanted. commands.Report wanted.top wanted.names
 abbrev pub to_verilog_of : List (List ℕ) → Option Command
 to_verilog_of words = if are_options (codes "--parameter") words then Some (commands.ToVerilog (values_of words)) else None
 
+-- `to-edif --top NAME [--zero CELL.PORT] [--one CELL.PORT]`, where this is the design that the words behind `to-edif` ask for
+abbrev pub to_edif_for : Wanted → Option Command
+to_edif_for wanted = option_map (λ top. commands.ToEdif top wanted.names) wanted.top
+
+abbrev pub to_edif_of : List (List ℕ) → Option Command
+to_edif_of words = option_and_then to_edif_for (wanted_of words)
+
 -- the command whose form the words have, if any
 abbrev pub command : List (List ℕ) → Option Command
 command [] = None
@@ -111,4 +118,5 @@ command (word ∷ words) =
     else (if same_bytes word (codes "vformat") then if_none_left words (Some commands.Vformat)
     else (if same_bytes word (codes "check") then check_of words
     else (if same_bytes word (codes "report") then report_of words
-    else (if same_bytes word (codes "to-verilog") then to_verilog_of words else None))))
+    else (if same_bytes word (codes "to-verilog") then to_verilog_of words
+    else (if same_bytes word (codes "to-edif") then to_edif_of words else None)))))

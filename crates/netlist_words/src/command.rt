@@ -1,7 +1,7 @@
 ghost use Rattle.std.specs.Prelude.{◌≡◌, IfSome, IsSome, IsTrue, MatchOption, MatchResult, None, Some};
 ghost use Rattle.netlist_words.specs.Commands.{IsAsked, IsCommand};
 ghost use Rattle.netlist_words.specs.Lent.{lent_names, lent_wanted};
-ghost use Rattle.netlist_words.specs.Parsing.{are_constants, check_of, command, constants_behind, if_none_left, report_of, to_verilog_of, wanted_of};
+ghost use Rattle.netlist_words.specs.Parsing.{are_constants, check_of, command, constants_behind, if_none_left, report_of, to_edif_of, to_verilog_of, wanted_of};
 ghost use Rattle.netlist_words.specs.declared.command.Command.{Command as CommandValue};
 
 use crate::constants::{Names, constants_of, copied_constants};
@@ -24,6 +24,8 @@ pub enum Command {
     Report(Option<Text>, Constants),
     /// Reads an EDIF file and writes its design in Verilog, with these names of parameters.
     ToVerilog(Seq<Text>),
+    /// Reads a Verilog file and writes the design under the module of this name in EDIF, where these cells stand for the constants.
+    ToEdif(Text, Constants),
 }
 
 /// A design that is asked for: the name of its top module, if any, and the names of the constants.
@@ -111,6 +113,24 @@ fn to_verilog_of(alloc: Global, words: &[Text]) -> Result<Option<Command>, NoMem
     Ok(Some(Command::ToVerilog(names)))
 }
 
+/// `to-edif`, with these words behind it.
+fn to_edif_of(alloc: Global, words: &[Text]) -> Result<Option<Command>, NoMemory>
+    ensures { MatchResult result (λ found. found ≡ to_edif_of words.now)
+        (λ _. IsSome (to_edif_of words.now)) }
+{
+    match wanted_of(words) {
+        None => Ok(None),
+        Some(wanted) => match wanted.top {
+            None => Ok(None),
+            Some(top) => {
+                let top = Text::copy(alloc, top)?;
+                let constants = copied_constants(alloc, wanted.names)?;
+                Ok(Some(Command::ToEdif(top, constants)))
+            }
+        },
+    }
+}
+
 /// The command of which this is the word and these are the words behind it.
 fn parsed(alloc: Global, words: &Seq<Text>) -> Result<Option<Command>, NoMemory>
     ensures { MatchResult result (λ found. found ≡ command words.now)
@@ -135,6 +155,10 @@ fn parsed(alloc: Global, words: &Seq<Text>) -> Result<Option<Command>, NoMemory>
     }
     if word.bytes() == b"to-verilog".as_slice() {
         let found = to_verilog_of(alloc, options)?;
+        return Ok(found);
+    }
+    if word.bytes() == b"to-edif".as_slice() {
+        let found = to_edif_of(alloc, options)?;
         return Ok(found);
     }
     Ok(None)
