@@ -16,6 +16,8 @@ use Rattle.edif_value_laws.proofs.Sound.{sound_design}
 use Rattle.edif_writer.specs.Forms.{edif_text}
 use Rattle.flat_report.specs.Report.{IsReport}
 use Rattle.flat_report.specs.Reports.{HasReported}
+use Rattle.net_lint.specs.Lint.{IsLint}
+use Rattle.net_lint.specs.Lints.{HasLinted}
 use Rattle.net_bits.specs.Names.{NameSet}
 use Rattle.net_hier.specs.Constants.{ConstantNames}
 use Rattle.net_hier.specs.Design.{Design}
@@ -90,6 +92,11 @@ module _ {O : Type 0} (taken : O → List ℕ → Type 0) (accepts : O → ℕ �
   pub report_is_made : (names : ConstantNames) (design : Design) (r : Result (Unit {0}) Failed) → HasReported taken accepts faults names design old new r
       → PutsMade taken accepts faults (few_flat design.cells design.top design.props) (IsReport names design) old new r
   report_is_made names design r h = record { is_fine = few_are_fine _ h.few; text = h.text; made = h.is_report; put = h.writes }
+
+  -- the findings of a design were put, or a front of them
+  pub lint_is_made : (names : ConstantNames) (design : Design) (r : Result (Unit {0}) Failed) → HasLinted taken accepts faults names design old new r
+      → PutsMade taken accepts faults (few_flat design.cells design.top design.props) (IsLint names design) old new r
+  lint_is_made names design r h = record { is_fine = few_are_fine _ h.few; text = h.text; made = h.is_lint; put = h.writes }
 
   -- modules of a design are written, or a front of their text
   pub modules_are_made : (design : Design) (params : NameSet) (modules : VlogFile) (r : Result (Unit {0}) Failed) → AreModulesFor design params modules → Writes taken accepts faults old new (vlog_text modules) r

@@ -47,6 +47,7 @@ exact_of commands.Format = edif_exact
 exact_of commands.Vformat = verilog_exact
 exact_of (commands.Check top) = design_exact top _ _
 exact_of (commands.Report top names) = design_exact top _ _
+exact_of (commands.Lint top names) = design_exact top _ _
 exact_of (commands.ToVerilog names) = edif_exact
 exact_of (commands.ToEdif top names) = verilog_exact
 

@@ -6,6 +6,7 @@ use Rattle.edif_library.specs.declared.file.EdifFile.{EdifFile}
 use Rattle.edif_writer.specs.Forms.{edif_text}
 use Rattle.flat_classes.specs.FlatSums.{flat_count}
 use Rattle.flat_report.specs.Report.{IsReport}
+use Rattle.net_lint.specs.Lint.{IsLint}
 use Rattle.net_bits.specs.Names.{NameSet, has_name, with_name}
 use Rattle.net_hier.specs.Constants.{ConstantNames}
 use Rattle.net_hier.specs.Design.{Design}
@@ -117,5 +118,6 @@ meaning_of commands.Format = meaning edif (λ file. fine) (λ file text. text �
 meaning_of commands.Vformat = meaning verilog (λ file. fine) (λ file text. text ≡ vlog_text file)
 meaning_of (commands.Check top) = of_design top any_design (λ design text. text ≡ ok_text)
 meaning_of (commands.Report top names) = of_design top few_flat (IsReport names)
+meaning_of (commands.Lint top names) = of_design top few_flat (IsLint names)
 meaning_of (commands.ToVerilog names) = of_design None (target_rules (params_of names)) IsVerilogOf
 meaning_of (commands.ToEdif top names) = of_design (Some top) any_design (IsEdifOf names)

@@ -9,6 +9,7 @@ use crate::checking::check;
 use crate::failure::Failure;
 use crate::formatting::{format, vformat};
 use crate::line::report;
+use crate::linting::write_findings;
 use crate::reporting::write_report;
 use crate::retranslating::translate_back;
 use crate::status::Status;
@@ -36,6 +37,7 @@ fn carry_out<S: Source, O: Sink>(
         Command::Vformat => vformat(alloc, input, output),
         Command::Check(top) => check(alloc, top, input, output),
         Command::Report(top, constants) => write_report(alloc, top, constants, input, output),
+        Command::Lint(top, constants) => write_findings(alloc, top, constants, input, output),
         Command::ToVerilog(names) => translate(alloc, names, input, output),
         Command::ToEdif(top, constants) => translate_back(alloc, top, constants, input, output),
     }

@@ -62,6 +62,7 @@ IsCommand words commands.Format = words ≡ codes "format" ∷ []
 IsCommand words commands.Vformat = words ≡ codes "vformat" ∷ []
 IsCommand words (commands.Check top) = NamesTop (codes "check") words top
 IsCommand words (commands.Report top names) = NamesDesign (codes "report") words top names
+IsCommand words (commands.Lint top names) = NamesDesign (codes "lint") words top names
 IsCommand words (commands.ToVerilog names) = NamesParameters (codes "to-verilog") words names
 IsCommand words (commands.ToEdif top names) = NamesDesign (codes "to-edif") words (Some top) names
 

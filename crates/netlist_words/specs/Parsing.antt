@@ -99,6 +99,10 @@ check_of words = if_none_left (behind_option (codes "--top") words) (Some (comma
 abbrev pub report_of : List (List ℕ) → Option Command
 report_of words = option_map (λ wanted. commands.Report wanted.top wanted.names) (wanted_of words)
 
+-- `lint [--top NAME] [--zero CELL.PORT] [--one CELL.PORT]`, by the words behind `lint`
+abbrev pub lint_of : List (List ℕ) → Option Command
+lint_of words = option_map (λ wanted. commands.Lint wanted.top wanted.names) (wanted_of words)
+
 -- `to-verilog {--parameter NAME}`, by the words behind `to-verilog`
 abbrev pub to_verilog_of : List (List ℕ) → Option Command
 to_verilog_of words = if are_options (codes "--parameter") words then Some (commands.ToVerilog (values_of words)) else None
@@ -118,5 +122,6 @@ command (word ∷ words) =
     else (if same_bytes word (codes "vformat") then if_none_left words (Some commands.Vformat)
     else (if same_bytes word (codes "check") then check_of words
     else (if same_bytes word (codes "report") then report_of words
+    else (if same_bytes word (codes "lint") then lint_of words
     else (if same_bytes word (codes "to-verilog") then to_verilog_of words
-    else (if same_bytes word (codes "to-edif") then to_edif_of words else None)))))
+    else (if same_bytes word (codes "to-edif") then to_edif_of words else None))))))

@@ -1,7 +1,7 @@
 ghost use Rattle.std.specs.Prelude.{◌≡◌, IfSome, IsSome, IsTrue, MatchOption, MatchResult, None, Some};
 ghost use Rattle.netlist_words.specs.Commands.{IsAsked, IsCommand};
 ghost use Rattle.netlist_words.specs.Lent.{lent_names, lent_wanted};
-ghost use Rattle.netlist_words.specs.Parsing.{are_constants, check_of, command, constants_behind, if_none_left, report_of, to_edif_of, to_verilog_of, wanted_of};
+ghost use Rattle.netlist_words.specs.Parsing.{are_constants, check_of, command, constants_behind, if_none_left, lint_of, report_of, to_edif_of, to_verilog_of, wanted_of};
 ghost use Rattle.netlist_words.specs.declared.command.Command.{Command as CommandValue};
 
 use crate::constants::{Names, constants_of, copied_constants};
@@ -22,6 +22,8 @@ pub enum Command {
     Check(Option<Text>),
     /// Writes the report of a design, where these cells stand for the constants.
     Report(Option<Text>, Constants),
+    /// Writes what is odd about the connections of a design, where these cells stand for the constants.
+    Lint(Option<Text>, Constants),
     /// Reads an EDIF file and writes its design in Verilog, with these names of parameters.
     ToVerilog(Seq<Text>),
     /// Reads a Verilog file and writes the design under the module of this name in EDIF, where these cells stand for the constants.
@@ -101,6 +103,21 @@ fn report_of(alloc: Global, words: &[Text]) -> Result<Option<Command>, NoMemory>
     }
 }
 
+/// `lint`, with these words behind it.
+fn lint_of(alloc: Global, words: &[Text]) -> Result<Option<Command>, NoMemory>
+    ensures { MatchResult result (λ found. found ≡ lint_of words.now)
+        (λ _. IsSome (lint_of words.now)) }
+{
+    match wanted_of(words) {
+        None => Ok(None),
+        Some(wanted) => {
+            let top = copied(alloc, wanted.top)?;
+            let constants = copied_constants(alloc, wanted.names)?;
+            Ok(Some(Command::Lint(top, constants)))
+        }
+    }
+}
+
 /// `to-verilog`, with these words behind it.
 fn to_verilog_of(alloc: Global, words: &[Text]) -> Result<Option<Command>, NoMemory>
     ensures { MatchResult result (λ found. found ≡ to_verilog_of words.now)
@@ -151,6 +168,10 @@ fn parsed(alloc: Global, words: &Seq<Text>) -> Result<Option<Command>, NoMemory>
     }
     if word.bytes() == b"report".as_slice() {
         let found = report_of(alloc, options)?;
+        return Ok(found);
+    }
+    if word.bytes() == b"lint".as_slice() {
+        let found = lint_of(alloc, options)?;
         return Ok(found);
     }
     if word.bytes() == b"to-verilog".as_slice() {
