@@ -1,4 +1,4 @@
-// The tests of `report`.
+// The tests of `report` and `lint`.
 use crate::designs::{ENDS, INPUTS, INV, UP_TO_CELLS, design_of};
 use crate::given::{Given, add_number, answers, ends_so, given_plainly, text_of, wanted_of};
 use std::alloc::Global;
@@ -15,6 +15,10 @@ const TIED: &[u8] =
 /// Instances of these, whose pins are joined.
 const TIES: &[u8] =
     b"(instance l(viewRef v(cellRef LO)))(instance h(viewRef v(cellRef VCC)))(instance(rename b \"b c\")(viewRef v(cellRef B)))(net n(joined(portRef Z(instanceRef l))(portRef(member D 0)(instanceRef b))))(net m(joined(portRef P(instanceRef h))(portRef(member D 1)(instanceRef b))))";
+
+/// Instances of these, one behind the other.
+const LEVELS: &[u8] =
+    b"(instance f(viewRef v(cellRef feed)))(instance b(viewRef v(cellRef box)))(net n1(joined(portRef a)(portRef a(instanceRef f))))(net n2(joined(portRef y(instanceRef f))(portRef I(instanceRef b))))(net n3(joined(portRef O(instanceRef b))(portRef y)))";
 
 #[test]
 fn reports_of_designs(rt: HostRuntime) -> Result<(), Fail> {
@@ -38,7 +42,7 @@ fn reports_of_designs(rt: HostRuntime) -> Result<(), Fail> {
             &[report],
             FEED_AND_BOX,
             ENDS,
-            b"(instance f(viewRef v(cellRef feed)))(instance b(viewRef v(cellRef box)))(net n1(joined(portRef a)(portRef a(instanceRef f))))(net n2(joined(portRef y(instanceRef f))(portRef I(instanceRef b))))(net n3(joined(portRef O(instanceRef b))(portRef y)))",
+            LEVELS,
             b"design \"top\"\nleaves 1\nleaf \"b\"/\"i\" \"INV\"\nnets 2\nnet\n  port \"a\"\n  pin \"b\"/\"i\" \"I\"\nnet\n  port \"y\"\n  pin \"b\"/\"i\" \"O\"\n",
         ),
         (
@@ -67,6 +71,32 @@ fn reports_of_designs(rt: HostRuntime) -> Result<(), Fail> {
         let text = design_of(rt.alloc(), cells.as_slice(), interface, contents)?;
         assert_eq!(rt;
             answers(rt.alloc(), words, text.as_slice(), 0, output, b"")?,
+            true
+        );
+    }
+    Ok(())
+}
+
+#[test]
+fn findings_of_designs(rt: HostRuntime) -> Result<(), Fail> {
+    for (cells, interface, contents, output) in [
+        (
+            b"".as_slice(),
+            b"(port a(direction INPUT))(port y(direction OUTPUT))(port z(direction OUTPUT))".as_slice(),
+            b"(instance u(viewRef v(cellRef INV)))(instance v(viewRef v(cellRef INV)))(net n1(joined(portRef a)(portRef O(instanceRef u))))(net n2(joined(portRef y)(portRef I(instanceRef v))))".as_slice(),
+            b"design \"top\"\nundriven 2\n  port \"y\"\n  pin \"v\" \"I\"\nfloating 2\n  port \"z\"\n  pin \"u\" \"I\"\nseveral 1\nnet\n  port \"a\"\n  pin \"u\" \"O\"\n".as_slice(),
+        ),
+        (
+            FEED_AND_BOX,
+            ENDS,
+            LEVELS,
+            b"design \"top\"\nundriven 0\nfloating 0\nseveral 0\n",
+        ),
+    ] {
+        let cells = text_of(rt.alloc(), &[INV, cells])?;
+        let text = design_of(rt.alloc(), cells.as_slice(), interface, contents)?;
+        assert_eq!(rt;
+            answers(rt.alloc(), &[b"lint"], text.as_slice(), 0, output, b"")?,
             true
         );
     }

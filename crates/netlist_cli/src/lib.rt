@@ -6,13 +6,13 @@
 // The other commands ask for the design of the input: that of an EDIF text, or, with `--top NAME`, that of a Verilog text under the module
 // of this name. They write exactly where the file breaks no rule, its design is within the limit of 33,554,432 units, and what the command
 // asks of a design holds. `check` writes `ok`. `report` asks for a flat count of at most 2,000,000 and writes the report of a design that
-// says what the file says, where the cells of the words stand for the constants; `lint` does so for what is odd about its connections. `to-
-// verilog {--parameter NAME}` asks for the rules of Verilog as a target, where these are the names of parameters; what is written is the
-// text of modules that break no rule; whatever its length it spells these modules, and each design that says what they say is the same as
-// the design of the EDIF file, cell by cell, and so as a whole, whichever cells stand for the constants. `to-edif --top NAME` asks nothing
-// of a design; what is written is the text of an EDIF file that breaks no rule; whatever its length it spells this file, and each design
-// that says what the file says is the same as the design of the modules, cell by cell, and so as a whole, where the cells of the words
-// stand for the constants.
+// says what the file says, where the cells of the words stand for the constants; `lint` does so for what is odd about its connections.
+// `to-verilog {--parameter NAME}` asks for the rules of Verilog as a target, where these are the names of parameters; what is written is
+// the text of modules that break no rule; whatever its length it spells these modules, and each design that says what they say is the same
+// as the design of the EDIF file, cell by cell, and so as a whole, whichever cells stand for the constants. `to-edif --top NAME` asks
+// nothing of a design; what is written is the text of an EDIF file that breaks no rule; whatever its length it spells this file, and each
+// design that says what the file says is the same as the design of the modules, cell by cell, and so as a whole, where the cells of the
+// words stand for the constants.
 //
 // `run` does what the words ask for: it reads the input to its end or to its first fault, and writes nothing before all is known. Its contract
 // says for each status when it comes and what was written then:
