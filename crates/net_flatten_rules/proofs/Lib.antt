@@ -1,0 +1,5 @@
+pub mod DigestLaws
+pub mod JoinedLaws
+pub mod LeafLaws
+pub mod RepeatLaws
+pub mod RuleLaws
