@@ -1,5 +1,5 @@
 -- the leaves below the top
-use Rattle.std.proofs.Common.{◌≡◌, ℕ, zero, suc, ◌<◌, ◌==◌, not, Bool, true, false, ◌||◌, List, [], ◌∷◌, ◌++◌, refl, sym, ◌∙◌, ap, subst, slice_get, get_or, set, length, replicate, take, arith}
+use Rattle.std.proofs.Common.{◌≡◌, ℕ, zero, suc, ◌+◌, ◌<◌, ◌==◌, not, Bool, true, false, ◌||◌, List, [], ◌∷◌, ◌++◌, refl, sym, ◌∙◌, ap, subst, slice_get, Some, get_or, set, length, replicate, take, arith}
 use Rattle.std.specs.Prelude.{All, Contains, slice_index_or}
 use Rattle.std.specs.List.{list_any}
 use Rattle.std.specs.Option.{option_map_or}
@@ -49,40 +49,39 @@ module _ (cells : List HCell) (spots : List Spot) (leaves : List ℕ) where
   cell_is : (leaf cell : ℕ) (spot : Spot) → slice_get spots leaf ≡ Some spot → spot.cell ≡ cell → cell_at spots leaf ≡ cell
   cell_is leaf cell spot e is = ap (λ o. option_map_or (λ (s : Spot). s.cell) o 0) e ∙ is
 
-  pub marks_more : (i : ℕ) (d : Spot) (marks more : List Bool) → i < length leaves → get_or leaves i 0 < length spots → (get_or spots (get_or leaves i 0) d).cell < length cells →
-      more ≡ set marks (get_or spots (get_or leaves i 0) d).cell true → AreCellMarks cells spots (take i leaves) marks → AreCellMarks cells spots (take (i + 1) leaves) more
-  marks_more i d marks more lt inside within e are = record {
-    len = ap length e ∙ (length-set marks cell true ∙ are.len);
-    are = λ number nlt. ap (λ l. slice_index_or l number false) e ∙ (by number nlt (cell == number) refl ∙ sym (stands number));
-  }
-    where
-      abbrev leaf : ℕ
-      leaf = get_or leaves i 0
+  module _ (i : ℕ) (d : Spot) where
+    abbrev leaf : ℕ
+    leaf = get_or leaves i 0
 
-      abbrev cell : ℕ
-      cell = (get_or spots leaf d).cell
+    abbrev cell : ℕ
+    cell = (get_or spots leaf d).cell
 
-      read : cell_at spots leaf ≡ cell
-      read = cell_is leaf cell (get_or spots leaf d) (slice_get-get_or spots leaf d inside) refl
+    stands : (number : ℕ) → i < length leaves → leaf < length spots → stands_at spots (take (i + 1) leaves) number ≡ stands_at spots (take i leaves) number || ((cell == number) || false)
+    stands number lt inside = ap (λ l. stands_at spots l number) (take_more leaves i 0 lt) ∙ (list_any-append (λ l. cell_at spots l == number) (take i leaves) (leaf ∷ [])
+    ∙ ap (λ c. stands_at spots (take i leaves) number || ((c == number) || false)) (cell_is leaf cell (get_or spots leaf d) (slice_get-get_or spots leaf d inside) refl))
 
-      stands : (number : ℕ) → stands_at spots (take (i + 1) leaves) number ≡ stands_at spots (take i leaves) number || ((cell == number) || false)
-      stands number = ap (λ l. stands_at spots l number) (take_more leaves i 0 lt) ∙ (list_any-append (λ l. cell_at spots l == number) (take i leaves) (leaf ∷ []) ∙ ap (λ c. stands_at spots (take i leaves) number || ((c == number) || false)) read)
+    or_true : (b : Bool) → b || (true || false) ≡ true
+    or_true true = refl
+    or_true false = refl
 
-      or_true : (b : Bool) → b || (true || false) ≡ true
-      or_true true = refl
-      or_true false = refl
+    or_false : (b : Bool) → b || (false || false) ≡ b
+    or_false true = refl
+    or_false false = refl
 
-      or_false : (b : Bool) → b || (false || false) ≡ b
-      or_false true = refl
-      or_false false = refl
+    marked : (marks : List Bool) → cell < length cells → AreCellMarks cells spots (take i leaves) marks → (number : ℕ) → number < length cells → (b : Bool) → (cell == number) ≡ b →
+        slice_index_or (set marks cell true) number false ≡ stands_at spots (take i leaves) number || ((cell == number) || false)
+    marked marks within are number nlt true t =
+        let same : cell ≡ number = eqb-true cell number t in
+        ap (λ n. slice_index_or (set marks cell true) n false) (sym same) ∙ (get_or-set_same marks cell true false (omega (arith, within, are.len)) ∙ (sym (or_true (stands_at spots (take i leaves) number)) ∙ ap (λ b. stands_at spots (take i leaves) number || (b || false)) (sym t)))
+    marked marks within are number nlt false t =
+        get_or-set_other marks cell number true false (λ (same : number ≡ cell). let u : true ≡ false = sym (eq-eqb cell number (sym same)) ∙ t in absurd (cc))
+        ∙ (are.are number nlt ∙ (sym (or_false (stands_at spots (take i leaves) number)) ∙ ap (λ b. stands_at spots (take i leaves) number || (b || false)) (sym t)))
 
-      by : (number : ℕ) → number < length cells → (b : Bool) → (cell == number) ≡ b → slice_index_or (set marks cell true) number false ≡ stands_at spots (take i leaves) number || ((cell == number) || false)
-      by number nlt true t =
-          let same : cell ≡ number = eqb-true cell number t in
-          ap (λ n. slice_index_or (set marks cell true) n false) (sym same) ∙ (get_or-set_same marks cell true false (omega (arith, within, are.len)) ∙ (sym (or_true (stands_at spots (take i leaves) number)) ∙ ap (λ b. stands_at spots (take i leaves) number || (b || false)) (sym t)))
-      by number nlt false t =
-          get_or-set_other marks cell number true false (λ (same : number ≡ cell). let u : true ≡ false = sym (eq-eqb cell number (sym same)) ∙ t in absurd (cc))
-          ∙ (are.are number nlt ∙ (sym (or_false (stands_at spots (take i leaves) number)) ∙ ap (λ b. stands_at spots (take i leaves) number || (b || false)) (sym t)))
+    pub marks_more : (marks more : List Bool) → i < length leaves → leaf < length spots → cell < length cells → more ≡ set marks cell true → AreCellMarks cells spots (take i leaves) marks → AreCellMarks cells spots (take (i + 1) leaves) more
+    marks_more marks more lt inside within e are = record {
+      len = ap length e ∙ (length-set marks cell true ∙ are.len);
+      are = λ number nlt. ap (λ l. slice_index_or l number false) e ∙ (marked marks within are number nlt (cell == number) refl ∙ sym (stands number lt inside));
+    }
 
   -- the cell at one of them is there
   pub cell_within : (i : ℕ) (d : Spot) → i < length leaves → All (λ leaf. leaf < length spots) leaves → All (λ leaf. cell_at spots leaf < length cells) leaves → (get_or spots (get_or leaves i 0) d).cell < length cells
