@@ -9,7 +9,7 @@ use Rattle.net_hier.specs.Design.{Design}
 use Rattle.net_hier.specs.Paths.{Path}
 use Rattle.net_hier.specs.Valid.{IsValid}
 use Rattle.net_hier.specs.declared.cells.HCell.{HCell}
-use Rattle.flat_numbers.specs.Spots.{AreSpots, IsSpotBelow, IsSpotOf}
+use Rattle.flat_numbers.specs.Spots.{AreSpots, IsSpotBelow, IsSpotOf, top_spot}
 use Rattle.flat_numbers.specs.declared.spots.Spot.{Spot}
 use Rattle.flat_numbers.proofs.SpotLaws.{HasParent, SpotFacts, spot_facts}
 use Rattle.flat_classes.proofs.KindLaws.{in_first, in_rest}
@@ -40,6 +40,9 @@ digests_first cells spots = record { len = refl; are = λ number path lt at. onl
 module _ (design : Design) (spots : List Spot) (are : AreSpots design spots) where
   facts : SpotFacts design.cells design.top spots
   facts = spot_facts design.cells design.top spots are
+
+  pub some_spots : 1 ≤ length spots
+  some_spots = let lt = slice_get_within spots 0 (top_spot design.top) facts.first in omega (arith, lt)
 
   -- the spots below the top are those of instances
   pub is_inner : (number : ℕ) (spot : Spot) → 0 < number → slice_get spots number ≡ Some spot → IsInner design.cells spots number
