@@ -1,5 +1,1 @@
-pub mod DigestLaws
 pub mod JoinedLaws
-pub mod LeafLaws
-pub mod RepeatLaws
-pub mod RuleLaws
