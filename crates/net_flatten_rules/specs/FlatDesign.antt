@@ -1,6 +1,6 @@
 -- A flattened design: the cells of the leaves below the top, and the top with these leaves as its instances.
-use Rattle.std.specs.Prelude.{◌≡◌, ℕ, zero, suc, ◌==◌, List, [], ◌∷◌, ◌++◌, Bool, not, if◌then◌else◌, nat_le, codes, decimal, filter, length, map, slice_get, slice_index_or, Option, Some, None}
-use Rattle.std.specs.List.{flat_map, list_any, range_with_len}
+use Rattle.std.specs.Prelude.{◌≡◌, ℕ, suc, ◌==◌, List, [], ◌∷◌, ◌++◌, Bool, not, if◌then◌else◌, nat_le, codes, decimal, filter, length, map, slice_get, slice_index_or, Option, Some, None}
+use Rattle.std.specs.List.{list_any, range_with_len}
 use Rattle.std.specs.Option.{option_map_or}
 use Rattle.net_hier.specs.Constants.{ConstantNames}
 use Rattle.net_hier.specs.Design.{Design}

@@ -1,7 +1,6 @@
 -- The rules of flattened designs, as lists of the objects that break them.
-use Rattle.std.specs.Prelude.{◌≡◌, ℕ, ◌<◌, List, [], ◌∷◌, ◌++◌, Bool, if◌then◌else◌, nat_lt, bytes_eq, codes, filter, length, map, Option, Some, None, option_map}
+use Rattle.std.specs.Prelude.{◌≡◌, ℕ, List, [], ◌∷◌, ◌++◌, Bool, if◌then◌else◌, nat_lt, bytes_eq, codes, filter, length, map, Option, Some, None, option_map}
 use Rattle.std.specs.List.{flat_map, list_any}
-use Rattle.net_hier.specs.Constants.{ConstantNames}
 use Rattle.net_hier.specs.Design.{Design, top_name}
 use Rattle.net_hier.specs.Paths.{Path}
 use Rattle.net_hier.specs.declared.cells.HCell.{HCell}

@@ -1,5 +1,5 @@
 use Rattle.std.proofs.Common.{subst, sym}
-use Rattle.net_flatten_rules.proofs.JoinedLaws.{WayGrown, way_begins, way_done, way_less, way_more, way_there}
+use Rattle.net_flatten_rules.proofs.JoinedLaws.{WayGrown, way_begins, way_done, way_less, way_more}
 use Rattle.net_flatten_rules.proofs.joined.way_up.Goals as goal
 
 pub loop-at-init : goal.loop-at-init
