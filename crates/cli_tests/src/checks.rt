@@ -1,36 +1,11 @@
-// The tests of `check`.
-use crate::tests::{Given, Wanted, ends_so, format_of};
+// The tests of `check` on EDIF.
+use crate::given::{answers, text_of};
 use crate::texts::{
     BLINKER, CYCLE, NO_BIT, RECURSIVE, SEVERAL, SMALL, SPACED, UP_TO_CONTENTS, UP_TO_DESIGNS,
     WHOLE_ARRAY, WIDE, WIDE_END, WIDE_HEAD, WITHOUT_DESIGN,
 };
 use std::alloc::Global;
 use std::test::Fail;
-
-/// `check` on a text in one piece, with room enough and no failure.
-fn check_of(text: &[u8]) -> Given<'_> {
-    Given {
-        word: b"check",
-        ..format_of(text)
-    }
-}
-
-/// Whether `check` ends with this status, and puts this text and this line.
-fn is_checked(
-    alloc: Global,
-    text: &[u8],
-    status: u8,
-    output: &[u8],
-    line: &[u8],
-) -> Result<bool, Fail> {
-    let wanted = Wanted {
-        status,
-        output,
-        errors: line,
-        taken: text.len() as u64,
-    };
-    ends_so(alloc, &check_of(text), &wanted)
-}
 
 #[test]
 fn files_are_checked(rt: HostRuntime) -> Result<(), Fail> {
@@ -57,18 +32,12 @@ fn files_are_checked(rt: HostRuntime) -> Result<(), Fail> {
         ),
         (b"(edi", 1, b"", b"fault 1:2 UnknownWord edi\n"),
     ] {
-        assert_eq!(rt; is_checked(rt.alloc(), text, status, output, line)?, true);
+        assert_eq!(rt;
+            answers(rt.alloc(), &[b"check"], text, status, output, line)?,
+            true
+        );
     }
     Ok(())
-}
-
-/// Texts behind one another.
-pub fn text_of(alloc: Global, pieces: &[&[u8]]) -> Result<Vec<u8>, Fail> {
-    let mut text = Vec::new(alloc);
-    for piece in pieces {
-        text.extend_from_slice(*piece)?;
-    }
-    Ok(text)
 }
 
 /// Whether `check` on the file whose cell t has these contents and that ends with these designs puts this line on errors, or `ok` without one.
@@ -78,9 +47,9 @@ fn is_ruled(alloc: Global, contents: &[u8], designs: &[u8], line: &[u8]) -> Resu
         &[UP_TO_CONTENTS, contents, UP_TO_DESIGNS, designs, b")"],
     )?;
     if line.is_empty() {
-        return is_checked(alloc, text.as_slice(), 0, b"ok\n", b"");
+        return answers(alloc, &[b"check"], text.as_slice(), 0, b"ok\n", b"");
     }
-    is_checked(alloc, text.as_slice(), 2, b"", line)
+    answers(alloc, &[b"check"], text.as_slice(), 2, b"", line)
 }
 
 #[test]
@@ -196,7 +165,14 @@ fn designs_have_a_limit(rt: HostRuntime) -> Result<(), Fail> {
     ] {
         let text = wide_file(rt.alloc(), ports)?;
         assert_eq!(rt;
-            is_checked(rt.alloc(), text.as_slice(), status, output, line)?,
+            answers(
+                rt.alloc(),
+                &[b"check"],
+                text.as_slice(),
+                status,
+                output,
+                line
+            )?,
             true
         );
     }

@@ -6,10 +6,22 @@
 #[cfg(test)]
 mod checks;
 #[cfg(test)]
-mod tests;
+mod designs;
+#[cfg(test)]
+mod edif;
+#[cfg(test)]
+mod formats;
+#[cfg(test)]
+mod given;
+#[cfg(test)]
+mod hostile;
+#[cfg(test)]
+mod reports;
 #[cfg(test)]
 mod texts;
 #[cfg(test)]
 mod tops;
 #[cfg(test)]
 mod translations;
+#[cfg(test)]
+mod usage;

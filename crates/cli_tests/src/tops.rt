@@ -1,18 +1,7 @@
-// The tests of `check --top`.
-use crate::tests::{USAGE, Wanted, ends_from, format_of};
-use crate::texts::SMALL;
-use nl_base::{Seq, Text};
+// The tests of `check --top` on Verilog.
+use crate::given::answers;
 use std::alloc::Global;
 use std::test::Fail;
-
-/// Words, in order.
-pub fn words_of(alloc: Global, line: &[&[u8]]) -> Result<Seq<Text>, Fail> {
-    let mut words = Seq::empty(alloc);
-    for word in line {
-        words.push(Text::copy(alloc, *word)?)?;
-    }
-    Ok(words)
-}
 
 /// Whether `check --top m` on a text ends with this status, and puts this text and this line.
 fn is_checked(
@@ -22,14 +11,8 @@ fn is_checked(
     output: &[u8],
     line: &[u8],
 ) -> Result<bool, Fail> {
-    let words = words_of(alloc, &[b"check", b"--top", b"m"])?;
-    let wanted = Wanted {
-        status,
-        output,
-        errors: line,
-        taken: text.len() as u64,
-    };
-    ends_from(alloc, &format_of(text), &words, &wanted)
+    let words = [b"check".as_slice(), b"--top", b"m"];
+    answers(alloc, &words, text, status, output, line)
 }
 
 /// A module that assigns as many bits x to a port of 65,536 bits that stands a thousand times on the left.
@@ -173,24 +156,5 @@ fn designs_of_modules_have_a_limit(rt: HostRuntime) -> Result<(), Fail> {
             true
         );
     }
-    Ok(())
-}
-
-fn is_usage(alloc: Global, words: &Seq<Text>) -> Result<bool, Fail> {
-    let wanted = Wanted {
-        status: 5,
-        output: b"",
-        errors: USAGE,
-        taken: 0,
-    };
-    ends_from(alloc, &format_of(SMALL), words, &wanted)
-}
-
-#[test]
-fn other_words_with_a_top_are_usage(rt: HostRuntime) -> Result<(), Fail> {
-    let without_name = words_of(rt.alloc(), &[b"check", b"--top"])?;
-    assert_eq!(rt; is_usage(rt.alloc(), &without_name)?, true);
-    let of_another = words_of(rt.alloc(), &[b"format", b"--top", b"m"])?;
-    assert_eq!(rt; is_usage(rt.alloc(), &of_another)?, true);
     Ok(())
 }

@@ -1,30 +1,8 @@
 // The tests of `to-verilog`.
-use crate::checks::text_of;
-use crate::tests::{USAGE, Wanted, ends_from, format_of};
+use crate::designs::{B4, ENDS, INPUTS, INV, design_of};
+use crate::given::{USAGE, answers};
 use crate::texts::{BLINKER, BLINKER_MODULES, BLINKER_PARAMETERS};
-use crate::tops::words_of;
-use std::alloc::Global;
 use std::test::Fail;
-
-/// Whether these words on a text end with this status, and put this text and this line.
-fn is_translated(
-    alloc: Global,
-    line: &[&[u8]],
-    text: &[u8],
-    status: u8,
-    output: &[u8],
-    errors: &[u8],
-) -> Result<bool, Fail> {
-    let words = words_of(alloc, line)?;
-    let taken = if status == 5 { 0 } else { text.len() as u64 };
-    let wanted = Wanted {
-        status,
-        output,
-        errors,
-        taken,
-    };
-    ends_from(alloc, &format_of(text), &words, &wanted)
-}
 
 #[test]
 fn names_of_parameters_are_options(rt: HostRuntime) -> Result<(), Fail> {
@@ -52,32 +30,12 @@ fn names_of_parameters_are_options(rt: HostRuntime) -> Result<(), Fail> {
         (&[command, init, option], 5, b"", USAGE),
     ] {
         assert_eq!(rt;
-            is_translated(rt.alloc(), line, BLINKER, status, output, errors)?,
+            answers(rt.alloc(), line, BLINKER, status, output, errors)?,
             true
         );
     }
     Ok(())
 }
-
-/// The front of a file, up to its cells.
-const UP_TO_CELLS: &[u8] =
-    b"(edif t(edifVersion 2 0 0)(edifLevel 0)(keywordMap(keywordLevel 0))(library w(edifLevel 0)(technology(numberDefinition))";
-
-/// The front of the top cell, up to its interface.
-const UP_TO_INTERFACE: &[u8] = b"(cell top(cellType GENERIC)(view v(viewType NETLIST)(interface";
-
-/// The end of the file, from the end of the contents of the top cell.
-const BEHIND_CONTENTS: &[u8] = b"))))(design t(cellRef top(libraryRef w))))";
-
-const INV: &[u8] =
-    b"(cell INV(cellType GENERIC)(view v(viewType NETLIST)(interface(port I(direction INPUT))(port O(direction OUTPUT)))))";
-
-const B4: &[u8] =
-    b"(cell B4(cellType GENERIC)(view v(viewType NETLIST)(interface(port(array(rename D \"D[3:0]\")4)(direction INPUT))(port E(direction INPUT)))))";
-
-const ENDS: &[u8] = b"(port a(direction INPUT))(port y(direction OUTPUT))";
-
-const INPUTS: &[u8] = b"(port a(direction INPUT))(port b(direction INPUT))";
 
 #[test]
 fn designs_are_translated(rt: HostRuntime) -> Result<(), Fail> {
@@ -174,21 +132,10 @@ fn designs_are_translated(rt: HostRuntime) -> Result<(), Fail> {
             b"refused E9 \"top\" \"na\" \"u\" \"D\" \"4\"\n",
         ),
     ] {
-        let text = text_of(
-            rt.alloc(),
-            &[
-                UP_TO_CELLS,
-                cell,
-                UP_TO_INTERFACE,
-                interface,
-                b")(contents",
-                contents,
-                BEHIND_CONTENTS,
-            ],
-        )?;
+        let text = design_of(rt.alloc(), cell, interface, contents)?;
         let status = if errors.is_empty() { 0 } else { 2 };
         assert_eq!(rt;
-            is_translated(
+            answers(
                 rt.alloc(),
                 &[b"to-verilog"],
                 text.as_slice(),

@@ -4,16 +4,18 @@ use Rattle.nl_io.specs.Causes.{Rose}
 use Rattle.nl_io.specs.declared.source.Failed.{Failed}
 use Rattle.readers.specs.Sources.{Supply, supply}
 use Rattle.readers.proofs.Moving.{skip_none}
-use Rattle.netlist_cli.specs.declared.command.Command.{Command}
+use Rattle.netlist_words.specs.declared.command.Command.{Command}
+use Rattle.netlist_words.specs.Commands.{IfCommand, IsAsked, IsCommand, IsNoCommand}
+use Rattle.netlist_words.proofs.OneCommand.{one_command}
 use Rattle.netlist_cli.specs.declared.failure.Failure.{Failure}
 use Rattle.netlist_cli.specs.declared.failure.Failure.TheVariants as failures
 use Rattle.netlist_cli.specs.declared.status.Status.{Status}
 use Rattle.netlist_cli.specs.declared.status.Status.TheVariants as statuses
 use Rattle.netlist_cli.specs.Statuses.{status_of}
 use Rattle.netlist_cli.specs.Lines.{line}
-use Rattle.netlist_cli.specs.Outcomes.{Meaning, Verdict, fine, breaks, exceeds, Outcome, faulty, too_long, judged, status_due, IsWriting, Says, Gives}
+use Rattle.netlist_cli.specs.Outcomes.{Meaning, Verdict, fine, breaks, exceeds, exceeds_flat, Outcome, faulty, too_long, judged, status_due, IsWriting, Says, Gives}
 use Rattle.netlist_cli.specs.Meanings.{meaning_of}
-use Rattle.netlist_cli.specs.Runs.{PutsText, WroteText, BrokeOff, IsCause, Fails, IsTold, TakesFrom, TellsFailure, FitsBytes, IsDecided, Does, Performs}
+use Rattle.netlist_cli.specs.Runs.{PutsText, WroteText, BrokeOff, IsCause, Fails, IsTold, TakesFrom, TellsFailure, FitsBytes, IsDecided, Does, DoesAsked, Performs}
 use Rattle.netlist_cli.proofs.Told.{if_told, any_told}
 use Rattle.netlist_cli.proofs.Results.{IsExact, exact_of, one_outcome}
 
@@ -28,13 +30,13 @@ takes_none i = record { taken = 0; left = sym (skip_none 0 i.left); within = ome
 
 -- ---- what the bytes are decides
 
-module _ (m : Meaning) (exact : IsExact m.language) (bs : List ℕ) where
+module _ (m : Meaning) (exact : IsExact m.question.language) (bs : List ℕ) where
   -- the status that is due for what comes of the bytes fits them
-  due_fits : (o : Outcome) → Gives m bs o → FitsBytes m bs (status_due o)
-  due_fits o h p k = inl (ap status_due (one_outcome m exact bs o p h k))
+  due_fits : (o : Outcome) → Gives m.question bs o → FitsBytes m bs (status_due o)
+  due_fits o h p k = inl (ap status_due (one_outcome m.question exact bs o p h k))
 
-  broken_fits : Gives m bs (judged fine) → FitsBytes m bs statuses.WriteFault
-  broken_fits h o k = inr (inl (refl, subst IsWriting (one_outcome m exact bs (judged fine) o h k) tt))
+  broken_fits : Gives m.question bs (judged fine) → FitsBytes m bs statuses.WriteFault
+  broken_fits h o k = inr (inl (refl, subst IsWriting (one_outcome m.question exact bs (judged fine) o h k) tt))
 
   read_fault_fits : FitsBytes m bs statuses.ReadFault
   read_fault_fits o k = inr (inr (inl refl))
@@ -43,17 +45,17 @@ module _ (m : Meaning) (exact : IsExact m.language) (bs : List ℕ) where
   no_memory_fits o k = inr (inr (inr refl))
 
   module _ (output_failed : Type 0) where
-    due_decided : (o : Outcome) → Gives m bs o → IsDecided m bs output_failed (status_due o)
-    due_decided o h p k n = inl (ap status_due (one_outcome m exact bs o p h k))
+    due_decided : (o : Outcome) → Gives m.question bs o → IsDecided m bs output_failed (status_due o)
+    due_decided o h p k n = inl (ap status_due (one_outcome m.question exact bs o p h k))
 
-    broken_decided : Gives m bs (judged fine) → output_failed → IsDecided m bs output_failed statuses.WriteFault
-    broken_decided h f o k n = absurd (n (subst IsWriting (one_outcome m exact bs (judged fine) o h k) tt) f)
+    broken_decided : Gives m.question bs (judged fine) → output_failed → IsDecided m bs output_failed statuses.WriteFault
+    broken_decided h f o k n = absurd (n (subst IsWriting (one_outcome m.question exact bs (judged fine) o h k) tt) f)
 
     no_memory_decided : IsDecided m bs output_failed statuses.NoMemory
     no_memory_decided o k n = inr refl
 
 -- what is said of some file comes of the bytes, where they are told
-said_of_bytes : (m : Meaning) (verdict : Verdict) (left : Option (List ℕ)) → Says m left verdict → IfSome left (λ bs. Gives m bs (judged verdict))
+said_of_bytes : (m : Meaning) (verdict : Verdict) (left : Option (List ℕ)) → Says m.question left verdict → IfSome left (λ bs. Gives m.question bs (judged verdict))
 said_of_bytes m verdict None h = tt
 said_of_bytes m verdict (Some bs) h = h
 
@@ -62,7 +64,7 @@ module _ {O : Type 0} (taken : O → List ℕ → Type 0) (accepts : O → ℕ �
   does = Does taken accepts faults m i j old new
 
   -- a text that may be written comes of a file with which nothing is wrong
-  gives_fine : (r : Result (Unit {0}) Failed) → PutsText taken accepts faults m i j old new r → IfSome i.left (λ bs. Gives m bs (judged fine))
+  gives_fine : (r : Result (Unit {0}) Failed) → PutsText taken accepts faults m i j old new r → IfSome i.left (λ bs. Gives m.question bs (judged fine))
   gives_fine r h = said_of_bytes m fine i.left (record { file = h.is_text.file; reads_as = h.is_text.reads_as; is_verdict = h.is_text.is_fine })
 
   -- ---- each status has its cause
@@ -77,6 +79,7 @@ module _ {O : Type 0} (taken : O → List ℕ → Type 0) (accepts : O → ℕ �
   done_so (Err failures.InputLimit) h e = absurd cc
   done_so (Err (failures.Refused r)) h e = absurd cc
   done_so (Err (failures.DesignLimit n)) h e = absurd cc
+  done_so (Err (failures.FlatLimit n)) h e = absurd cc
 
   pub broke_so : (r : Result (Unit {0}) Failure) → does r → ending r ≡ statuses.WriteFault → BrokeOff taken accepts faults m i j old new
   broke_so (Ok u) h e = absurd cc
@@ -88,8 +91,9 @@ module _ {O : Type 0} (taken : O → List ℕ → Type 0) (accepts : O → ℕ �
   broke_so (Err failures.InputLimit) h e = absurd cc
   broke_so (Err (failures.Refused r)) h e = absurd cc
   broke_so (Err (failures.DesignLimit n)) h e = absurd cc
+  broke_so (Err (failures.FlatLimit n)) h e = absurd cc
 
-  pub cause_so : (f : Failure) → does (Err f) → IsCause m i j f
+  pub cause_so : (f : Failure) → does (Err f) → IsCause m.question i j f
   cause_so (failures.Text f) h = h.0
   cause_so failures.ReadFault h = h.0
   cause_so failures.WriteFault h = tt
@@ -98,6 +102,7 @@ module _ {O : Type 0} (taken : O → List ℕ → Type 0) (accepts : O → ℕ �
   cause_so failures.InputLimit h = h.0
   cause_so (failures.Refused r) h = h.0
   cause_so (failures.DesignLimit n) h = h.0
+  cause_so (failures.FlatLimit n) h = h.0
 
   pub never_usage : (r : Result (Unit {0}) Failure) → does r → ending r ≢ statuses.Usage
   never_usage (Ok u) h e = absurd cc
@@ -109,6 +114,7 @@ module _ {O : Type 0} (taken : O → List ℕ → Type 0) (accepts : O → ℕ �
   never_usage (Err failures.InputLimit) h e = absurd cc
   never_usage (Err (failures.Refused r)) h e = absurd cc
   never_usage (Err (failures.DesignLimit n)) h e = absurd cc
+  never_usage (Err (failures.FlatLimit n)) h e = absurd cc
 
   -- nothing is written but a whole text
   pub unwritten_so : (r : Result (Unit {0}) Failure) → does r → ending r ≢ statuses.Done → ending r ≢ statuses.WriteFault → new ≡ old
@@ -121,59 +127,66 @@ module _ {O : Type 0} (taken : O → List ℕ → Type 0) (accepts : O → ℕ �
   unwritten_so (Err failures.InputLimit) h n w = h.1
   unwritten_so (Err (failures.Refused r)) h n w = h.1
   unwritten_so (Err (failures.DesignLimit k)) h n w = h.1
+  unwritten_so (Err (failures.FlatLimit k)) h n w = h.1
 
 -- ---- what the bytes are decides, from what was done
 
-module _ {O : Type 0} (taken : O → List ℕ → Type 0) (accepts : O → ℕ → Type 0) (faults : O → ℕ) (m : Meaning) (exact : IsExact m.language) (i j : Supply) (old new : O) where
+module _ {O : Type 0} (taken : O → List ℕ → Type 0) (accepts : O → ℕ → Type 0) (faults : O → ℕ) (m : Meaning) (exact : IsExact m.question.language) (i j : Supply) (old new : O) where
   abbrev done : Result (Unit {0}) Failure → Type 0
   done = Does taken accepts faults m i j old new
 
-  puts_fine : (r : Result (Unit {0}) Failed) → PutsText taken accepts faults m i j old new r → IfSome i.left (λ bs. Gives m bs (judged fine))
+  puts_fine : (r : Result (Unit {0}) Failed) → PutsText taken accepts faults m i j old new r → IfSome i.left (λ bs. Gives m.question bs (judged fine))
   puts_fine = gives_fine taken accepts faults m i j old new
 
-  due_where : (o : Outcome) → IfSome i.left (λ bs. Gives m bs o) → IfSome i.left (λ bs. FitsBytes m bs (status_due o))
-  due_where o h = if_told i.left (λ bs. Gives m bs o) (λ bs. FitsBytes m bs (status_due o)) h (λ bs. due_fits m exact bs o)
+  due_where : (o : Outcome) → IfSome i.left (λ bs. Gives m.question bs o) → IfSome i.left (λ bs. FitsBytes m bs (status_due o))
+  due_where o h = if_told i.left (λ bs. Gives m.question bs o) (λ bs. FitsBytes m bs (status_due o)) h (λ bs. due_fits m exact bs o)
 
   pub fits_bytes : (r : Result (Unit {0}) Failure) → done r → IfSome i.left (λ bs. FitsBytes m bs (ending r))
   fits_bytes (Ok u) h = due_where (judged fine) (puts_fine (Ok tt) h)
   fits_bytes (Err (failures.Text f)) h = due_where (faulty f) h.0.first
   fits_bytes (Err failures.ReadFault) h = any_told i.left (λ bs. FitsBytes m bs statuses.ReadFault) (λ bs. read_fault_fits m exact bs)
-  fits_bytes (Err failures.WriteFault) h = if_told i.left (λ bs. Gives m bs (judged fine)) (λ bs. FitsBytes m bs statuses.WriteFault) (puts_fine (Err h.0) h.1) (λ bs. broken_fits m exact bs)
+  fits_bytes (Err failures.WriteFault) h = if_told i.left (λ bs. Gives m.question bs (judged fine)) (λ bs. FitsBytes m bs statuses.WriteFault) (puts_fine (Err h.0) h.1) (λ bs. broken_fits m exact bs)
   fits_bytes (Err failures.Usage) h = absurd h.0
   fits_bytes (Err failures.NoMemory) h = any_told i.left (λ bs. FitsBytes m bs statuses.NoMemory) (λ bs. no_memory_fits m exact bs)
   fits_bytes (Err failures.InputLimit) h = due_where too_long h.0
   fits_bytes (Err (failures.Refused r)) h = due_where (judged (breaks r)) (said_of_bytes m (breaks r) i.left h.0)
   fits_bytes (Err (failures.DesignLimit n)) h = due_where (judged (exceeds n)) (said_of_bytes m (exceeds n) i.left h.0)
+  fits_bytes (Err (failures.FlatLimit n)) h = due_where (judged (exceeds_flat n)) (said_of_bytes m (exceeds_flat n) i.left h.0)
 
   abbrev failed : Type 0
   failed = Rose (faults old) (faults new)
 
-  decided_where : (o : Outcome) → IfSome i.left (λ bs. Gives m bs o) → IfSome i.left (λ bs. IsDecided m bs failed (status_due o))
-  decided_where o h = if_told i.left (λ bs. Gives m bs o) (λ bs. IsDecided m bs failed (status_due o)) h (λ bs. due_decided m exact bs failed o)
+  decided_where : (o : Outcome) → IfSome i.left (λ bs. Gives m.question bs o) → IfSome i.left (λ bs. IsDecided m bs failed (status_due o))
+  decided_where o h = if_told i.left (λ bs. Gives m.question bs o) (λ bs. IsDecided m bs failed (status_due o)) h (λ bs. due_decided m exact bs failed o)
 
   pub is_decided : (r : Result (Unit {0}) Failure) → done r → ¬ Rose i.faults j.faults → IfSome i.left (λ bs. IsDecided m bs failed (ending r))
   is_decided (Ok u) h n = decided_where (judged fine) (puts_fine (Ok tt) h)
   is_decided (Err (failures.Text f)) h n = decided_where (faulty f) h.0.first
   is_decided (Err failures.ReadFault) h n = absurd (n h.0)
   is_decided (Err failures.WriteFault) h n =
-      if_told i.left (λ bs. Gives m bs (judged fine)) (λ bs. IsDecided m bs failed statuses.WriteFault) (puts_fine (Err h.0) h.1) (λ bs gives. broken_decided m exact bs failed gives h.1.put.cause.failed)
+      if_told i.left (λ bs. Gives m.question bs (judged fine)) (λ bs. IsDecided m bs failed statuses.WriteFault) (puts_fine (Err h.0) h.1) (λ bs gives. broken_decided m exact bs failed gives h.1.put.cause.failed)
   is_decided (Err failures.Usage) h n = absurd h.0
   is_decided (Err failures.NoMemory) h n = any_told i.left (λ bs. IsDecided m bs failed statuses.NoMemory) (λ bs. no_memory_decided m exact bs failed)
   is_decided (Err failures.InputLimit) h n = decided_where too_long h.0
   is_decided (Err (failures.Refused r)) h n = decided_where (judged (breaks r)) (said_of_bytes m (breaks r) i.left h.0)
   is_decided (Err (failures.DesignLimit k)) h n = decided_where (judged (exceeds k)) (said_of_bytes m (exceeds k) i.left h.0)
+  is_decided (Err (failures.FlatLimit k)) h n = decided_where (judged (exceeds_flat k)) (said_of_bytes m (exceeds_flat k) i.left h.0)
 
 -- What a run has done with the input and the output, by its status.
-pub record RunsTo {S O : Type 0} (left : S → Option (List ℕ)) (count : S → ℕ) (taken : O → List ℕ → Type 0) (accepts : O → ℕ → Type 0) (faults : O → ℕ) (m : Option Command) (a b : S) (old new : O) (status : Status) : Type 0 where
-  pub done : status ≡ statuses.Done → IfSome m (λ c. WroteText taken accepts faults (meaning_of c) (supply left count a) (supply left count b) old new)
-  pub write_fault : status ≡ statuses.WriteFault → IfSome m (λ c. BrokeOff taken accepts faults (meaning_of c) (supply left count a) (supply left count b) old new)
-  pub usage : (status ≡ statuses.Usage) ↔ (m ≡ None)
+pub record RunsTo {S O : Type 0} (left : S → Option (List ℕ)) (count : S → ℕ) (taken : O → List ℕ → Type 0) (accepts : O → ℕ → Type 0) (faults : O → ℕ) (words : List (List ℕ)) (a b : S) (old new : O) (status : Status) : Type 0 where
+  pub done : status ≡ statuses.Done → IfCommand words (λ c. WroteText taken accepts faults (meaning_of c) (supply left count a) (supply left count b) old new)
+  pub write_fault : status ≡ statuses.WriteFault → IfCommand words (λ c. BrokeOff taken accepts faults (meaning_of c) (supply left count a) (supply left count b) old new)
+  pub usage : (status ≡ statuses.Usage) ↔ IsNoCommand words
   pub unread : status ≡ statuses.Usage → b ≡ a
   pub unwritten : status ≢ statuses.Done → status ≢ statuses.WriteFault → new ≡ old
-  pub exact : IfSome m (λ c. IfSome (left a) (λ bs. FitsBytes (meaning_of c) bs status))
-  pub complete : ¬ Rose (count a) (count b) → IfSome m (λ c. IfSome (left a) (λ bs. IsDecided (meaning_of c) bs (Rose (faults old) (faults new)) status))
+  pub exact : IfCommand words (λ c. IfSome (left a) (λ bs. FitsBytes (meaning_of c) bs status))
+  pub complete : ¬ Rose (count a) (count b) → IfCommand words (λ c. IfSome (left a) (λ bs. IsDecided (meaning_of c) bs (Rose (faults old) (faults new)) status))
 
-module _ {S O : Type 0} (left : S → Option (List ℕ)) (count : S → ℕ) (taken : O → List ℕ → Type 0) (accepts : O → ℕ → Type 0) (faults : O → ℕ) (a b : S) (old new : O) where
+-- what is so of a command for which the words ask is so of each
+for_command : (words : List (List ℕ)) (c : Command) → IsCommand words c → (P : Command → Type 0) → P c → IfCommand words P
+for_command words c is P h d asked = subst P (one_command words c d is asked) h
+
+module _ {S O : Type 0} (left : S → Option (List ℕ)) (count : S → ℕ) (taken : O → List ℕ → Type 0) (accepts : O → ℕ → Type 0) (faults : O → ℕ) (words : List (List ℕ)) (a b : S) (old new : O) where
   abbrev before : Supply
   before = supply left count a
 
@@ -181,44 +194,48 @@ module _ {S O : Type 0} (left : S → Option (List ℕ)) (count : S → ℕ) (ta
   after = supply left count b
 
   abbrev performed : Option Command → Result (Unit {0}) Failure → Type 0
-  performed m r = Performs taken accepts faults (supply left count) m a b old new r
+  performed asked r = Performs taken accepts faults (supply left count) asked a b old new r
 
-  no_command : b ≡ a → new ≡ old → RunsTo left count taken accepts faults None a b old new statuses.Usage
-  no_command e d = record {
-    done = λ h. tt;
-    write_fault = λ h. tt;
-    usage = (λ h. refl, λ h. refl);
+  -- what was done for the words
+  abbrev pub does_asked : Result (Unit {0}) Failure → Type 0
+  does_asked r = DoesAsked taken accepts faults (supply left count) words a b old new r
+
+  no_command : IsNoCommand words → b ≡ a → new ≡ old → RunsTo left count taken accepts faults words a b old new statuses.Usage
+  no_command none e d = record {
+    done = λ h c asked. absurd (none c asked);
+    write_fault = λ h c asked. absurd (none c asked);
+    usage = (λ h. none, λ h. refl);
     unread = λ h. e;
     unwritten = λ h k. d;
-    exact = tt;
-    complete = λ h. tt;
+    exact = λ c asked. absurd (none c asked);
+    complete = λ h c asked. absurd (none c asked);
   }
 
-  -- how a run ends for the command that the words have
-  run_ends : (m : Option Command) (r : Result (Unit {0}) Failure) → performed m r → RunsTo left count taken accepts faults m a b old new (ending r)
-  run_ends None r h = rw h.0 (no_command h.1 h.2)
-  run_ends (Some c) r h = record {
-    done = done_so taken accepts faults (meaning_of c) before after old new r h;
-    write_fault = broke_so taken accepts faults (meaning_of c) before after old new r h;
-    usage = (λ e. absurd (never_usage taken accepts faults (meaning_of c) before after old new r h e), λ e. absurd cc);
+  -- how a run ends for what the words ask for
+  run_ends : (asked : Option Command) (r : Result (Unit {0}) Failure) → IsAsked words asked → performed asked r → RunsTo left count taken accepts faults words a b old new (ending r)
+  run_ends None r is h = rw h.0 (no_command is h.1 h.2)
+  run_ends (Some c) r is h = record {
+    done = λ e. for_command words c is _ (done_so taken accepts faults (meaning_of c) before after old new r h e);
+    write_fault = λ e. for_command words c is _ (broke_so taken accepts faults (meaning_of c) before after old new r h e);
+    usage = (λ e. absurd (never_usage taken accepts faults (meaning_of c) before after old new r h e), λ none. absurd (none c is));
     unread = λ e. absurd (never_usage taken accepts faults (meaning_of c) before after old new r h e);
     unwritten = unwritten_so taken accepts faults (meaning_of c) before after old new r h;
-    exact = fits_bytes taken accepts faults (meaning_of c) (exact_of c) before after old new r h;
-    complete = is_decided taken accepts faults (meaning_of c) (exact_of c) before after old new r h;
+    exact = for_command words c is _ (fits_bytes taken accepts faults (meaning_of c) (exact_of c) before after old new r h);
+    complete = λ n. for_command words c is _ (is_decided taken accepts faults (meaning_of c) (exact_of c) before after old new r h n);
   }
 
   -- the same for a status that is known to be the one of the answer
-  pub run_ends_as : (m : Option Command) (r : Result (Unit {0}) Failure) (status : Status) → performed m r → status ≡ ending r → RunsTo left count taken accepts faults m a b old new status
-  run_ends_as m r status h e = subst (λ (z : Status). RunsTo left count taken accepts faults m a b old new z) (sym e) (run_ends m r h)
+  pub run_ends_as : (r : Result (Unit {0}) Failure) (status : Status) → does_asked r → status ≡ ending r → RunsTo left count taken accepts faults words a b old new status
+  run_ends_as r status h e = subst (λ (z : Status). RunsTo left count taken accepts faults words a b old new z) (sym e) (run_ends h.asked r h.is_asked h.performed)
 
-  fails : (m : Option Command) (f : Failure) → performed m (Err f) → Fails m before after f
-  fails None f h = let d : Err f ≡ Err failures.Usage = h.0 in cc
-  fails (Some c) f h = cause_so taken accepts faults (meaning_of c) before after old new f h
+  fails : (asked : Option Command) (f : Failure) → IsAsked words asked → performed asked (Err f) → Fails words before after f
+  fails None f is h = let d : Err f ≡ Err failures.Usage = h.0 in record { usage = λ none. cc; cause = λ c asked. absurd (is c asked) }
+  fails (Some c) f is h = record { usage = λ none. absurd (none c is); cause = for_command words c is _ (cause_so taken accepts faults (meaning_of c) before after old new f h) }
 
   -- a failure that was told has its cause
-  pub tells : {E : Type 0} (etaken : E → List ℕ → Type 0) (eaccepts : E → ℕ → Type 0) (efaults : E → ℕ) (m : Option Command) (f : Failure) (status : Status) (eold enew : E) → performed m (Err f) → status ≡ status_of f
-      → IsTold etaken eaccepts efaults eold enew (line f) → TellsFailure etaken eaccepts efaults m before after eold enew status
-  tells etaken eaccepts efaults m f status eold enew h e told = record { failure = f; is_status = e; cause = fails m f h; told = told }
+  pub tells : {E : Type 0} (etaken : E → List ℕ → Type 0) (eaccepts : E → ℕ → Type 0) (efaults : E → ℕ) (f : Failure) (status : Status) (eold enew : E) → does_asked (Err f) → status ≡ status_of f
+      → IsTold etaken eaccepts efaults eold enew (line f) → TellsFailure etaken eaccepts efaults words before after eold enew status
+  tells etaken eaccepts efaults f status eold enew h e told = record { failure = f; is_status = e; cause = fails h.asked f h.is_asked h.performed; told = told }
 
 -- ---- the line
 
@@ -231,6 +248,7 @@ never_done failures.NoMemory e = cc
 never_done failures.InputLimit e = cc
 never_done (failures.Refused r) e = cc
 never_done (failures.DesignLimit n) e = cc
+never_done (failures.FlatLimit n) e = cc
 
 module _ {E : Type 0} (old new : E) where
   -- something was told where the work was not done

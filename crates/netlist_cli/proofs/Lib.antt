@@ -2,6 +2,7 @@ pub mod Lines
 pub mod Told
 pub mod Results
 pub mod Verdicts
-pub mod Translations
+pub mod Halting
 pub mod Reading
+pub mod OverDesigns
 pub mod Ends

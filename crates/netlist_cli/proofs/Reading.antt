@@ -1,5 +1,5 @@
 -- What a command does that reads its whole input as a text of a language.
-use Rattle.std.proofs.Common.{◌≡◌, ℕ, List, Result, Ok, Err, refl}
+use Rattle.std.proofs.Common.{◌≡◌, ◌≢◌, ℕ, List, Result, Ok, Err, refl}
 use Rattle.grammar.specs.Whole.{whole, IsFirstFault, IsCut}
 use Rattle.nl_base.specs.declared.fault.Reason.{Reason}
 use Rattle.nl_base.specs.declared.fault.ReadError.{ReadError}
@@ -10,12 +10,12 @@ use Rattle.readers.specs.Parts.{PartOf}
 use Rattle.readers.specs.Readers.{same, fault_at}
 use Rattle.readers.specs.Sources.{Supply, Language}
 use Rattle.readers.specs.Texts.{tokens_of, SpellsText, ReadsText}
-use Rattle.netlist_cli.specs.declared.failure.Failure.{Failure}
 use Rattle.netlist_cli.specs.declared.failure.Failure.TheVariants as failures
 use Rattle.netlist_cli.specs.Outcomes.{FileLanguage, Meaning, Verdict, fine}
 use Rattle.netlist_cli.specs.Meanings.{meaning}
-use Rattle.netlist_cli.specs.Runs.{TakesFrom, IsFailureOf, Does}
+use Rattle.netlist_cli.specs.Runs.{TakesFrom, IsCause, Does}
 use Rattle.netlist_cli.specs.Statuses.{failure_of, after_writing}
+use Rattle.netlist_cli.proofs.Halting.{halted}
 
 module _ {K X V : Type 0} (L : Language X) (trail : X → Reason) (k : K) (part : PartOf K X V) where
   -- the texts of a part in a context, as files
@@ -31,6 +31,23 @@ module _ {K X V : Type 0} (L : Language X) (trail : X → Reason) (k : K) (part 
   pub text_takes : (i j : Supply) (r : Result V ReadError) → ReadsText L trail k same part r i j → TakesFrom i j
   text_takes i j r h = record { taken = h.taken; left = h.left; within = h.within; faults = h.faults }
 
+-- an error of a reader is no failure of the output
+pub error_unwritten : (e : ReadError) → failure_of e ≢ failures.WriteFault
+error_unwritten (errors.Text f) h = absurd cc
+error_unwritten errors.ReadFault h = absurd cc
+error_unwritten errors.TooLong h = absurd cc
+error_unwritten errors.NoMemory h = absurd cc
+error_unwritten errors.Spent h = absurd cc
+
+module _ {K X V : Type 0} (L : Language X) (trail : X → Reason) (k : K) (part : PartOf K X V) (verdict : V → Verdict) where
+  -- an error of a reader has its cause
+  pub error_causes : (e : ReadError) (i j : Supply) → ReadsText L trail k same part (Err e) i j → IsCause (record { language = texts L trail k part; verdict = verdict }) i j (failure_of e)
+  error_causes (errors.Text f) i j h = record { first = h.error; taken = h.taken; left = h.left; near = h.near }
+  error_causes errors.ReadFault i j h = h.cause refl
+  error_causes errors.TooLong i j h = h.error
+  error_causes errors.NoMemory i j h = tt
+  error_causes errors.Spent i j h = absurd (h.never_spent refl)
+
 module _ {K X V O : Type 0} (L : Language X) (trail : X → Reason) (k : K) (part : PartOf K X V) (verdict : V → Verdict) (IsMade : V → List ℕ → Type 0)
     (taken : O → List ℕ → Type 0) (accepts : O → ℕ → Type 0) (faults : O → ℕ) (i j : Supply) (old new : O) where
   abbrev m : Meaning
@@ -42,21 +59,6 @@ module _ {K X V O : Type 0} (L : Language X) (trail : X → Reason) (k : K) (par
   text_is_put v text (Ok done) h f made w = record { text = text; is_text = record { file = v; reads_as = h.value; is_fine = f; made = made }; ended = h.ended; put = w }
   text_is_put v text (Err failed) h f made w = (failed, record { text = text; is_text = record { file = v; reads_as = h.value; is_fine = f; made = made }; ended = h.ended; put = w })
 
-  -- nothing is made of the file that was read
-  pub failure_is_told : (v : V) (f : Failure) → ReadsText L trail k same part (Ok v) i j → IsFailureOf (verdict v) f → new ≡ old → Does taken accepts faults m i j old new (Err f)
-  failure_is_told v (failures.Refused r) h e s = (record { file = v; reads_as = h.value; is_verdict = e }, s)
-  failure_is_told v (failures.DesignLimit n) h e s = (record { file = v; reads_as = h.value; is_verdict = e }, s)
-  failure_is_told v failures.NoMemory h e s = (tt, s)
-  failure_is_told v failures.WriteFault h e s = absurd e
-  failure_is_told v (failures.Text f) h e s = absurd e
-  failure_is_told v failures.ReadFault h e s = absurd e
-  failure_is_told v failures.Usage h e s = absurd e
-  failure_is_told v failures.InputLimit h e s = absurd e
-
   -- no file was read
   pub error_is_told : (e : ReadError) → ReadsText L trail k same part (Err e) i j → new ≡ old → Does taken accepts faults m i j old new (Err (failure_of e))
-  error_is_told (errors.Text f) h s = (record { first = h.error; taken = h.taken; left = h.left; near = h.near }, s)
-  error_is_told errors.ReadFault h s = (h.cause refl, s)
-  error_is_told errors.TooLong h s = (h.error, s)
-  error_is_told errors.NoMemory h s = (tt, s)
-  error_is_told errors.Spent h s = absurd (h.never_spent refl)
+  error_is_told e h s = halted taken accepts faults m i j old new (failure_of e) (error_unwritten e) (error_causes L trail k part verdict e i j h) s

@@ -36,9 +36,9 @@ names_then (name ∷ names) rest = codes " " ++ quoted name (names_then names re
 unfoldable pub refusal_then : Refusal → List ℕ → List ℕ
 refusal_then r rest = codes "refused " ++ (rule_name r.rule ++ (codes " " ++ quoted r.cell (names_then r.names rest)))
 
--- limit design UNITS
-unfoldable pub units_then : ℕ → List ℕ → List ℕ
-units_then n rest = codes "limit design " ++ (decimal n ++ rest)
+-- limit KIND NUMBER
+unfoldable pub limit_then : List ℕ → ℕ → List ℕ → List ℕ
+limit_then kind n rest = codes "limit " ++ (kind ++ (codes " " ++ (decimal n ++ rest)))
 
 -- what is told of a failure
 unfoldable pub message_then : Failure → List ℕ → List ℕ
@@ -49,7 +49,8 @@ message_then failures.WriteFault rest = codes "write fault" ++ rest
 message_then failures.Usage rest = usage ++ rest
 message_then failures.NoMemory rest = codes "no memory" ++ rest
 message_then failures.InputLimit rest = codes "limit input" ++ rest
-message_then (failures.DesignLimit n) rest = units_then n rest
+message_then (failures.DesignLimit n) rest = limit_then (codes "design") n rest
+message_then (failures.FlatLimit n) rest = limit_then (codes "flat") n rest
 
 -- the line, with its line feed
 unfoldable pub line : Failure → List ℕ

@@ -1,26 +1,35 @@
 -- What each command makes of its input.
-use Rattle.std.specs.Prelude.{◌≡◌, ℕ, List, [], ◌∷◌, false, codes}
+use Rattle.std.specs.Prelude.{◌≡◌, ℕ, List, [], ◌∷◌, false, Option, Some, None, codes}
+use Rattle.edif_copies.specs.Answers.{IsEdifFor}
 use Rattle.edif_library.specs.Text.{EdifReads, EdifFault, EdifCut}
 use Rattle.edif_library.specs.declared.file.EdifFile.{EdifFile}
 use Rattle.edif_writer.specs.Forms.{edif_text}
+use Rattle.flat_classes.specs.FlatSums.{flat_count}
+use Rattle.flat_report.specs.Report.{IsReport}
+use Rattle.net_lint.specs.Lint.{IsLint}
 use Rattle.net_bits.specs.Names.{NameSet, has_name, with_name}
+use Rattle.net_hier.specs.Constants.{ConstantNames}
 use Rattle.net_hier.specs.Design.{Design}
 use Rattle.net_hier.specs.Units.{units}
+use Rattle.net_hier.specs.declared.cells.HCell.{HCell}
+use Rattle.net_hier.specs.declared.cells.HProp.{HProp}
 use Rattle.edif_design.specs.Design.{edif_design}
 use Rattle.edif_design.specs.FileRules.{first_E}
-use Rattle.edif_resolve.specs.Answers.{IsDesignOf}
+use Rattle.edif_rereading.specs.Whole.{EdifSpells}
+use Rattle.edif_resolve.specs.Answers as edif_answers
 use Rattle.to_verilog.specs.Answers.{IsVerilogFor}
 use Rattle.to_verilog_rules.specs.Rules.{first_V}
 use Rattle.vlog_design.specs.Design.{vlog_design}
 use Rattle.vlog_design.specs.Names.{Name}
 use Rattle.vlog_design.specs.Rules.{first_G}
+use Rattle.vlog_elab.specs.Answers as verilog_answers
 use Rattle.vlog_modules.specs.Text.{VlogReads, VlogFault, VlogCut}
 use Rattle.vlog_rereading.specs.Whole.{VlogSpells}
 use Rattle.vlog_values.specs.declared.module.VlogFile.{VlogFile}
 use Rattle.vlog_writer.specs.Forms.{vlog_text}
-use Rattle.netlist_cli.specs.declared.command.Command.{Command}
-use Rattle.netlist_cli.specs.declared.command.Command.TheVariants as commands
-use Rattle.netlist_cli.specs.Outcomes.{FileLanguage, Meaning, Verdict, fine, or_refused, or_too_big}
+use Rattle.netlist_words.specs.declared.command.Command.{Command}
+use Rattle.netlist_words.specs.declared.command.Command.TheVariants as commands
+use Rattle.netlist_cli.specs.Outcomes.{FileLanguage, Meaning, Verdict, fine, or_refused, or_too_big, or_too_flat}
 
 -- ---- the two languages
 
@@ -30,13 +39,26 @@ edif = record { File = EdifFile; reads = EdifReads; fault = EdifFault; cut = Edi
 abbrev pub verilog : FileLanguage
 verilog = record { File = VlogFile; reads = VlogReads; fault = VlogFault; cut = VlogCut }
 
--- ---- what is said of a file: the rules of its language, then the limit of a design, and then what the command asks
+-- ---- what is said of a file: the rules of its language, then the limit of a design, and then what the command asks of the design
 
-abbrev pub edif_verdict : (EdifFile → Verdict) → EdifFile → Verdict
-edif_verdict otherwise file = or_refused (first_E file) (or_too_big (units (edif_design file).cells) (otherwise file))
+-- what a command says of a design, by its cells, the number of its top and its properties
+abbrev pub Judgement : Type 0
+Judgement = List HCell → ℕ → List HProp → Verdict
 
-abbrev pub verilog_verdict : Name → (VlogFile → Verdict) → VlogFile → Verdict
-verilog_verdict top otherwise file = or_refused (first_G file top) (or_too_big (units (vlog_design file top).cells) (otherwise file))
+abbrev pub edif_verdict : Judgement → EdifFile → Verdict
+edif_verdict judge file = or_refused (first_E file) (or_too_big (units (edif_design file).cells) (judge (edif_design file).cells (edif_design file).top (edif_design file).props))
+
+abbrev pub verilog_verdict : Name → Judgement → VlogFile → Verdict
+verilog_verdict top judge file =
+    or_refused (first_G file top) (or_too_big (units (vlog_design file top).cells) (judge (vlog_design file top).cells (vlog_design file top).top (vlog_design file top).props))
+
+-- each design will do
+abbrev pub any_design : Judgement
+any_design cells top props = fine
+
+-- the flat count is within the limit of the flat tools
+abbrev pub few_flat : Judgement
+few_flat cells top props = or_too_flat (flat_count cells top) fine
 
 -- the set with these names too
 abbrev pub with_names : NameSet → List Name → NameSet
@@ -48,33 +70,54 @@ abbrev pub params_of : List Name → NameSet
 params_of names = with_names (record { up_to_case = false; names = [] }) names
 
 -- the rules of Verilog as a target, where these are the names of parameters
-abbrev pub target_verdict : List Name → EdifFile → Verdict
-target_verdict names file = or_refused (first_V (edif_design file).cells (edif_design file).top (edif_design file).props (has_name (params_of names))) fine
+abbrev pub target_rules : NameSet → Judgement
+target_rules params cells top props = or_refused (first_V cells top props (has_name params)) fine
 
--- ---- the commands
+-- ---- the texts
 
 -- what is written of a file that breaks no rule
 abbrev pub ok_text : List ℕ
 ok_text = codes "ok\n"
 
--- The text is that of modules that are the same as the design of the file: cell by cell, and so as a whole, whichever cells stand for the
--- constants. Whatever its length, the text spells these modules.
-pub record IsVerilogOf (file : EdifFile) (text : List ℕ) : Type 0 where
-  pub design : Design
-  pub is_design : IsDesignOf file design
+-- The text is that of modules that are the same as the design: cell by cell, and so as a whole, whichever cells stand for the constants.
+-- Whatever its length, the text spells these modules.
+pub record IsVerilogOf (design : Design) (text : List ℕ) : Type 0 where
   pub modules : VlogFile
   pub same : IsVerilogFor design modules
   pub is_text : text ≡ vlog_text modules
   pub spells : VlogSpells text modules
 
--- the language that a command reads, what is said of a file, and the texts that may be written
+-- The text is that of an EDIF file that is the same as the design, where these cells stand for the constants: cell by cell, and so as a
+-- whole. Whatever its length, the text spells this file.
+pub record IsEdifOf (names : ConstantNames) (design : Design) (text : List ℕ) : Type 0 where
+  pub file : EdifFile
+  pub same : IsEdifFor names design file
+  pub is_text : text ≡ edif_text file
+  pub spells : EdifSpells text file
+
+-- The text is made of a design that says what the file says.
+pub record IsMadeOfDesign {File : Type 0} (IsDesignOf : File → Design → Type 0) (IsMade : Design → List ℕ → Type 0) (file : File) (text : List ℕ) : Type 0 where
+  pub design : Design
+  pub is_design : IsDesignOf file design
+  pub made : IsMade design text
+
+-- ---- the commands
+
+-- what a command asks of a file, and the texts that may be written
 abbrev pub meaning : (language : FileLanguage) → (language.File → Verdict) → (language.File → List ℕ → Type 0) → Meaning
-meaning language verdict IsMade = record { language = language; verdict = verdict; IsMade = IsMade }
+meaning language verdict IsMade = record { question = record { language = language; verdict = verdict }; IsMade = IsMade }
+
+-- what a command asks of a design: that of an EDIF file, or that of a Verilog file under the module of this name
+abbrev pub of_design : Option Name → Judgement → (Design → List ℕ → Type 0) → Meaning
+of_design None judge IsMade = meaning edif (edif_verdict judge) (IsMadeOfDesign edif_answers.IsDesignOf IsMade)
+of_design (Some top) judge IsMade = meaning verilog (verilog_verdict top judge) (IsMadeOfDesign (λ file design. verilog_answers.IsDesignOf file top design) IsMade)
 
 -- the table of the commands, one line for each
 abbrev pub meaning_of : Command → Meaning
 meaning_of commands.Format = meaning edif (λ file. fine) (λ file text. text ≡ edif_text file)
 meaning_of commands.Vformat = meaning verilog (λ file. fine) (λ file text. text ≡ vlog_text file)
-meaning_of commands.Check = meaning edif (edif_verdict (λ file. fine)) (λ file text. text ≡ ok_text)
-meaning_of (commands.CheckTop top) = meaning verilog (verilog_verdict top (λ file. fine)) (λ file text. text ≡ ok_text)
-meaning_of (commands.ToVerilog names) = meaning edif (edif_verdict (target_verdict names)) IsVerilogOf
+meaning_of (commands.Check top) = of_design top any_design (λ design text. text ≡ ok_text)
+meaning_of (commands.Report top names) = of_design top few_flat (IsReport names)
+meaning_of (commands.Lint top names) = of_design top few_flat (IsLint names)
+meaning_of (commands.ToVerilog names) = of_design None (target_rules (params_of names)) IsVerilogOf
+meaning_of (commands.ToEdif top names) = of_design (Some top) any_design (IsEdifOf names)

@@ -2,6 +2,7 @@
 use Rattle.std.specs.Prelude.{◌≡◌, ℕ, nat_lt, if◌then◌else◌, List, Option, Some, None, IfSome, ⊤}
 use Rattle.nl_base.specs.declared.fault.TextFault.{TextFault}
 use Rattle.nl_base.specs.declared.rule.Refusal.{Refusal}
+use Rattle.flat_classes.specs.FlatSums.{flat_limit}
 use Rattle.net_hier.specs.Valid.{unit_limit}
 use Rattle.netlist_cli.specs.declared.status.Status.{Status}
 use Rattle.netlist_cli.specs.declared.status.Status.TheVariants as statuses
@@ -15,12 +16,13 @@ pub record FileLanguage : Type 1 where
   pub fault : List ℕ → TextFault → Type 0
   pub cut : List ℕ → Type 0
 
--- What is said of a file: nothing is wrong with it; it breaks a rule, of which this is the first object; or its design has so many units,
--- which are more than a design may have.
+-- What is said of a file: nothing is wrong with it; it breaks a rule, of which this is the first object; its design has so many units,
+-- which are more than a design may have; or its flat count is this one, which is more than a tool on the flat design takes.
 pub data Verdict : Type 0 where
   fine : Verdict
   breaks : Refusal → Verdict
   exceeds : ℕ → Verdict
+  exceeds_flat : ℕ → Verdict
 
 -- a refusal, if there is one, or what is said then
 abbrev pub or_refused : Option Refusal → Verdict → Verdict
@@ -31,12 +33,19 @@ or_refused (Some refusal) otherwise = breaks refusal
 abbrev pub or_too_big : ℕ → Verdict → Verdict
 or_too_big count otherwise = if nat_lt unit_limit count then exceeds count else otherwise
 
--- What a command makes of an input: the language of the files that it reads, what is said of each, and which texts may be written for a
--- file with which nothing is wrong.
-pub record Meaning : Type 1 where
+-- this flat count, where it passes the limit of the flat tools, or what is said then
+abbrev pub or_too_flat : ℕ → Verdict → Verdict
+or_too_flat count otherwise = if nat_lt flat_limit count then exceeds_flat count else otherwise
+
+-- What a command asks of an input: the language of the files that it reads, and what is said of each.
+pub record Question : Type 1 where
   pub language : FileLanguage
   pub verdict : language.File → Verdict
-  pub IsMade : language.File → List ℕ → Type 0
+
+-- What a command makes of an input: what it asks of it, and which texts may be written for a file with which nothing is wrong.
+pub record Meaning : Type 1 where
+  pub question : Question
+  pub IsMade : question.language.File → List ℕ → Type 0
 
 -- ---- what comes of an input
 
@@ -53,6 +62,7 @@ status_due too_long = statuses.Limit
 status_due (judged fine) = statuses.Done
 status_due (judged (breaks refusal)) = statuses.Refused
 status_due (judged (exceeds count)) = statuses.Limit
+status_due (judged (exceeds_flat count)) = statuses.Limit
 
 -- a text is to be written
 abbrev pub IsWriting : Outcome → Type 0
@@ -61,23 +71,24 @@ IsWriting too_long = ⊥
 IsWriting (judged fine) = ⊤
 IsWriting (judged (breaks refusal)) = ⊥
 IsWriting (judged (exceeds count)) = ⊥
+IsWriting (judged (exceeds_flat count)) = ⊥
 
 -- This is said of some file, as which the bytes that were left read, where they are told.
-pub record Says (m : Meaning) (left : Option (List ℕ)) (verdict : Verdict) : Type 0 where
-  pub file : m.language.File
-  pub reads_as : IfSome left (λ bytes. m.language.reads bytes file)
-  pub is_verdict : m.verdict file ≡ verdict
+pub record Says (q : Question) (left : Option (List ℕ)) (verdict : Verdict) : Type 0 where
+  pub file : q.language.File
+  pub reads_as : IfSome left (λ bytes. q.language.reads bytes file)
+  pub is_verdict : q.verdict file ≡ verdict
 
 -- what comes of the bytes
-abbrev pub Gives : Meaning → List ℕ → Outcome → Type 0
-Gives m bytes (faulty fault) = m.language.fault bytes fault
-Gives m bytes too_long = m.language.cut bytes
-Gives m bytes (judged verdict) = Says m (Some bytes) verdict
+abbrev pub Gives : Question → List ℕ → Outcome → Type 0
+Gives q bytes (faulty fault) = q.language.fault bytes fault
+Gives q bytes too_long = q.language.cut bytes
+Gives q bytes (judged verdict) = Says q (Some bytes) verdict
 
 -- The text is one that may be written: it is made of some file with which nothing is wrong, as which the bytes that were left read, where
 -- they are told.
 pub record IsTextFrom (m : Meaning) (left : Option (List ℕ)) (text : List ℕ) : Type 0 where
-  pub file : m.language.File
-  pub reads_as : IfSome left (λ bytes. m.language.reads bytes file)
-  pub is_fine : m.verdict file ≡ fine
+  pub file : m.question.language.File
+  pub reads_as : IfSome left (λ bytes. m.question.language.reads bytes file)
+  pub is_fine : m.question.verdict file ≡ fine
   pub made : m.IsMade file text

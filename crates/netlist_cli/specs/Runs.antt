@@ -7,14 +7,15 @@ use Rattle.nl_io.specs.declared.source.Failed.{Failed}
 use Rattle.nl_bytes.specs.declared.bytes.TheConstants.{LIMIT}
 use Rattle.nl_output.specs.Writing.{Writes}
 use Rattle.readers.specs.Sources.{Supply, skip}
-use Rattle.netlist_cli.specs.declared.command.Command.{Command}
+use Rattle.netlist_words.specs.Commands.{IfCommand, IsAsked, IsNoCommand}
+use Rattle.netlist_words.specs.declared.command.Command.{Command}
 use Rattle.netlist_cli.specs.declared.failure.Failure.{Failure}
 use Rattle.netlist_cli.specs.declared.failure.Failure.TheVariants as failures
 use Rattle.netlist_cli.specs.declared.status.Status.{Status}
 use Rattle.netlist_cli.specs.declared.status.Status.TheVariants as statuses
 use Rattle.netlist_cli.specs.Statuses.{status_of}
 use Rattle.netlist_cli.specs.Lines.{line}
-use Rattle.netlist_cli.specs.Outcomes.{Meaning, Verdict, breaks, exceeds, Outcome, faulty, too_long, status_due, IsWriting, Says, Gives, IsTextFrom}
+use Rattle.netlist_cli.specs.Outcomes.{Meaning, Question, Verdict, breaks, exceeds, exceeds_flat, Outcome, faulty, too_long, status_due, IsWriting, Says, Gives, IsTextFrom}
 use Rattle.netlist_cli.specs.Meanings.{meaning_of}
 
 -- The input was read to its end, and this is how the writing of a text that may be written went.
@@ -33,8 +34,8 @@ abbrev pub BrokeOff : {O : Type 0} → (O → List ℕ → Type 0) → (O → �
 BrokeOff taken accepts faults m i j old new = (e : Failed) × PutsText taken accepts faults m i j old new (Err e)
 
 -- The input has this first fault, and at most 4,096 bytes behind its stop were taken.
-pub record HasFault (m : Meaning) (i j : Supply) (fault : TextFault) : Type 0 where
-  pub first : IfSome i.left (λ bs. Gives m bs (faulty fault))
+pub record HasFault (q : Question) (i j : Supply) (fault : TextFault) : Type 0 where
+  pub first : IfSome i.left (λ bs. Gives q bs (faulty fault))
   -- as many bytes were taken
   pub taken : ℕ
   pub left : j.left ≡ skip taken 0 i.left
@@ -52,27 +53,28 @@ pub record TakesFrom (i j : Supply) : Type 0 where
 abbrev pub IsTold : {E : Type 0} → (E → List ℕ → Type 0) → (E → ℕ → Type 0) → (E → ℕ) → E → E → List ℕ → Type 0
 IsTold taken accepts faults old new text = (answer : Result (Unit {0}) Failed) × Writes taken accepts faults old new text answer
 
--- When each failure comes of what a command makes of its input.
-abbrev pub IsCause : Meaning → Supply → Supply → Failure → Type 0
-IsCause m i j (failures.Text f) = HasFault m i j f
-IsCause m i j failures.ReadFault = Rose i.faults j.faults
-IsCause m i j failures.WriteFault = ⊤
-IsCause m i j failures.Usage = ⊥
-IsCause m i j failures.NoMemory = ⊤
-IsCause m i j failures.InputLimit = IfSome i.left (λ bs. Gives m bs too_long)
-IsCause m i j (failures.Refused r) = Says m i.left (breaks r)
-IsCause m i j (failures.DesignLimit n) = Says m i.left (exceeds n)
+-- When each failure comes of what a command asks of its input.
+abbrev pub IsCause : Question → Supply → Supply → Failure → Type 0
+IsCause q i j (failures.Text f) = HasFault q i j f
+IsCause q i j failures.ReadFault = Rose i.faults j.faults
+IsCause q i j failures.WriteFault = ⊤
+IsCause q i j failures.Usage = ⊥
+IsCause q i j failures.NoMemory = ⊤
+IsCause q i j failures.InputLimit = IfSome i.left (λ bs. Gives q bs too_long)
+IsCause q i j (failures.Refused r) = Says q i.left (breaks r)
+IsCause q i j (failures.DesignLimit n) = Says q i.left (exceeds n)
+IsCause q i j (failures.FlatLimit n) = Says q i.left (exceeds_flat n)
 
--- When each failure comes for what the words ask for: without a command it is that of the usage.
-abbrev pub Fails : Option Command → Supply → Supply → Failure → Type 0
-Fails None i j f = f ≡ failures.Usage
-Fails (Some c) i j f = IsCause (meaning_of c) i j f
+-- When each failure comes for what the words ask for: where they ask for nothing it is that of the usage.
+pub record Fails (words : List (List ℕ)) (i j : Supply) (failure : Failure) : Type 0 where
+  pub usage : IsNoCommand words → failure ≡ failures.Usage
+  pub cause : IfCommand words (λ c. IsCause (meaning_of c).question i j failure)
 
 -- A failure of this status came with its cause, and was told.
-pub record TellsFailure {E : Type 0} (taken : E → List ℕ → Type 0) (accepts : E → ℕ → Type 0) (faults : E → ℕ) (m : Option Command) (i j : Supply) (old new : E) (status : Status) : Type 0 where
+pub record TellsFailure {E : Type 0} (taken : E → List ℕ → Type 0) (accepts : E → ℕ → Type 0) (faults : E → ℕ) (words : List (List ℕ)) (i j : Supply) (old new : E) (status : Status) : Type 0 where
   pub failure : Failure
   pub is_status : status ≡ status_of failure
-  pub cause : Fails m i j failure
+  pub cause : Fails words i j failure
   pub told : IsTold taken accepts faults old new (line failure)
 
 -- The statuses that fit what comes of the input, where input, output and memory may fail.
@@ -81,11 +83,11 @@ FitsOutcome o status = (status ≡ status_due o) ⊎ ((status ≡ statuses.Write
 
 -- The status fits the bytes of the input.
 abbrev pub FitsBytes : Meaning → List ℕ → Status → Type 0
-FitsBytes m bs status = (o : Outcome) → Gives m bs o → FitsOutcome o status
+FitsBytes m bs status = (o : Outcome) → Gives m.question bs o → FitsOutcome o status
 
 -- Where the input does not fail, and the output does not where a text is to be written, the status is the one that is due, want of memory aside.
 abbrev pub IsDecided : Meaning → List ℕ → Type 0 → Status → Type 0
-IsDecided m bs output_failed status = (o : Outcome) → Gives m bs o → (IsWriting o → ¬ output_failed) → (status ≡ status_due o) ⊎ (status ≡ statuses.NoMemory)
+IsDecided m bs output_failed status = (o : Outcome) → Gives m.question bs o → (IsWriting o → ¬ output_failed) → (status ≡ status_due o) ⊎ (status ≡ statuses.NoMemory)
 
 -- ---- the parts of a run
 
@@ -93,16 +95,23 @@ IsDecided m bs output_failed status = (o : Outcome) → Gives m bs o → (IsWrit
 abbrev pub Does : {O : Type 0} → (O → List ℕ → Type 0) → (O → ℕ → Type 0) → (O → ℕ) → Meaning → Supply → Supply → O → O → Result (Unit {0}) Failure → Type 0
 Does taken accepts faults m i j old new (Ok u) = WroteText taken accepts faults m i j old new
 Does taken accepts faults m i j old new (Err failures.WriteFault) = BrokeOff taken accepts faults m i j old new
-Does taken accepts faults m i j old new (Err f) = IsCause m i j f × (new ≡ old)
+Does taken accepts faults m i j old new (Err f) = IsCause m.question i j f × (new ≡ old)
 
 -- Why nothing is written for a file of which this is said; want of memory has no cause.
 abbrev pub IsFailureOf : Verdict → Failure → Type 0
 IsFailureOf verdict (failures.Refused r) = verdict ≡ breaks r
 IsFailureOf verdict (failures.DesignLimit n) = verdict ≡ exceeds n
+IsFailureOf verdict (failures.FlatLimit n) = verdict ≡ exceeds_flat n
 IsFailureOf verdict failures.NoMemory = ⊤
 IsFailureOf verdict f = ⊥
 
--- What is done for the command that the words have, if any.
+-- What is done for a command, if there is one.
 abbrev pub Performs : {S O : Type 0} → (O → List ℕ → Type 0) → (O → ℕ → Type 0) → (O → ℕ) → (S → Supply) → Option Command → S → S → O → O → Result (Unit {0}) Failure → Type 0
 Performs taken accepts faults supply None a b old new result = (result ≡ Err failures.Usage) × (b ≡ a) × (new ≡ old)
 Performs taken accepts faults supply (Some c) a b old new result = Does taken accepts faults (meaning_of c) (supply a) (supply b) old new result
+
+-- What is done for the command that the words ask for, if any.
+pub record DoesAsked {S O : Type 0} (taken : O → List ℕ → Type 0) (accepts : O → ℕ → Type 0) (faults : O → ℕ) (supply : S → Supply) (words : List (List ℕ)) (a b : S) (old new : O) (result : Result (Unit {0}) Failure) : Type 0 where
+  pub asked : Option Command
+  pub is_asked : IsAsked words asked
+  pub performed : Performs taken accepts faults supply asked a b old new result

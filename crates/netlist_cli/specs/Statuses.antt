@@ -29,6 +29,7 @@ status_of failures.Usage = statuses.Usage
 status_of failures.NoMemory = statuses.NoMemory
 status_of failures.InputLimit = statuses.Limit
 status_of (failures.DesignLimit n) = statuses.Limit
+status_of (failures.FlatLimit n) = statuses.Limit
 
 -- the failure that an error of a reader of whole texts is; such a reader is never spent
 abbrev pub failure_of : ReadError → Failure

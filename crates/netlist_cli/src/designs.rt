@@ -1,32 +1,34 @@
-// The designs of files, as the commands that ask for one get it.
-ghost use Rattle.std.specs.Prelude.{◌≤◌, MatchResult};
+// The design of an input, as the commands that ask for one get it.
+ghost use Rattle.std.specs.Prelude.{◌≤◌, IfOk, MatchResult, None, Some};
 ghost use Rattle.net_hier.specs.Valid.{count_limit};
 ghost use Rattle.edif_library.specs.Sizes.{edif_size};
-ghost use Rattle.edif_library.specs.declared.file.EdifFile.{EdifFile as EdifValue};
+ghost use Rattle.edif_plans.specs.Sound.{IsSoundDesign};
 ghost use Rattle.edif_resolve.specs.Answers.{IsDesignOf as IsEdifDesign};
+ghost use Rattle.readers.specs.Sources.{supply};
 ghost use Rattle.vlog_elab.specs.Answers.{IsDesignOf as IsVlogDesign};
 ghost use Rattle.vlog_values.specs.Sizes.{vlog_size};
 ghost use Rattle.vlog_values.specs.Values.{IsVlogValue};
-ghost use Rattle.vlog_values.specs.declared.module.VlogFile.{VlogFile as VlogValue};
-ghost use Rattle.netlist_cli.specs.Meanings.{edif_verdict, verilog_verdict};
-ghost use Rattle.netlist_cli.specs.Outcomes.{Verdict};
-ghost use Rattle.netlist_cli.specs.Runs.{IsFailureOf};
+ghost use Rattle.netlist_cli.specs.Designs.{IsDesignRead, IsNoDesign};
+ghost use Rattle.netlist_cli.specs.Meanings.{Judgement, edif_verdict, verilog_verdict};
+ghost use Rattle.netlist_cli.specs.Runs.{IsFailureOf, TakesFrom};
 
 use crate::failure::Failure;
 use edif_library::EdifFile;
 use edif_resolve::{ResolveError as EdifError, resolve};
+use edif_sizes::read_sized_edif;
 use net_hier::Hier;
 use nl_base::Text;
+use nl_io::Source;
 use std::alloc::Global;
 use vlog_elab::{ResolveError as VlogError, elaborate};
+use vlog_sound::read_sound_vlog;
 use vlog_values::VlogFile;
 
-/// The design of an EDIF file, or why it has none, whatever else is asked of it.
-pub fn design_of(alloc: Global, file: &EdifFile) -> Result<Hier, Failure>
+/// The design of an EDIF file, or why it has none, however designs are judged.
+fn design_of(alloc: Global, file: &EdifFile) -> Result<Hier, Failure>
     requires { edif_size file.now ≤ count_limit }
     ensures { MatchResult result (IsEdifDesign file.now)
-        (λ failure. (otherwise : EdifValue → Verdict)
-        → IsFailureOf (edif_verdict otherwise file.now) failure) }
+        (λ failure. (judge : Judgement) → IsFailureOf (edif_verdict judge file.now) failure) }
 {
     match resolve(alloc, file) {
         Ok(design) => Ok(design),
@@ -38,13 +40,13 @@ pub fn design_of(alloc: Global, file: &EdifFile) -> Result<Hier, Failure>
     }
 }
 
-/// The design of a Verilog file under the module of this name, or why it has none, whatever else is asked of it.
-pub fn design_under(alloc: Global, file: &VlogFile, top: &Text) -> Result<Hier, Failure>
+/// The design of a Verilog file under the module of this name, or why it has none, however designs are judged.
+fn design_under(alloc: Global, file: &VlogFile, top: &Text) -> Result<Hier, Failure>
     requires value { IsVlogValue file.now }
     requires small { vlog_size file.now ≤ count_limit }
     ensures { MatchResult result (IsVlogDesign file.now top.now)
-        (λ failure. (otherwise : VlogValue → Verdict)
-        → IsFailureOf (verilog_verdict top.now otherwise file.now) failure) }
+        (λ failure. (judge : Judgement)
+        → IsFailureOf (verilog_verdict top.now judge file.now) failure) }
 {
     match elaborate(alloc, file, top) {
         Ok(design) => Ok(design),
@@ -53,5 +55,66 @@ pub fn design_under(alloc: Global, file: &VlogFile, top: &Text) -> Result<Hier, 
             VlogError::TooBig(units) => Err(Failure::DesignLimit(units)),
             VlogError::NoMemory => Err(Failure::NoMemory),
         },
+    }
+}
+
+/// Reads an EDIF file and gets its design.
+pub fn read_edif_design<S: Source>(alloc: Global, input: &mut S) -> Result<Hier, Failure>
+    ensures reads { MatchResult result
+        (IsDesignRead None (supply S.left S.faults input.old) (supply S.left S.faults input.new))
+        (IsNoDesign None (supply S.left S.faults input.old) (supply S.left S.faults input.new)) }
+    ensures taken { TakesFrom
+        (supply S.left S.faults input.old) (supply S.left S.faults input.new) }
+{
+    match read_sized_edif(alloc, input) {
+        Ok(file) => {
+            let found = design_of(alloc, &file);
+            found
+        }
+        Err(error) => Err(Failure::of_read_error(error)),
+    }
+}
+
+/// Reads a Verilog file and gets its design under the module of this name.
+pub fn read_design_under<S: Source>(
+    alloc: Global,
+    top: &Text,
+    input: &mut S,
+) -> Result<Hier, Failure>
+    ensures reads { MatchResult result
+        (IsDesignRead (Some top.now)
+        (supply S.left S.faults input.old) (supply S.left S.faults input.new))
+        (IsNoDesign (Some top.now)
+        (supply S.left S.faults input.old) (supply S.left S.faults input.new)) }
+    ensures sound { IfOk result IsSoundDesign }
+    ensures taken { TakesFrom
+        (supply S.left S.faults input.old) (supply S.left S.faults input.new) }
+{
+    match read_sound_vlog(alloc, input) {
+        Ok(file) => {
+            let found = design_under(alloc, &file, top);
+            found
+        }
+        Err(error) => Err(Failure::of_read_error(error)),
+    }
+}
+
+/// Reads a file and gets its design: an EDIF file, or a Verilog file under the module of this name.
+pub fn read_design<S: Source>(
+    alloc: Global,
+    top: &Option<Text>,
+    input: &mut S,
+) -> Result<Hier, Failure>
+    ensures reads { MatchResult result
+        (IsDesignRead top.now
+        (supply S.left S.faults input.old) (supply S.left S.faults input.new))
+        (IsNoDesign top.now
+        (supply S.left S.faults input.old) (supply S.left S.faults input.new)) }
+    ensures taken { TakesFrom
+        (supply S.left S.faults input.old) (supply S.left S.faults input.new) }
+{
+    match top {
+        None => read_edif_design(alloc, input),
+        Some(top) => read_design_under(alloc, top, input),
     }
 }

@@ -25,6 +25,8 @@ pub enum Failure {
     InputLimit,
     /// The design has this many units, which are more than a design may have.
     DesignLimit(u64),
+    /// The design has this flat count, which is more than the tools on the flat design take.
+    FlatLimit(u64),
 }
 
 impl Failure {
@@ -55,6 +57,7 @@ impl Failure {
             Failure::NoMemory => Status::NoMemory,
             Failure::InputLimit => Status::Limit,
             Failure::DesignLimit(_) => Status::Limit,
+            Failure::FlatLimit(_) => Status::Limit,
         }
     }
 }

@@ -1,5 +1,5 @@
 ghost use Rattle.readers.specs.Sources.{supply};
-ghost use Rattle.netlist_cli.specs.declared.command.Command.TheVariants as commands;
+ghost use Rattle.netlist_words.specs.declared.command.Command.TheVariants as commands;
 ghost use Rattle.netlist_cli.specs.Meanings.{meaning_of};
 ghost use Rattle.netlist_cli.specs.Runs.{Does, TakesFrom};
 

@@ -1,6 +1,6 @@
 ghost use Rattle.std.specs.Prelude.{◌≡◌, ◌++◌};
 ghost use Rattle.nl_output.specs.Writing.{state, Puts, Writes};
-ghost use Rattle.netlist_cli.specs.Lines.{fault_then, line, message_then, names_then, reason_then, refusal_then, units_then, word_then};
+ghost use Rattle.netlist_cli.specs.Lines.{fault_then, limit_then, line, message_then, names_then, reason_then, refusal_then, word_then};
 ghost use Rattle.netlist_cli.specs.Runs.{IsTold};
 ghost use Rattle.netlist_cli.specs.Statuses.{status_of};
 
@@ -69,15 +69,17 @@ fn put_refusal<E: Sink>(refusal: &Refusal, output: &mut Output, errors: &mut E)
     put_names(refusal.names.items(), output, errors);
 }
 
-/// Puts the limit of a design and its units.
-#[tactic(auto, unfolding(crate::specs::Lines::units_then))]
-fn put_units<E: Sink>(units: u64, output: &mut Output, errors: &mut E)
-    ensures { Puts (units_then units)
+/// Puts a limit of this kind, and the number that passes it.
+#[tactic(auto, unfolding(crate::specs::Lines::limit_then))]
+fn put_limit<E: Sink>(kind: &[u8], number: u64, output: &mut Output, errors: &mut E)
+    ensures { Puts (limit_then kind.now number)
         (state E.taken E.accepts E.faults errors.old output.old)
         (state E.taken E.accepts E.faults errors.new output.new) }
 {
-    output.put(b"limit design ", errors);
-    output.put_u64(units, errors);
+    output.put(b"limit ", errors);
+    output.put(kind, errors);
+    output.put(b" ", errors);
+    output.put_u64(number, errors);
 }
 
 /// Puts what is told of a failure.
@@ -94,7 +96,8 @@ fn put_message<E: Sink>(failure: &Failure, output: &mut Output, errors: &mut E)
         Failure::Usage => output.put(USAGE, errors),
         Failure::NoMemory => output.put(b"no memory", errors),
         Failure::InputLimit => output.put(b"limit input", errors),
-        Failure::DesignLimit(units) => put_units(*units, output, errors),
+        Failure::DesignLimit(units) => put_limit(b"design", *units, output, errors),
+        Failure::FlatLimit(count) => put_limit(b"flat", *count, output, errors),
     }
 }
 

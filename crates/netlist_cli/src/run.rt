@@ -1,17 +1,20 @@
 ghost use Rattle.std.specs.Prelude.{◌≡◌, ◌≢◌, ◌↔◌, Ok, Err, Some, None, IfSome};
 ghost use Rattle.nl_io.specs.Causes.{Rose};
 ghost use Rattle.readers.specs.Sources.{supply};
-ghost use Rattle.netlist_cli.specs.Commands.{command};
+ghost use Rattle.netlist_words.specs.Commands.{IfCommand, IsNoCommand};
 ghost use Rattle.netlist_cli.specs.Meanings.{meaning_of};
-ghost use Rattle.netlist_cli.specs.Runs.{BrokeOff, Does, FitsBytes, IsDecided, Performs, TakesFrom, TellsFailure, WroteText};
+ghost use Rattle.netlist_cli.specs.Runs.{BrokeOff, Does, DoesAsked, FitsBytes, IsDecided, Performs, TakesFrom, TellsFailure, WroteText};
 
-use crate::checking::{check, check_top};
-use crate::command::Command;
+use crate::checking::check;
 use crate::failure::Failure;
 use crate::formatting::{format, vformat};
 use crate::line::report;
+use crate::linting::write_findings;
+use crate::reporting::write_report;
+use crate::retranslating::translate_back;
 use crate::status::Status;
 use crate::translating::translate;
+use netlist_words::Command;
 use nl_base::{Seq, Text};
 use nl_io::{Sink, Source};
 use std::alloc::Global;
@@ -32,9 +35,32 @@ fn carry_out<S: Source, O: Sink>(
     match command {
         Command::Format => format(alloc, input, output),
         Command::Vformat => vformat(alloc, input, output),
-        Command::Check => check(alloc, input, output),
-        Command::CheckTop(top) => check_top(alloc, top, input, output),
+        Command::Check(top) => check(alloc, top, input, output),
+        Command::Report(top, constants) => write_report(alloc, top, constants, input, output),
+        Command::Lint(top, constants) => write_findings(alloc, top, constants, input, output),
         Command::ToVerilog(names) => translate(alloc, names, input, output),
+        Command::ToEdif(top, constants) => translate_back(alloc, top, constants, input, output),
+    }
+}
+
+/// Carries out the command that is asked for, if there is one.
+fn carry_out_asked<S: Source, O: Sink>(
+    alloc: Global,
+    asked: &Option<Command>,
+    input: &mut S,
+    output: &mut O,
+) -> Result<(), Failure>
+    ensures performs { Performs O.taken O.accepts O.faults (supply S.left S.faults)
+        asked.now input.old input.new output.old output.new result }
+    ensures taken { TakesFrom
+        (supply S.left S.faults input.old) (supply S.left S.faults input.new) }
+{
+    match asked {
+        Some(command) => {
+            let result = carry_out(alloc, command, input, output);
+            result
+        }
+        None => Err(Failure::Usage),
     }
 }
 
@@ -45,25 +71,21 @@ fn perform<S: Source, O: Sink>(
     input: &mut S,
     output: &mut O,
 ) -> Result<(), Failure>
-    ensures performs { Performs O.taken O.accepts O.faults (supply S.left S.faults)
-        (command words.now) input.old input.new output.old output.new result }
+    ensures performs { DoesAsked O.taken O.accepts O.faults (supply S.left S.faults)
+        words.now input.old input.new output.old output.new result }
     ensures taken { TakesFrom
         (supply S.left S.faults input.old) (supply S.left S.faults input.new) }
 {
-    let asked = match Command::of(alloc, words) {
-        Ok(asked) => asked,
-        Err(_) => return Err(Failure::NoMemory),
-    };
-    match asked {
-        Some(command) => {
-            let result = carry_out(alloc, &command, input, output);
+    match Command::of(alloc, words) {
+        Ok(asked) => {
+            let result = carry_out_asked(alloc, &asked, input, output);
             result
         }
-        None => Err(Failure::Usage),
+        Err(_) => Err(Failure::NoMemory),
     }
 }
 
-/// Does all that the program does: the command that the words have is carried out from the input to the output, and a failure is told by
+/// Does all that the program does: the command for which the words ask is carried out from the input to the output, and a failure is told by
 /// one line on `errors`. Memory may run out at any time before the first byte is put.
 pub fn run<S: Source, O: Sink, E: Sink>(
     alloc: Global,
@@ -73,28 +95,28 @@ pub fn run<S: Source, O: Sink, E: Sink>(
     errors: &mut E,
 ) -> Status
     ensures done { result ≡ Status.Done
-        → IfSome (command words.now) (λ c. WroteText O.taken O.accepts O.faults (meaning_of c)
+        → IfCommand words.now (λ c. WroteText O.taken O.accepts O.faults (meaning_of c)
         (supply S.left S.faults input.old) (supply S.left S.faults input.new)
         output.old output.new) }
     ensures write_fault { result ≡ Status.WriteFault
-        → IfSome (command words.now) (λ c. BrokeOff O.taken O.accepts O.faults (meaning_of c)
+        → IfCommand words.now (λ c. BrokeOff O.taken O.accepts O.faults (meaning_of c)
         (supply S.left S.faults input.old) (supply S.left S.faults input.new)
         output.old output.new) }
     ensures failed { result ≢ Status.Done
-        → TellsFailure E.taken E.accepts E.faults (command words.now)
+        → TellsFailure E.taken E.accepts E.faults words.now
         (supply S.left S.faults input.old) (supply S.left S.faults input.new)
         errors.old errors.new result }
-    ensures usage { (result ≡ Status.Usage) ↔ (command words.now ≡ None) }
+    ensures usage { (result ≡ Status.Usage) ↔ IsNoCommand words.now }
     ensures taken { TakesFrom
         (supply S.left S.faults input.old) (supply S.left S.faults input.new) }
     ensures unread { result ≡ Status.Usage → input.new ≡ input.old }
     ensures unwritten { result ≢ Status.Done → result ≢ Status.WriteFault
         → output.new ≡ output.old }
     ensures silent { result ≡ Status.Done → errors.new ≡ errors.old }
-    ensures exact { IfSome (command words.now) (λ c. IfSome (S.left input.old)
+    ensures exact { IfCommand words.now (λ c. IfSome (S.left input.old)
         (λ bs. FitsBytes (meaning_of c) bs result)) }
     ensures complete { ¬ Rose (S.faults input.old) (S.faults input.new)
-        → IfSome (command words.now) (λ c. IfSome (S.left input.old)
+        → IfCommand words.now (λ c. IfSome (S.left input.old)
         (λ bs. IsDecided (meaning_of c) bs
         (Rose (O.faults output.old) (O.faults output.new)) result)) }
 {

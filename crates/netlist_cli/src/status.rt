@@ -18,7 +18,7 @@ pub enum Status {
     Usage,
     /// Memory ran out.
     NoMemory,
-    /// The input is longer than is read, or the design larger than is kept.
+    /// The input is longer than is read, or the design larger than is kept or than the command takes.
     Limit,
 }
 

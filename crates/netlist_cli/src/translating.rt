@@ -1,23 +1,19 @@
-ghost use Rattle.std.specs.Prelude.{◌≡◌, ◌≤◌, IfOk, MatchResult};
-ghost use Rattle.edif_library.specs.Sizes.{edif_size};
-ghost use Rattle.net_hier.specs.Valid.{count_limit};
+ghost use Rattle.std.specs.Prelude.{◌≡◌, IfOk, MatchResult};
 ghost use Rattle.readers.specs.Sources.{supply};
-ghost use Rattle.netlist_cli.specs.declared.command.Command.TheVariants as commands;
-ghost use Rattle.netlist_cli.specs.Meanings.{edif_verdict, meaning_of, params_of, target_verdict};
+ghost use Rattle.netlist_words.specs.declared.command.Command.TheVariants as commands;
+ghost use Rattle.netlist_cli.specs.Designs.{AreModulesFor, MakesOf};
+ghost use Rattle.netlist_cli.specs.Meanings.{IsVerilogOf, meaning_of, params_of, target_rules};
 ghost use Rattle.netlist_cli.specs.Runs.{Does, IsFailureOf, TakesFrom};
-ghost use Rattle.netlist_cli.specs.Translations.{IsMadeFor, IsMadeOf, said_of_design};
 
-use crate::designs::design_of;
+use crate::designs::read_edif_design;
 use crate::failure::{Failure, after_writing};
-use edif_library::EdifFile;
-use edif_sizes::read_sized_edif;
 use net_bits::Names;
 use net_hier::Hier;
+use net_values::sound::values_fit;
 use nl_base::{NoMemory, Seq, Text};
 use nl_io::{Sink, Source};
 use std::alloc::Global;
 use to_verilog::{TargetError, to_verilog};
-use vlog_sound::is_vlog_value;
 use vlog_values::VlogFile;
 use vlog_writer::write_vlog;
 
@@ -37,19 +33,18 @@ fn params_of(alloc: Global, names: &Seq<Text>) -> Result<Names, NoMemory>
 /// The modules of a design, or why there are none.
 ///
 /// # Errors
-/// The first object of the lowest rule of the target that the design breaks. Want of memory is also answered where the modules could not be
-/// written; that no design of a text gives such modules is not proved yet.
+/// The first object of the lowest rule of the target that the design breaks. Want of memory is also answered where the values of the design are
+/// not within their limits, which is asked for sources that do not tell their bytes: no design is such whose file bytes below 256 read as
+/// (`designs_are_sound` of the crate `edif_design_laws`).
 fn modules_of(alloc: Global, hier: &Hier, params: &Names) -> Result<VlogFile, Failure>
-    ensures { MatchResult result (IsMadeFor hier.now params.now)
-        (IsFailureOf (said_of_design hier.now params.now)) }
+    ensures { MatchResult result (AreModulesFor hier.now params.now) (IsFailureOf
+        (target_rules params.now hier.now.cells hier.now.top hier.now.props)) }
 {
+    if !values_fit(hier) {
+        return Err(Failure::NoMemory);
+    }
     match to_verilog(alloc, hier, params) {
-        Ok(modules) => {
-            if !is_vlog_value(&modules) {
-                return Err(Failure::NoMemory);
-            }
-            Ok(modules)
-        }
+        Ok(modules) => Ok(modules),
         Err(error) => match error {
             TargetError::Refused(refusal) => Err(Failure::Refused(refusal)),
             TargetError::NoMemory => Err(Failure::NoMemory),
@@ -59,8 +54,8 @@ fn modules_of(alloc: Global, hier: &Hier, params: &Names) -> Result<VlogFile, Fa
 
 /// The same, where these are the names of parameters.
 fn modules_under(alloc: Global, hier: &Hier, names: &Seq<Text>) -> Result<VlogFile, Failure>
-    ensures { MatchResult result (IsMadeFor hier.now (params_of names.now))
-        (IsFailureOf (said_of_design hier.now (params_of names.now))) }
+    ensures { MatchResult result (AreModulesFor hier.now (params_of names.now)) (IsFailureOf
+        (target_rules (params_of names.now) hier.now.cells hier.now.top hier.now.props)) }
 {
     match params_of(alloc, names) {
         Ok(params) => {
@@ -71,16 +66,20 @@ fn modules_under(alloc: Global, hier: &Hier, names: &Seq<Text>) -> Result<VlogFi
     }
 }
 
-/// The modules of a file, or why there are none.
-fn translated(alloc: Global, file: &EdifFile, names: &Seq<Text>) -> Result<VlogFile, Failure>
-    requires { edif_size file.now ≤ count_limit }
-    ensures { MatchResult result (IsMadeOf file.now names.now)
-        (IsFailureOf (edif_verdict (target_verdict names.now) file.now)) }
+/// Writes a design in Verilog. Properties of instances with one of these names are written as parameters.
+fn put_verilog<O: Sink>(
+    alloc: Global,
+    hier: &Hier,
+    names: &Seq<Text>,
+    output: &mut O,
+) -> Result<(), Failure>
+    ensures { MakesOf O.taken O.accepts O.faults (target_rules (params_of names.now)) IsVerilogOf
+        hier.now output.old output.new result }
 {
-    match design_of(alloc, file) {
-        Ok(design) => {
-            let made = modules_under(alloc, &design, names);
-            made
+    match modules_under(alloc, hier, names) {
+        Ok(modules) => {
+            let written = write_vlog(&modules, output);
+            after_writing(written)
         }
         Err(failure) => Err(failure),
     }
@@ -90,7 +89,7 @@ fn translated(alloc: Global, file: &EdifFile, names: &Seq<Text>) -> Result<VlogF
 ///
 /// # Errors
 /// Those of reading; the first object of the lowest rule of EDIF, or else of Verilog as a target, that is broken; a design of too many units;
-/// and a put that failed. Want of memory is also answered where the modules could not be written (`modules_of`).
+/// and a put that failed. Want of memory is also answered as `modules_of` says.
 pub fn translate<S: Source, O: Sink>(
     alloc: Global,
     names: &Seq<Text>,
@@ -103,14 +102,11 @@ pub fn translate<S: Source, O: Sink>(
     ensures taken { TakesFrom
         (supply S.left S.faults input.old) (supply S.left S.faults input.new) }
 {
-    match read_sized_edif(alloc, input) {
-        Ok(file) => match translated(alloc, &file, names) {
-            Ok(modules) => {
-                let written = write_vlog(&modules, output);
-                after_writing(written)
-            }
-            Err(failure) => Err(failure),
-        },
-        Err(error) => Err(Failure::of_read_error(error)),
+    match read_edif_design(alloc, input) {
+        Ok(design) => {
+            let done = put_verilog(alloc, &design, names, output);
+            done
+        }
+        Err(failure) => Err(failure),
     }
 }

@@ -1,14 +1,14 @@
 -- The module of a cell can be written, where the names of the design can be and its values are within the limits.
-use Rattle.std.proofs.Common.{◌≡◌, ℕ, zero, suc, ◌+◌, ◌<◌, ◌≤◌, Bool, true, false, ◌==◌, cond, nat_lt, if◌then◌else◌, List, [], ◌∷◌, ◌++◌, Option, Some, None, IfSome, flat_map, map, length, slice_get, slice_index_or, option_map, option_to_list, refl, sym, ◌∙◌, ap, subst, arith, Contains}
+use Rattle.std.proofs.Common.{◌≡◌, ℕ, zero, suc, ◌+◌, ◌<◌, ◌≤◌, Bool, true, false, ◌==◌, cond, nat_lt, if◌then◌else◌, List, [], ◌∷◌, ◌++◌, Option, Some, None, IfSome, map, slice_get, slice_index_or, option_map, option_to_list, refl, sym, ◌∙◌, ap, subst, arith, Contains}
 use Rattle.std.specs.List.{AllByRecursion, enumerate_from, range_with_len}
 use Rattle.std.specs.Option.{option_and_then, option_map_or}
 use Rattle.std.proofs.lemmas.Bool.Decides.{nat_tests}
 use Rattle.net_bits.specs.Classes.{members_of}
 use Rattle.net_bits.specs.Names.{NameSet}
-use Rattle.net_hier.specs.Cells.{constant_node, width_of}
+use Rattle.net_hier.specs.Cells.{width_of}
 use Rattle.net_hier.specs.Design.{Design, IsCell}
 use Rattle.net_hier.specs.Facts.{cell_props}
-use Rattle.net_hier.specs.Valid.{IsGoodCell, IsValid}
+use Rattle.net_hier.specs.Valid.{IsValid}
 use Rattle.net_hier.specs.declared.cells.HCell.{HCell}
 use Rattle.net_hier.specs.declared.cells.HInst.{HInst}
 use Rattle.net_hier.specs.declared.cells.HNet.{HNet}
@@ -22,7 +22,7 @@ use Rattle.vlog_design.specs.Names.{Name}
 use Rattle.vlog_design_laws.proofs.Lists.{all_append, all_flat, all_map}
 use Rattle.vlog_partners.specs.Partners.{IsPinOf, each_hub, no_hub, one_hub}
 use Rattle.vlog_plain.specs.Plain.{IsNodeExpr, of_constant, of_port, of_wire}
-use Rattle.vlog_values.specs.Values.{AreAttrs, IsAssignment, IsExpr, IsExprWithin, IsModule, IsName, IsNamedConn, is_left}
+use Rattle.vlog_values.specs.Values.{AreAttrs, IsAssignment, IsExpr, IsExprWithin, IsName, IsNamedConn, is_left}
 use Rattle.vlog_values.specs.declared.expression.Expr.{Expr}
 use Rattle.vlog_values.specs.declared.expression.Expr.TheVariants.{Lit, Ref}
 use Rattle.vlog_values.specs.declared.expression.Select.TheVariants.{All}
@@ -32,19 +32,19 @@ use Rattle.vlog_written.specs.Written.{PlainModule, PlainWire, bit_literal, sele
 use Rattle.to_verilog_props.specs.Written.{attrs_of}
 use Rattle.to_verilog_rules.specs.Rules.{is_name}
 use Rattle.to_verilog_wires.specs.IsWiring.{IsWiring}
-use Rattle.to_verilog_wires.specs.Roots.{of_live}
+use Rattle.to_verilog_classes.specs.Roots.{of_live}
 use Rattle.to_verilog_wires.specs.Wiring.{WiringTable, hub_node_of, hub_of}
 use Rattle.to_verilog_wires.specs.declared.hubs.Hub.{Hub}
 use Rattle.to_verilog_wires.specs.declared.hubs.Hub.TheVariants as hubs
 use Rattle.to_verilog_cells.specs.Assigns.{assign_of, assigned, assigns_among, assigns_of, constant_assign, feeds, is_port, member_assign, port_assign}
 use Rattle.to_verilog_cells.specs.Exprs.{bit_of, hub_expr, port_expr}
-use Rattle.to_verilog_cells.specs.Instances.{below_name, below_ports, conn_of, connected, conns_of, instance_of}
-use Rattle.to_verilog_cells.specs.Modules.{IsModuleOf, IsWritable, plain_of, plain_port}
+use Rattle.to_verilog_cells.specs.Instances.{below_ports, conn_of, connected, instance_of}
+use Rattle.to_verilog_cells.specs.Modules.{IsWritable, plain_of, plain_port}
 use Rattle.to_verilog_cells.proofs.Listed.{mapped_at, there_at, there_below}
 use Rattle.to_verilog_cells.proofs.Partner.{pin_of}
 use Rattle.to_verilog_values.specs.Kept.{HaveGoodNames, IsNamedCell, IsNamedObject}
 use Rattle.to_verilog_values.specs.Writable.{IsGoodInstance, IsGoodModule, IsGoodPort, IsGoodWire}
-use Rattle.to_verilog_values.proofs.Plain.{cat_is, constant_is, module_is, port_is, port_is_left, wire_is, wire_is_left}
+use Rattle.to_verilog_values.proofs.Plain.{cat_is, constant_is, port_is, port_is_left, wire_is, wire_is_left}
 use Rattle.to_verilog_values.proofs.Written.{attributes_are, given_are, name_is, parameters_are}
 
 -- ---- lists

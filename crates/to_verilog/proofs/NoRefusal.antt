@@ -1,5 +1,5 @@
 -- What a design without a refusal has: cells with names of their own, whose modules can be written.
-use Rattle.std.proofs.Common.{◌≡◌, ℕ, ◌⊎◌, inl, inr, bytes_eq, List, [], ◌∷◌, None, map, refl, subst, Contains}
+use Rattle.std.proofs.Common.{◌≡◌, ℕ, inl, inr, bytes_eq, List, [], ◌∷◌, None, map, refl, subst, Contains}
 use Rattle.std.specs.List.{AllByRecursion}
 use Rattle.nl_base.specs.declared.rule.Rule.TheVariants.{V2}
 use Rattle.net_bits.specs.Names.{NameSet, has_name}

@@ -1,7 +1,7 @@
 -- Steps of loops over ranges, over lists, and over lists with their numbers.
 use Rattle.std.proofs.Common.{◌≡◌, ℕ, suc, ◌+◌, ◌<◌, ◌≤◌, List, [], ◌∷◌, ◌++◌, drop, flat_map, get_or, length, map, refl, sym, ◌∙◌, ap, arith, add-one, append-nil, append_assoc, drop-cons}
 use Rattle.std.specs.List.{enumerate_from, range_with_len}
-use Rattle.to_verilog_wires.proofs.GroupLaws.{map_both, range_more}
+use Rattle.to_verilog_classes.proofs.GroupLaws.{map_both, range_more}
 use Rattle.vlog_design.proofs.Steps.{flat_map_left, moved}
 
 flat_more : {A : Type 0} (part : ℕ → List A) (xs : List ℕ) (x : ℕ) → flat_map part (xs ++ x ∷ []) ≡ flat_map part xs ++ part x

@@ -42,10 +42,10 @@ use Rattle.vlog_values.specs.declared.declaration.ParamSet.{ParamSet}
 use Rattle.vlog_written.specs.Hubs.{IsOuter}
 use Rattle.vlog_written.specs.OwnNames.{AreDistinct, instances_named, ports_named, wires_named}
 use Rattle.vlog_written.specs.Written.{PlainInstance, PlainModule, PlainPort, PlainWire}
-use Rattle.to_verilog_wires.specs.Groups.{GroupTable, if_live, live_class}
+use Rattle.to_verilog_classes.specs.Groups.{GroupTable, if_live, live_class}
 use Rattle.to_verilog_wires.specs.Hubs.{hub_node}
 use Rattle.to_verilog_wires.specs.IsWiring.{IsWiring, wire_net}
-use Rattle.to_verilog_wires.specs.Roots.{of_live, pin_port}
+use Rattle.to_verilog_classes.specs.Roots.{of_live, pin_port}
 use Rattle.to_verilog_wires.specs.Wiring.{WiringTable, hub_node_of, hub_of, is_written}
 use Rattle.to_verilog_wires.specs.declared.hubs.Hub.{Hub}
 use Rattle.to_verilog_cells.specs.Assigns.{assign_of, assigns_among, assigns_of, member_assign}
@@ -241,28 +241,38 @@ module _ (design : Design) (params : NameSet) (number : ℕ) (cell : HCell) (val
     abbrev pub value : Option Expr
     value = connected cell.ports wiring place port width
 
+    -- a port of one bit
+    one_bit : width ≡ 1 → (o : Option Hub) → hub_of wiring (Pin place port 0) ≡ o → value ≡ pin_expr cell.ports wiring (Pin place port 0) → IsPinOf p (hub_node_of wiring) place port width value
+    one_bit one None f e =
+        no_hub (λ bit h. let z : 0 ≡ bit = omega (arith, one, h) in subst (λ b. hub_node_of wiring (Pin place port b) ≡ None) z (ap (option_map hub_node) f))
+        (e ∙ ap (option_and_then (hub_expr cell.ports wiring.names)) f)
+    one_bit one (Some hub) f e =
+        let found = pin_found place port 0 (a_bit 0 (omega (arith, one))) hub f in
+        one_hub (hub_node hub) found.expr (ap (option_map hub_node) f) found.of_node one (e ∙ found.is_found)
+
     pub pin_of : IsPinOf p (hub_node_of wiring) place port width value
-    pin_of = by (is_written wiring (Pin place port 0)) refl (width == 1) refl
+    unfolding a_bit pin_is
+    pin_of = by (width == 1) refl (is_written wiring (Pin place port 0)) refl
       where
         chosen : (b c : Bool) → Option Expr
-        chosen b c = if b then (if c then pin_expr cell.ports wiring (Pin place port 0) else Some (Cat (pin_exprs cell.ports wiring place port (range_with_len 0 width)))) else None
+        chosen b c = if b then pin_expr cell.ports wiring (Pin place port 0) else if c then Some (Cat (pin_exprs cell.ports wiring place port (range_with_len 0 width))) else None
 
-        by : (b : Bool) → is_written wiring (Pin place port 0) ≡ b → (c : Bool) → (width == 1) ≡ c → IsPinOf p (hub_node_of wiring) place port width value
-        by false e c f = no_hub (λ bit h. w.written.none place port bit (a_bit bit h) e) (ap (λ b. chosen b (width == 1)) e)
-        by true e true f =
-            let one : width ≡ 1 = grind (arith, nat_tests, f) in
-            let first = all_pins e 0 (omega (arith, one)) in
-            let node = of_pin 0 first.0 (omega (arith, one)) first.1 in
-            one_hub node.0 first.0 node.1 node.2 one (ap (λ b. chosen b (width == 1)) e ∙ (ap (chosen true) f ∙ first.1))
-        by true e false f =
-            let all : (k : ℕ) → 0 ≤ k → k < 0 + width → (expr : Expr) × (pin_expr cell.ports wiring (Pin place port k) ≡ Some expr) = λ k low high. all_pins e k (omega (arith, high)) in
+        by : (b : Bool) → (width == 1) ≡ b → (c : Bool) → is_written wiring (Pin place port 0) ≡ c → IsPinOf p (hub_node_of wiring) place port width value
+        by true e c f =
+            let one : width ≡ 1 = grind (arith, nat_tests, e) in
+            one_bit one (hub_of wiring (Pin place port 0)) refl (ap (λ b. chosen b (is_written wiring (Pin place port 0))) e)
+        by false e false f =
+            let several : 1 < width = grind (arith, nat_tests, e, one_or_more) in
+            no_hub (λ bit h. w.written.none place port bit (a_bit bit h) several f) (ap (λ b. chosen b (is_written wiring (Pin place port 0))) e ∙ ap (chosen false) f)
+        by false e true f =
+            let all : (k : ℕ) → 0 ≤ k → k < 0 + width → (expr : Expr) × (pin_expr cell.ports wiring (Pin place port k) ≡ Some expr) = λ k low high. all_pins f k (omega (arith, high)) in
             each_hub (pin_exprs cell.ports wiring place port (range_with_len 0 width))
             (λ k expr g.
             let r = given_at (λ bit. pin_expr cell.ports wiring (Pin place port bit)) width 0 all k expr g in
             let z : 0 + k ≡ k = omega arith in
             of_pin k expr r.1 (subst (λ m. pin_expr cell.ports wiring (Pin place port m) ≡ Some expr) z r.0))
             (all_given (λ bit. pin_expr cell.ports wiring (Pin place port bit)) width 0 all)
-            (ap (λ b. chosen b (width == 1)) e ∙ ap (chosen true) f)
+            (ap (λ b. chosen b (is_written wiring (Pin place port 0))) e ∙ ap (chosen false) f)
 
   -- an instance, as it is written
   made_instance : (place : ℕ) (instance : HInst) → slice_get cell.instances place ≡ Some instance → IsInstanceFor design.cells (hub_node_of wiring) p place instance (instance_of design.cells cell.ports wiring params (place, instance))

@@ -9,7 +9,7 @@ use Rattle.vlog_values.specs.declared.expression.Expr.TheVariants.{Lit}
 use Rattle.vlog_values.specs.declared.statement.Assignment.{Assignment}
 use Rattle.vlog_written.specs.Written.{bit_literal}
 use Rattle.to_verilog_wires.specs.Hubs.{is_in}
-use Rattle.to_verilog_wires.specs.Roots.{each_live}
+use Rattle.to_verilog_classes.specs.Roots.{each_live}
 use Rattle.to_verilog_wires.specs.Wiring.{WiringTable, hub_of}
 use Rattle.to_verilog_wires.specs.declared.hubs.Hub.{Hub}
 use Rattle.to_verilog_wires.specs.declared.hubs.Hub.TheVariants as hubs

@@ -26,10 +26,12 @@ pin_expr ports wiring pin = option_and_then (hub_expr ports wiring.names) (hub_o
 abbrev pub pin_exprs : List HPort → WiringTable → ℕ → ℕ → List ℕ → List Expr
 pin_exprs ports wiring instance port bits = flat_map (λ bit. option_to_list (pin_expr ports wiring (Pin instance port bit))) bits
 
--- what a port of so many bits is connected to: nothing where no bit of it is written, one expression where it has one bit, else the concatenation of its bits
+-- what a port of so many bits is connected to: what stands for its bit where it has one, else the concatenation of its bits where one of them is written
 abbrev pub connected : List HPort → WiringTable → ℕ → ℕ → ℕ → Option Expr
 connected ports wiring instance port width =
-    if is_written wiring (Pin instance port 0) then (if width == 1 then pin_expr ports wiring (Pin instance port 0) else Some (Cat (pin_exprs ports wiring instance port (range_with_len 0 width)))) else None
+    if width == 1 then pin_expr ports wiring (Pin instance port 0)
+    else if is_written wiring (Pin instance port 0) then Some (Cat (pin_exprs ports wiring instance port (range_with_len 0 width)))
+    else None
 
 -- the connection of the port of this number
 abbrev pub conn_of : List HPort → WiringTable → ℕ → (ℕ × HPort) → NamedConn

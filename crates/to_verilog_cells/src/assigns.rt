@@ -1,6 +1,6 @@
 // The assigns of classes.
 ghost use Rattle.std.specs.Prelude.{◌≡◌, ◌++◌, ◌<◌, Some, map, option_to_list, IfOk, OnOk};
-ghost use Rattle.to_verilog_wires.specs.Roots.{of_live};
+ghost use Rattle.to_verilog_classes.specs.Roots.{of_live};
 ghost use Rattle.vlog_values.specs.declared.statement.Assignment.{Assignment as AssignmentValue};
 ghost use Rattle.vlog_written.specs.Written.{assign_item};
 ghost use Rattle.to_verilog_cells.specs.Assigns.{assign_of, assigned, assigns_among, assigns_of, constant_assign, feeds, is_input, is_port, member_assign, port_assign};
@@ -119,7 +119,7 @@ fn member_assign(
 }
 
 /// The assign of a node with a hub.
-fn assign_of(
+fn hub_assign(
     alloc: Global,
     ports: &[HPort],
     wiring: &Wiring,
@@ -133,6 +133,22 @@ fn assign_of(
             let made = member_assign(alloc, ports, wiring.names(), hub, *node)?;
             Ok(made)
         }
+    }
+}
+
+/// The same, where no hub is asked for of a pin bit or a net, which has no assign.
+fn assign_of(
+    alloc: Global,
+    ports: &[HPort],
+    wiring: &Wiring,
+    node: &Node,
+) -> Result<Option<Assignment>, NoMemory>
+    ensures { IfOk result (λ made. made ≡ assign_of ports.now wiring.now node.now) }
+{
+    match node {
+        Node::Pin { .. } => Ok(None),
+        Node::Net(_) => Ok(None),
+        _ => hub_assign(alloc, ports, wiring, node),
     }
 }
 

@@ -7,8 +7,8 @@ use crate::exprs::hub_expr;
 use net_hier::{HPort, Node};
 use nl_base::{NoMemory, Seq, Text};
 use std::alloc::Global;
+use to_verilog_classes::roots::width_of;
 use to_verilog_wires::Wiring;
-use to_verilog_wires::roots::width_of;
 use vlog_values::{Expr, NamedConn};
 
 /// What stands for a pin bit.
@@ -74,8 +74,8 @@ fn pin_exprs(
     Ok(exprs)
 }
 
-/// What a port of so many bits is connected to: nothing where no bit of it is written, one expression where it has one bit, else the
-/// concatenation of its bits.
+/// What a port of so many bits is connected to: what stands for its bit where it has one, else the concatenation of its bits where one of
+/// them is written.
 fn connected(
     alloc: Global,
     ports: &[HPort],
@@ -91,12 +91,12 @@ fn connected(
         port,
         bit: 0,
     };
-    if !wiring.is_written(&first) {
-        return Ok(None);
-    }
     if width == 1 {
         let expr = pin_expr(alloc, ports, wiring, &first)?;
         return Ok(expr);
+    }
+    if !wiring.is_written(&first) {
+        return Ok(None);
     }
     let exprs = pin_exprs(alloc, ports, wiring, instance, port, width)?;
     Ok(Some(Expr::Cat(exprs)))

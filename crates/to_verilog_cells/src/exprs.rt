@@ -9,9 +9,9 @@ ghost use Rattle.to_verilog_cells.specs.Exprs.{bit_of, hub_expr, port_expr};
 use net_hier::HPort;
 use nl_base::{NoMemory, Text};
 use std::alloc::Global;
+use to_verilog_classes::roots::width_of;
 use to_verilog_props::constants::bit_literal;
 use to_verilog_wires::Hub;
-use to_verilog_wires::roots::width_of;
 use vlog_values::{Expr, Select};
 
 /// The bits of the port that a position from the left is: all of a scalar.

@@ -4,4 +4,10 @@
 #![tactic(auto)]
 
 #[cfg(test)]
+mod many;
+#[cfg(test)]
+mod rows;
+#[cfg(test)]
 mod rules;
+#[cfg(test)]
+mod texts;

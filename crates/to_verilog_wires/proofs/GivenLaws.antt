@@ -11,10 +11,10 @@ use Rattle.net_hier.specs.declared.cells.HCell.{HCell}
 use Rattle.net_hier.specs.declared.nodes.Node.{Node}
 use Rattle.net_hier.specs.declared.nodes.Node.TheVariants.{Port, Pin, Net, Zero, One}
 use Rattle.net_bits.specs.Neighbours.{same_node}
-use Rattle.to_verilog_wires.proofs.NodeLaws.{same_node-Decides}
+use Rattle.to_verilog_classes.proofs.NodeLaws.{same_node-Decides}
 use Rattle.net_live.specs.Live.{have_property}
 use Rattle.to_verilog_wires.specs.Given.{AreGiven, IsWireOf}
-use Rattle.to_verilog_wires.specs.Groups.{GroupTable, around}
+use Rattle.to_verilog_classes.specs.Groups.{GroupTable, around}
 use Rattle.to_verilog_wires.specs.Hubs.{first_port, hub_node, is_input, is_port_bit, or_else, port_bit, port_hub}
 use Rattle.to_verilog_wires.specs.Naming.{wire_attrs}
 use Rattle.to_verilog_wires.specs.Wiring.{hub_in}

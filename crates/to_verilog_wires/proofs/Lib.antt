@@ -1,9 +1,4 @@
 pub mod GivenLaws
-pub mod GroupLaws
-pub mod KeyLaws
 pub mod MadeLaws
 pub mod NameLaws
-pub mod NodeLaws
-pub mod RootLaws
-pub mod Rooted
 pub mod WiringLaws

@@ -18,7 +18,7 @@ use Rattle.net_hier.specs.declared.cells.HPort.{HPort}
 use Rattle.net_hier.specs.declared.nodes.Node.{Node}
 use Rattle.to_verilog_rules.specs.Rules.{is_graphic, is_name}
 use Rattle.to_verilog_wires.specs.Given.{AddsHub, AreMade, GivesHubs, own_names}
-use Rattle.to_verilog_wires.specs.Groups.{GroupTable, around}
+use Rattle.to_verilog_classes.specs.Groups.{GroupTable, around}
 use Rattle.to_verilog_wires.specs.Naming.{wire_attrs, with_names}
 use Rattle.to_verilog_wires.specs.Wires.{HasNoWires, HasOneMore, IsNamed}
 use Rattle.to_verilog_wires.specs.Wiring.{hub_in}
@@ -26,7 +26,7 @@ use Rattle.to_verilog_wires.specs.declared.hubs.Hub.{Hub}
 use Rattle.to_verilog_wires.specs.declared.hubs.Hub.TheVariants as hubs
 use Rattle.to_verilog_wires.specs.declared.naming.Wires.{Wires}
 use Rattle.to_verilog_wires.proofs.GivenLaws.{with_port, with_wire}
-use Rattle.to_verilog_wires.proofs.GroupLaws.{map_both}
+use Rattle.to_verilog_classes.proofs.GroupLaws.{map_both}
 use Rattle.vlog_written.specs.OwnNames.{AreDistinct}
 use Rattle.vlog_written.specs.Written.{PlainWire, wire_item}
 

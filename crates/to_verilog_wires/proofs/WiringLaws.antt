@@ -23,7 +23,7 @@ use Rattle.net_bits.specs.Neighbours.{same_node}
 use Rattle.net_bits.proofs.CallerLaws.{connected_classes, member_of_class}
 use Rattle.vlog_written.proofs.Contents.{there_in_parts, part_of}
 use Rattle.vlog_written.proofs.Members.{nothing_there}
-use Rattle.to_verilog_wires.proofs.NodeLaws.{same_node-Decides}
+use Rattle.to_verilog_classes.proofs.NodeLaws.{same_node-Decides}
 use Rattle.net_stars.specs.StandIns.{itself}
 use Rattle.net_stars.specs.Stars.{AreHubs, AreWires, HasHub, HaveHub, IsBit, IsNet, IsOwnHub, IsWireFor}
 use Rattle.net_stars.proofs.Spokes.{one_hub}
@@ -35,17 +35,17 @@ use Rattle.to_verilog_props.proofs.Meanings.{attributes_keep}
 use Rattle.vlog_design.specs.Design.{attr_props}
 use Rattle.vlog_written.specs.Written.{PlainWire}
 use Rattle.to_verilog_wires.specs.Given.{AreGiven, GivesHubs}
-use Rattle.to_verilog_wires.specs.Groups.{AreGroups, GroupTable, HasMarks, around, live_class, root}
+use Rattle.to_verilog_classes.specs.Groups.{AreGroups, GroupTable, HasMarks, around, live_class, root}
 use Rattle.to_verilog_wires.specs.Hubs.{first_port, hub_node, port_hub}
 use Rattle.to_verilog_wires.specs.IsWiring.{IsWiring, wire_net}
 use Rattle.to_verilog_wires.specs.Naming.{wire_attrs}
-use Rattle.to_verilog_wires.specs.Roots.{AreWrittenPorts, each_live, pin_port, pin_width, port_width, ports_among, root_list}
+use Rattle.to_verilog_classes.specs.Roots.{AreWidePorts, each_live, pin_port, pin_width, port_width, root_list, wide_among, wide_port}
 use Rattle.to_verilog_wires.specs.Wiring.{hub_in}
 use Rattle.to_verilog_wires.specs.declared.hubs.Hub.{Hub}
 use Rattle.to_verilog_wires.specs.declared.hubs.Hub.TheVariants as hubs
 use Rattle.to_verilog_wires.specs.declared.naming.Wires.{Wires}
 use Rattle.to_verilog_wires.proofs.GivenLaws.{hub_node_there}
-use Rattle.to_verilog_wires.proofs.Rooted.{IsFirst, IsOpen, ShareClass, around_class, around_root, class_there, from_each, in_around, in_each, listed_root, live_there, mark_there, one_root, open_listed, root_itself, root_listed, root_shares, share_back, share_on, written_there}
+use Rattle.to_verilog_classes.proofs.Rooted.{IsFirst, IsOpen, ShareClass, around_class, around_root, class_there, from_each, in_around, in_each, listed_root, live_there, mark_there, one_root, open_listed, root_itself, root_listed, root_shares, share_back, share_on, written_there}
 
 -- a hub is the one of its node
 same_hub : (a b : Hub) → hub_node a ≡ hub_node b → a ≡ b
@@ -79,13 +79,17 @@ mapped_at f (y ∷ xs) zero x e = let g : Some y ≡ Some x = e in let s : y ≡
 mapped_at f (y ∷ xs) (suc k) x e = mapped_at f xs k x e
 
 -- the ports among nodes are named by their first bits
-first_bit : (nodes : List Node) (instance port bit : ℕ) → Contains (ports_among nodes) (Pin instance port bit) → bit ≡ 0
-first_bit nodes instance port bit h = let r = part_of (λ (node : Node). option_to_list (pin_port node)) nodes (Pin instance port bit) h in by r.0 r.2
+chosen_bit : (wide : Bool) (i p instance port bit : ℕ) → Contains (option_to_list (if wide then Some (Pin i p 0) else None)) (Pin instance port bit) → bit ≡ 0
+chosen_bit true i p instance port bit (zero, l, e) = let g : Pin i p 0 ≡ Pin instance port bit = e in let s : 0 ≡ bit = cc in sym s
+chosen_bit true i p instance port bit (suc k, l, e) = absurd (omega (arith, l))
+chosen_bit false i p instance port bit h = absurd (nothing_there (Pin instance port bit) h)
+
+first_bit : (cells : List HCell) (cell : HCell) (nodes : List Node) (instance port bit : ℕ) → Contains (wide_among cells cell nodes) (Pin instance port bit) → bit ≡ 0
+first_bit cells cell nodes instance port bit h = let r = part_of (λ (node : Node). option_to_list (wide_port cells cell node)) nodes (Pin instance port bit) h in by r.0 r.2
   where
-    by : (node : Node) → Contains (option_to_list (pin_port node)) (Pin instance port bit) → bit ≡ 0
+    by : (node : Node) → Contains (option_to_list (wide_port cells cell node)) (Pin instance port bit) → bit ≡ 0
     by (Port p b) h = absurd (nothing_there (Pin instance port bit) h)
-    by (Pin i p b) (zero, l, e) = let g : Pin i p 0 ≡ Pin instance port bit = e in let s : 0 ≡ bit = cc in sym s
-    by (Pin i p b) (suc k, l, e) = absurd (omega (arith, l))
+    by (Pin i p b) h = chosen_bit (nat_lt 1 (pin_width cells cell i p)) i p instance port bit h
     by (Net n) h = absurd (nothing_there (Pin instance port bit) h)
     by Zero h = absurd (nothing_there (Pin instance port bit) h)
     by One h = absurd (nothing_there (Pin instance port bit) h)
@@ -95,11 +99,14 @@ two_live : (nets : List HNet) (nodes : List Node) → nat_lt 1 (count_by is_end 
 two_live nets nodes two = ap (λ b. b || (nat_lt 0 (count_by is_bit nodes) && have_property nets nodes)) two
 
 -- how many bits the port of an instance has
+pin_bits : (cells : List HCell) (cell : HCell) (instance port bit : ℕ) (is : IsPinBit cells cell instance port bit) → pin_width cells cell instance port ≡ width_of is.is_bit.the_port.range
+pin_bits cells cell instance port bit is =
+    ap (λ o. option_map_or (λ (i : HInst). option_map_or (λ below. port_width below port) (slice_get cells i.cell) 0) o 0) is.is_there
+    ∙ (ap (λ o. option_map_or (λ below. port_width below port) o 0) is.is_below ∙ ap (λ o. option_map_or (λ (p : HPort). width_of p.range) o 0) is.is_bit.is_there)
+
 pin_within : (cells : List HCell) (cell : HCell) (instance port bit : ℕ) → IsPinBit cells cell instance port bit → bit < pin_width cells cell instance port
 pin_within cells cell instance port bit is =
-    let w : pin_width cells cell instance port ≡ width_of is.is_bit.the_port.range =
-    ap (λ o. option_map_or (λ (i : HInst). option_map_or (λ below. port_width below port) (slice_get cells i.cell) 0) o 0) is.is_there
-    ∙ (ap (λ o. option_map_or (λ below. port_width below port) o 0) is.is_below ∙ ap (λ o. option_map_or (λ (p : HPort). width_of p.range) o 0) is.is_bit.is_there) in
+    let w = pin_bits cells cell instance port bit is in
     let h : bit < width_of is.is_bit.the_port.range = is.is_bit.within in
     omega (arith, w, h)
 
@@ -272,12 +279,12 @@ module _ (cells : List HCell) (cell : HCell) (groups : GroupTable) (are : AreGro
     pub properties_are : AreWires cells cell partner (HasHub hub_of)
     properties_are = record { wires = λ x number bit e. wire_for x number bit e; bare = λ x bit name value h. bare_for x bit name value h }
 
-  module _ (written : AreWrittenPorts groups ports) where
-    port_there : (node : Node) → Contains ports node → Contains (each_live groups ports_among) node
-    port_there node h = (is_member-Decides same_node-Decides (each_live groups ports_among) node).0 (sym (written node) ∙ (is_member-Decides same_node-Decides ports node).1 h)
+  module _ (written : AreWidePorts cells cell groups ports) where
+    port_there : (node : Node) → Contains ports node → Contains (each_live groups (wide_among cells cell)) node
+    port_there node h = (is_member-Decides same_node-Decides (each_live groups (wide_among cells cell)) node).0 (sym (written node) ∙ (is_member-Decides same_node-Decides ports node).1 h)
 
-    there_port : (node : Node) → Contains (each_live groups ports_among) node → list_any (same_node node) ports ≡ true
-    there_port node h = written node ∙ (is_member-Decides same_node-Decides (each_live groups ports_among) node).1 h
+    there_port : (node : Node) → Contains (each_live groups (wide_among cells cell)) node → list_any (same_node node) ports ≡ true
+    there_port node h = written node ∙ (is_member-Decides same_node-Decides (each_live groups (wide_among cells cell)) node).1 h
 
     pub some_written : (instance port bit : ℕ) → IsPinBit cells cell instance port bit → list_any (same_node (Pin instance port 0)) ports ≡ true → (node : Node) × (hub_of (Pin instance port bit) ≡ Some node)
     some_written instance port bit is h = let a = by (live_class groups (Pin instance port bit)) refl in (hub_node a.0, ap (option_map hub_node) a.1)
@@ -289,18 +296,19 @@ module _ (cells : List HCell) (cell : HCell) (groups : GroupTable) (are : AreGro
             given.all (root groups (Pin instance port bit)) (subst (Contains roots) (sym (root_itself cell groups are marks (Pin instance port bit) e))
             (open_listed cell groups are marks cells ports roots listed instance port 0 bit there (pin_within cells cell instance port bit is) e))
 
-    -- the first bit of a port is among the written ones where a bit of it is in a class that is written
-    pin_written : (instance port bit class : ℕ) → live_class groups (Pin instance port bit) ≡ Some class → list_any (same_node (Pin instance port 0)) ports ≡ true
-    pin_written instance port bit class e =
-        there_port (Pin instance port 0) (in_each cell groups are marks ports_among (Pin instance port bit) (Pin instance port 0) class e
-        (there_in_parts (λ (node : Node). option_to_list (pin_port node)) (members_of groups.classes class) (Pin instance port bit) (Pin instance port 0)
-        ((member_of_class cell groups.classes are.classes (Pin instance port bit) class).0 (class_there cell groups are marks (Pin instance port bit) class e)) (0, omega arith, refl)))
+    -- the first bit of a port of several bits is among the written ones where a bit of it is in a class that is written
+    pin_written : (instance port bit class : ℕ) → nat_lt 1 (pin_width cells cell instance port) ≡ true → live_class groups (Pin instance port bit) ≡ Some class → list_any (same_node (Pin instance port 0)) ports ≡ true
+    pin_written instance port bit class wide e =
+        there_port (Pin instance port 0) (in_each cell groups are marks (wide_among cells cell) (Pin instance port bit) (Pin instance port 0) class e
+        (there_in_parts (λ (node : Node). option_to_list (wide_port cells cell node)) (members_of groups.classes class) (Pin instance port bit) (Pin instance port 0)
+        ((member_of_class cell groups.classes are.classes (Pin instance port bit) class).0 (class_there cell groups are marks (Pin instance port bit) class e))
+        (subst (λ b. Contains (option_to_list (if b then Some (Pin instance port 0) else None)) (Pin instance port 0)) (sym wide) (0, omega arith, refl))))
 
-    pub none_written : (instance port bit : ℕ) → list_any (same_node (Pin instance port 0)) ports ≡ false → hub_of (Pin instance port bit) ≡ None
-    none_written instance port bit h = by (live_class groups (Pin instance port bit)) refl (hub (root groups (Pin instance port bit))) refl
+    pub none_written : (instance port bit : ℕ) → nat_lt 1 (pin_width cells cell instance port) ≡ true → list_any (same_node (Pin instance port 0)) ports ≡ false → hub_of (Pin instance port bit) ≡ None
+    none_written instance port bit wide h = by (live_class groups (Pin instance port bit)) refl (hub (root groups (Pin instance port bit))) refl
       where
         by : (o : Option ℕ) → live_class groups (Pin instance port bit) ≡ o → (a : Option Hub) → hub (root groups (Pin instance port bit)) ≡ a → hub_of (Pin instance port bit) ≡ None
-        by (Some class) e a f = absurd (false≢true (sym h ∙ pin_written instance port bit class e))
+        by (Some class) e a f = absurd (false≢true (sym h ∙ pin_written instance port bit class wide e))
         by None e None f = ap (option_map hub_node) f
         by None e (Some a) f =
             let itself_root : root groups (Pin instance port bit) ≡ Pin instance port bit = root_itself cell groups are marks (Pin instance port bit) e in
@@ -310,15 +318,15 @@ module _ (cells : List HCell) (cell : HCell) (groups : GroupTable) (are : AreGro
                   let same : Pin instance port bit ≡ Pin other.instance other.port other.bit = sym itself_root ∙ other.is_pin in
                   let i : other.instance ≡ instance = cc in
                   let p : other.port ≡ port = cc in
-                  let from = from_each cell groups are marks ports_among (Pin other.instance other.port other.first) (port_there (Pin other.instance other.port other.first) other.is_written) in
-                  let z : other.first ≡ 0 = first_bit (members_of groups.classes from.class) other.instance other.port other.first from.is_there in
+                  let from = from_each cell groups are marks (wide_among cells cell) (Pin other.instance other.port other.first) (port_there (Pin other.instance other.port other.first) other.is_written) in
+                  let z : other.first ≡ 0 = first_bit cells cell (members_of groups.classes from.class) other.instance other.port other.first from.is_there in
                   let there : Contains ports (Pin instance port 0) = subst (λ n. Contains ports (Pin instance n 0)) p (subst (λ n. Contains ports (Pin n other.port 0)) i (subst (λ n. Contains ports (Pin other.instance other.port n)) z other.is_written)) in
                   absurd (false≢true (sym h ∙ (is_member-Decides same_node-Decides ports (Pin instance port 0)).1 there))
             ]
 
 -- the whole wiring
 pub wiring_is : (cells : List HCell) (cell : HCell) (groups : GroupTable) → AreGroups cell groups → HasMarks groups → IsGoodCell cells cell →
-    (ports roots : List Node) → AreWrittenPorts groups ports → IsPermutation (root_list cells cell groups ports) roots → (entries : List (Node × Hub)) (made : Wires) → GivesHubs cell groups roots entries made →
+    (ports roots : List Node) → AreWidePorts cells cell groups ports → IsPermutation (root_list cells cell groups ports) roots → (entries : List (Node × Hub)) (made : Wires) → GivesHubs cell groups roots entries made →
     IsWiring cells cell (record { groups = groups; ports = ports; hubs = entries; names = made.names }) made.decls
 wiring_is cells cell groups are marks good ports roots written listed entries made gives = record {
   wires = gives.wires;
@@ -330,7 +338,10 @@ wiring_is cells cell groups are marks good ports roots written listed entries ma
   properties = λ partner nets. properties_are cells cell groups are marks good.joins_in_range ports roots listed (hub_in entries) gives.wires gives.are_given partner nets;
   written = record {
     some = λ instance port bit is h. some_written cells cell groups are marks good.joins_in_range ports roots listed (hub_in entries) gives.wires gives.are_given written instance port bit is h;
-    none = λ instance port bit is h. none_written cells cell groups are marks good.joins_in_range ports roots listed (hub_in entries) gives.wires gives.are_given written instance port bit h;
+    none = λ instance port bit is wide h.
+        let w = pin_bits cells cell instance port bit is in
+        let several : nat_lt 1 (pin_width cells cell instance port) ≡ true = grind (arith, nat_tests, w, wide) in
+        none_written cells cell groups are marks good.joins_in_range ports roots listed (hub_in entries) gives.wires gives.are_given written instance port bit several h;
   };
   classes = record {
     groups = are;

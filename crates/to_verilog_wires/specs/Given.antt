@@ -7,7 +7,7 @@ use Rattle.net_bits.specs.Neighbours.{same_node}
 use Rattle.net_hier.specs.declared.cells.HCell.{HCell}
 use Rattle.net_hier.specs.declared.nodes.Node.{Node}
 use Rattle.to_verilog_rules.specs.Rules.{is_name}
-use Rattle.to_verilog_wires.specs.Groups.{GroupTable, around}
+use Rattle.to_verilog_classes.specs.Groups.{GroupTable, around}
 use Rattle.to_verilog_wires.specs.Hubs.{port_hub}
 use Rattle.to_verilog_wires.specs.Naming.{wire_attrs}
 use Rattle.to_verilog_wires.specs.Wires.{HasOneMore}

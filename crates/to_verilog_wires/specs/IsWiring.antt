@@ -1,6 +1,6 @@
 -- What is promised of the wiring of a cell.
 use Rattle.std.specs.Prelude.{◌≡◌, ◌<◌, ℕ, true, false, None, Some, List, length, map}
-use Rattle.net_hier.specs.Cells.{IsPinBit}
+use Rattle.net_hier.specs.Cells.{IsPinBit, width_of}
 use Rattle.net_hier.specs.declared.cells.HCell.{HCell}
 use Rattle.net_hier.specs.declared.cells.HNet.{HNet}
 use Rattle.net_hier.specs.declared.nodes.Node.{Node}
@@ -11,19 +11,19 @@ use Rattle.vlog_design.specs.Design.{attr_props}
 use Rattle.vlog_values.specs.declared.module.ItemV.{ItemV}
 use Rattle.vlog_written.specs.Written.{PlainWire, wire_item}
 use Rattle.to_verilog_wires.specs.Given.{AreNamed, HaveNetAttrs}
-use Rattle.to_verilog_wires.specs.Groups.{AreGroups, HasMarks, live_class}
-use Rattle.to_verilog_wires.specs.Roots.{pin_port}
+use Rattle.to_verilog_classes.specs.Groups.{AreGroups, HasMarks, live_class}
+use Rattle.to_verilog_classes.specs.Roots.{pin_port}
 use Rattle.to_verilog_wires.specs.Wiring.{WiringTable, hub_node_of, is_written}
 
 -- the net that a wire is
 abbrev pub wire_net : PlainWire → HNet
 wire_net wire = record { name = wire.name; props = attr_props wire.attrs }
 
--- of a port of an instance that is written each bit has a hub, and of another none
+-- of a port of several bits of an instance each bit has a hub where one of them is written, and else none has one
 pub record AreWritten (cells : List HCell) (cell : HCell) (wiring : WiringTable) : Type 0 where
   pub some : (instance port bit : ℕ) → IsPinBit cells cell instance port bit → is_written wiring (Pin instance port bit) ≡ true →
       (hub : Node) × (hub_node_of wiring (Pin instance port bit) ≡ Some hub)
-  pub none : (instance port bit : ℕ) → IsPinBit cells cell instance port bit → is_written wiring (Pin instance port bit) ≡ false →
+  pub none : (instance port bit : ℕ) (is : IsPinBit cells cell instance port bit) → 1 < width_of is.is_bit.the_port.range → is_written wiring (Pin instance port bit) ≡ false →
       hub_node_of wiring (Pin instance port bit) ≡ None
 
 -- the classes are those of the cell, a port bit or a constant with a hub is in a class that is written, and a hub that is a wire is one of the wires

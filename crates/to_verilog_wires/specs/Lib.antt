@@ -1,8 +1,6 @@
 pub mod Given
-pub mod Groups
 pub mod Hubs
 pub mod IsWiring
 pub mod Naming
-pub mod Roots
 pub mod Wires
 pub mod Wiring

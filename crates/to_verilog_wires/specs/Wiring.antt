@@ -5,12 +5,12 @@ use Rattle.std.specs.Option.{option_map_or}
 use Rattle.std.specs.Map.{lookup}
 use Rattle.net_hier.specs.declared.nodes.Node.{Node}
 use Rattle.net_bits.specs.Neighbours.{same_node}
-use Rattle.to_verilog_wires.specs.Groups.{GroupTable, root}
+use Rattle.to_verilog_classes.specs.Groups.{GroupTable, root}
 use Rattle.to_verilog_wires.specs.Hubs.{hub_node}
-use Rattle.to_verilog_wires.specs.Roots.{pin_port}
+use Rattle.to_verilog_classes.specs.Roots.{pin_port}
 use Rattle.to_verilog_wires.specs.declared.hubs.Hub.{Hub}
 
--- classes, the ports of instances of which a bit is written, the hubs of the nodes that stand for others, and the names of the wires
+-- classes, the ports of several bits of instances of which a bit is written, the hubs of the nodes that stand for others, and the names of the wires
 pub record WiringTable : Type 0 where
   pub groups : GroupTable
   pub ports : List Node
@@ -29,6 +29,6 @@ hub_of wiring node = hub_in wiring.hubs (root wiring.groups node)
 abbrev pub hub_node_of : WiringTable → Node → Option Node
 hub_node_of wiring node = option_map hub_node (hub_of wiring node)
 
--- whether a bit of the port of the instance is written, of which the node is a bit
+-- whether a bit of the port of the instance is written, of which the node is a bit, where that port has several bits
 abbrev pub is_written : WiringTable → Node → Bool
 is_written wiring node = option_map_or (λ port. list_any (same_node port) wiring.ports) (pin_port node) false

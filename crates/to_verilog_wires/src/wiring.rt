@@ -5,21 +5,21 @@ ghost use Rattle.net_bits.specs.Names.{AreUsed};
 ghost use Rattle.net_bits.specs.Neighbours.{same_node};
 ghost use Rattle.net_hier.specs.Valid.{IsGoodCell};
 ghost use Rattle.to_verilog_wires.specs.Given.{AddsHub, GivesHubs, IsHubFor};
-ghost use Rattle.to_verilog_wires.specs.Groups.{around};
+ghost use Rattle.to_verilog_classes.specs.Groups.{around};
 ghost use Rattle.to_verilog_wires.specs.IsWiring.{IsWiring};
-ghost use Rattle.to_verilog_wires.specs.Roots.{pin_port};
+ghost use Rattle.to_verilog_classes.specs.Roots.{pin_port};
 ghost use Rattle.to_verilog_wires.specs.Wires.{HasNoWires};
 ghost use Rattle.to_verilog_wires.specs.Wiring.{hub_of, is_written};
 
-use crate::groups::Groups;
 use crate::hubs::{Hub, port_hub};
 use crate::naming::Wires;
-use crate::roots::{pin_port, roots_of, written_ports};
 use indexmap::{IndexMap, IndexSet};
 use net_hier::{HCell, Hier, Node};
 use nl_base::{NoMemory, Seq, Text};
 use std::alloc::Global;
 use std::marker::Model;
+use to_verilog_classes::Groups;
+use to_verilog_classes::roots::{pin_port, roots_of, wide_ports};
 use vlog_values::ItemV;
 
 /// What stands for each bit of a cell: each class that is written has a hub, and so has each other bit of a port of which a bit is written.
@@ -107,7 +107,7 @@ impl Wiring {
         ensures { IfOk result (λ made. IsWiring hier.now.cells cell.now made.0 made.1) }
     {
         let groups = Groups::of_cell(alloc, cell)?;
-        let ports = written_ports(alloc, &groups)?;
+        let ports = wide_ports(alloc, hier, cell, &groups)?;
         let roots = roots_of(alloc, hier, cell, &groups, &ports)?;
         let mut wires = Wires::none(alloc, cell)?;
         let hubs = hubs_of(alloc, cell, &groups, &roots, &mut wires)?;
@@ -137,7 +137,7 @@ impl Wiring {
         self.hubs.get(&self.groups.root(node)).copied()
     }
 
-    /// Whether a bit of the port of the instance is written, of which this is a bit.
+    /// Whether a bit of the port of the instance is written, of which this is a bit, where that port has several bits.
     pub fn is_written(&self, pin: &Node) -> bool
         ensures { result ≡ is_written self.now pin.now }
     {

@@ -31,4 +31,8 @@ returns-in-Refused g c = λ b rest h. c.put_refusal.ensures b rest (rw c.in-Refu
 
 pub returns-in-DesignLimit : goal.returns-in-DesignLimit
 unfolding message_then
-returns-in-DesignLimit g c = λ b rest h. c.put_units.ensures b rest (rw c.in-DesignLimit.is at h)
+returns-in-DesignLimit g c = λ b rest h. c.put_limit.ensures b rest (rw c.in-DesignLimit.is at h)
+
+pub returns-in-FlatLimit : goal.returns-in-FlatLimit
+unfolding message_then
+returns-in-FlatLimit g c = λ b rest h. c.put_limit-in-FlatLimit.ensures b rest (rw c.in-FlatLimit.is at h)

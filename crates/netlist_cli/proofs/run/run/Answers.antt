@@ -1,12 +1,11 @@
 use Rattle.std.proofs.Common.{refl, Ok, Err}
-use Rattle.netlist_cli.specs.Commands.{command}
 use Rattle.netlist_cli.proofs.Ends.{run_ends_as, tells, silent_so}
 use Rattle.netlist_cli.proofs.run.run.Goals as goal
 
 pub returns-in-Ok : goal.returns-in-Ok
 returns-in-Ok g c =
-    let ends = run_ends_as g.S.Source.left g.S.Source.faults g.O.Sink.taken g.O.Sink.accepts g.O.Sink.faults c.args.input.now c.perform.new.input c.args.output.now c.perform.new.output
-    (command c.args.words.now) (Ok tt) _ (rw c.in-Ok.is at c.perform.ensures.performs) refl in
+    let ends = run_ends_as g.S.Source.left g.S.Source.faults g.O.Sink.taken g.O.Sink.accepts g.O.Sink.faults c.args.words.now c.args.input.now c.perform.new.input c.args.output.now c.perform.new.output
+    (Ok tt) _ (rw c.in-Ok.is at c.perform.ensures.performs) refl in
     record {
       done = ends.done;
       write_fault = ends.write_fault;
@@ -23,13 +22,13 @@ returns-in-Ok g c =
 pub returns-in-Err : goal.returns-in-Err
 returns-in-Err g c =
     let performed = rw c.in-Err.is at c.perform.ensures.performs in
-    let ends = run_ends_as g.S.Source.left g.S.Source.faults g.O.Sink.taken g.O.Sink.accepts g.O.Sink.faults c.args.input.now c.perform.new.input c.args.output.now c.perform.new.output
-    (command c.args.words.now) (Err c.in-Err.failure) c.report.result performed c.report.ensures.status in
+    let ends = run_ends_as g.S.Source.left g.S.Source.faults g.O.Sink.taken g.O.Sink.accepts g.O.Sink.faults c.args.words.now c.args.input.now c.perform.new.input c.args.output.now c.perform.new.output
+    (Err c.in-Err.failure) c.report.result performed c.report.ensures.status in
     record {
       done = ends.done;
       write_fault = ends.write_fault;
-      failed = λ n. tells g.S.Source.left g.S.Source.faults g.O.Sink.taken g.O.Sink.accepts g.O.Sink.faults c.args.input.now c.perform.new.input c.args.output.now c.perform.new.output
-          g.E.Sink.taken g.E.Sink.accepts g.E.Sink.faults (command c.args.words.now) c.in-Err.failure c.report.result c.args.errors.now c.report.new.errors performed c.report.ensures.status c.report.ensures.told;
+      failed = λ n. tells g.S.Source.left g.S.Source.faults g.O.Sink.taken g.O.Sink.accepts g.O.Sink.faults c.args.words.now c.args.input.now c.perform.new.input c.args.output.now c.perform.new.output
+          g.E.Sink.taken g.E.Sink.accepts g.E.Sink.faults c.in-Err.failure c.report.result c.args.errors.now c.report.new.errors performed c.report.ensures.status c.report.ensures.told;
       usage = ends.usage;
       taken = c.perform.ensures.taken;
       unread = ends.unread;

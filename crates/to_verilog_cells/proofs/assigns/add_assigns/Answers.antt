@@ -1,4 +1,4 @@
-use Rattle.to_verilog_wires.specs.Roots.{of_live}
+use Rattle.to_verilog_classes.specs.Roots.{of_live}
 use Rattle.vlog_written.specs.Written.{assign_item}
 use Rattle.to_verilog_cells.specs.Assigns.{assigns_among}
 use Rattle.to_verilog_cells.proofs.Loops.{items_turn}

@@ -1,6 +1,6 @@
 use Rattle.std.proofs.Common.{◌≡◌, ◌++◌, flat_map, map}
 use Rattle.std.specs.List.{range_with_len}
-use Rattle.to_verilog_wires.specs.Roots.{of_live}
+use Rattle.to_verilog_classes.specs.Roots.{of_live}
 use Rattle.vlog_written.specs.Written.{assign_item}
 use Rattle.to_verilog_cells.specs.Assigns.{assigns_among}
 use Rattle.to_verilog_cells.proofs.assigns.add_assigns.Given as goal

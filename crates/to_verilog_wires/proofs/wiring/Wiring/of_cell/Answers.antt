@@ -1,6 +1,6 @@
 use Rattle.std.proofs.Common.{subst, sym}
 use Rattle.to_verilog_wires.specs.Given.{GivesHubs}
-use Rattle.to_verilog_wires.specs.Groups.{HasMarks}
+use Rattle.to_verilog_classes.specs.Groups.{HasMarks}
 use Rattle.to_verilog_wires.specs.IsWiring.{IsWiring}
 use Rattle.to_verilog_wires.proofs.WiringLaws.{wiring_is}
 use Rattle.to_verilog_wires.proofs.wiring.Wiring.of_cell.Goals as goal

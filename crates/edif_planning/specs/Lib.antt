@@ -1,0 +1,4 @@
+pub mod Classes
+pub mod Constants
+pub mod Numbers
+pub mod Plans

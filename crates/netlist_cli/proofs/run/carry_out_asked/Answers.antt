@@ -1,0 +1,6 @@
+use Rattle.readers.specs.Sources.{supply}
+use Rattle.netlist_cli.proofs.Ends.{takes_none}
+use Rattle.netlist_cli.proofs.run.carry_out_asked.Goals as goal
+
+pub returns-in-None-clause-taken : goal.returns-in-None-clause-taken
+returns-in-None-clause-taken g c = takes_none (supply g.S.Source.left g.S.Source.faults c.args.input.now)

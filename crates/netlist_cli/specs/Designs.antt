@@ -1,0 +1,71 @@
+-- What is made on the way from an input over its design to a text.
+use Rattle.std.specs.Prelude.{◌≡◌, ◌≢◌, ℕ, List, Option, Some, None, Result, Ok, Err, IfSome}
+use Rattle.std.specs.Io.KnownBytes.{IsAtEnd}
+use Rattle.nl_io.specs.declared.source.Failed.{Failed}
+use Rattle.nl_output.specs.Writing.{Writes}
+use Rattle.readers.specs.Sources.{Supply}
+use Rattle.edif_library.specs.Text.{EdifReads}
+use Rattle.edif_resolve.specs.Answers as edif_answers
+use Rattle.net_bits.specs.Names.{NameSet}
+use Rattle.net_hier.specs.Design.{Design}
+use Rattle.to_verilog.specs.Answers.{IsTranslated}
+use Rattle.vlog_design.specs.Names.{Name}
+use Rattle.vlog_elab.specs.Answers as verilog_answers
+use Rattle.vlog_modules.specs.Text.{VlogReads}
+use Rattle.vlog_values.specs.Values.{IsVlogValue}
+use Rattle.vlog_values.specs.declared.module.VlogFile.{VlogFile}
+use Rattle.netlist_cli.specs.declared.failure.Failure.{Failure}
+use Rattle.netlist_cli.specs.declared.failure.Failure.TheVariants as failures
+use Rattle.netlist_cli.specs.Meanings.{Judgement, edif, edif_verdict, verilog, verilog_verdict}
+use Rattle.netlist_cli.specs.Outcomes.{Question, Verdict, fine}
+use Rattle.netlist_cli.specs.Runs.{IsCause, IsFailureOf}
+
+-- ---- from an input to its design
+
+-- The input was read to its end as a file, and the design says what the file says.
+pub record HasDesign {File : Type 0} (reads : List ℕ → File → Type 0) (IsDesignOf : File → Design → Type 0) (i j : Supply) (design : Design) : Type 0 where
+  pub file : File
+  pub reads_as : IfSome i.left (λ bytes. reads bytes file)
+  pub ended : IsAtEnd j.left
+  pub is_design : IsDesignOf file design
+
+-- the design is that of an EDIF file, or that of a Verilog file under the module of this name
+abbrev pub IsDesignRead : Option Name → Supply → Supply → Design → Type 0
+IsDesignRead None i j design = HasDesign EdifReads edif_answers.IsDesignOf i j design
+IsDesignRead (Some top) i j design = HasDesign VlogReads (λ file read. verilog_answers.IsDesignOf file top read) i j design
+
+-- what a command asks that judges designs so
+abbrev pub question_of : Option Name → Judgement → Question
+question_of None judge = record { language = edif; verdict = edif_verdict judge }
+question_of (Some top) judge = record { language = verilog; verdict = verilog_verdict top judge }
+
+-- why there is no design, however a command judges designs
+pub record IsNoDesign (top : Option Name) (i j : Supply) (failure : Failure) : Type 0 where
+  pub unwritten : failure ≢ failures.WriteFault
+  pub cause : (judge : Judgement) → IsCause (question_of top judge) i j failure
+
+-- ---- from a design to a text
+
+-- Nothing is wrong with a design, and this is how the writing of a text that may be made of it went.
+pub record PutsMade {O : Type 0} (taken : O → List ℕ → Type 0) (accepts : O → ℕ → Type 0) (faults : O → ℕ) (said : Verdict) (IsMade : List ℕ → Type 0) (old new : O) (result : Result (Unit {0}) Failed) : Type 0 where
+  pub is_fine : said ≡ fine
+  pub text : List ℕ
+  pub made : IsMade text
+  pub put : Writes taken accepts faults old new text result
+
+-- What a command does with a design of which this is said.
+abbrev pub Makes : {O : Type 0} → (O → List ℕ → Type 0) → (O → ℕ → Type 0) → (O → ℕ) → Verdict → (List ℕ → Type 0) → O → O → Result (Unit {0}) Failure → Type 0
+Makes taken accepts faults said IsMade old new (Ok u) = PutsMade taken accepts faults said IsMade old new (Ok tt)
+Makes taken accepts faults said IsMade old new (Err failures.WriteFault) = (e : Failed) × PutsMade taken accepts faults said IsMade old new (Err e)
+Makes taken accepts faults said IsMade old new (Err f) = IsFailureOf said f × (new ≡ old)
+
+-- the same for a judgement of designs
+abbrev pub MakesOf : {O : Type 0} → (O → List ℕ → Type 0) → (O → ℕ → Type 0) → (O → ℕ) → Judgement → (Design → List ℕ → Type 0) → Design → O → O → Result (Unit {0}) Failure → Type 0
+MakesOf taken accepts faults judge IsMade design = Makes taken accepts faults (judge design.cells design.top design.props) (IsMade design)
+
+-- ---- to Verilog
+
+-- the modules are the translation of the design, and can be written
+pub record AreModulesFor (design : Design) (params : NameSet) (modules : VlogFile) : Type 0 where
+  pub translated : IsTranslated design params modules
+  pub value : IsVlogValue modules

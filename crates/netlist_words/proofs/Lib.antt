@@ -1,0 +1,4 @@
+pub mod Taken
+pub mod Dots
+pub mod Choices
+pub mod OneCommand

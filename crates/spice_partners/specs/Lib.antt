@@ -1,0 +1,5 @@
+pub mod Partners
+pub mod Places
+pub mod Plain
+pub mod SamePins
+pub mod SpiceDesign

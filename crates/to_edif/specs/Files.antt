@@ -1,0 +1,19 @@
+-- The names of the file and of its design (EDIF 2 0 0, edif, design).
+use Rattle.std.specs.Prelude.{◌≡◌, ℕ, List, [], ◌∷◌, map}
+use Rattle.edif_keywords.specs.Values.{IsString}
+use Rattle.edif_names.specs.Names.{original}
+use Rattle.edif_names.specs.Values.{IsNameDef}
+use Rattle.edif_names.specs.declared.name.NameDef.{NameDef}
+use Rattle.edif_library.specs.declared.file.EdifFile.{EdifFile}
+use Rattle.edif_design.specs.Parts.{designs}
+use Rattle.net_hier.specs.Design.{Design, top_name}
+
+-- the name is written with an identifier, and can be written where it is a string
+pub record IsLoneName (name : List ℕ) (made : NameDef) : Type 0 where
+  pub is_name : original made ≡ name
+  pub sound : IsString name → IsNameDef made
+
+-- the file has one design, and both are named after the top
+pub record IsNamedAfterTop (design : Design) (file : EdifFile) : Type 0 where
+  pub file_name : original file.name ≡ top_name design.cells design.top
+  pub design_names : map (λ one. original one.name) (designs file) ≡ top_name design.cells design.top ∷ []

@@ -1,0 +1,62 @@
+// The translation.
+ghost use Rattle.std.specs.Prelude.{IfOk};
+ghost use Rattle.edif_copies.specs.Answers.{IsEdifFor};
+ghost use Rattle.edif_planning.specs.Classes.{AreAllClasses};
+ghost use Rattle.edif_planning.specs.Plans.{IsPlanned};
+ghost use Rattle.edif_plans.specs.Sound.{IsSoundDesign};
+ghost use Rattle.edif_rereading.specs.Values.{IsEdifValue};
+ghost use Rattle.to_edif.specs.Files.{IsNamedAfterTop};
+
+use crate::cells::{new_cells, with_cells};
+use crate::file::{file_with, lone_name};
+use edif_library::EdifFile;
+use edif_planning::{Planned, all_classes, plan_of};
+use edif_value_laws::{stems_of, words_of};
+use net_bits::Classes;
+use net_hier::{Constants, Hier};
+use nl_base::NoMemory;
+use std::alloc::Global;
+
+/// The file of a design with these classes, as it is planned.
+fn file_of(
+    alloc: Global,
+    hier: &Hier,
+    constants: &Constants,
+    all: &[Classes],
+    planned: &Planned,
+) -> Result<EdifFile, NoMemory>
+    requires classes { AreAllClasses hier.now.cells all.now }
+    requires planned { IsPlanned constants.now hier.now planned.now }
+    ensures same { IfOk result (IsEdifFor constants.now hier.now) }
+    ensures named { IfOk result (IsNamedAfterTop hier.now) }
+    ensures value { IfOk result (λ file. IsSoundDesign hier.now → IsEdifValue file) }
+{
+    // What `Constants` keeps is known of one whose names are read.
+    let _zero = constants.zero();
+    stems_of(constants);
+    let top = &hier.cells()[hier.top() as usize];
+    let word = top.name.bytes();
+    let first = new_cells(alloc, constants, &planned.plan, planned.missing.as_slice())?;
+    let cells = with_cells(alloc, hier, constants, &planned.plan, all, first)?;
+    let name = lone_name(alloc, word)?;
+    let design_name = lone_name(alloc, word)?;
+    let head = planned.plan.head(hier.top());
+    words_of(head);
+    let file = file_with(alloc, name, design_name, cells, &head.cell)?;
+    Ok(file)
+}
+
+/// The design as an EDIF file, with these cells for the constants.
+///
+/// # Errors
+/// `NoMemory`: memory ran out.
+pub fn to_edif(alloc: Global, hier: &Hier, constants: &Constants) -> Result<EdifFile, NoMemory>
+    ensures same { IfOk result (IsEdifFor constants.now hier.now) }
+    ensures named { IfOk result (IsNamedAfterTop hier.now) }
+    ensures value { IfOk result (λ file. IsSoundDesign hier.now → IsEdifValue file) }
+{
+    let all = all_classes(alloc, hier)?;
+    let planned = plan_of(alloc, hier, constants, all.as_slice())?;
+    let file = file_of(alloc, hier, constants, all.as_slice(), &planned)?;
+    Ok(file)
+}

@@ -1,0 +1,5 @@
+pub mod Bits
+pub mod Fits
+pub mod Making
+pub mod Order
+pub mod Whole

@@ -1,0 +1,4 @@
+pub mod Firsts
+pub mod Giving
+pub mod Loops
+pub mod SameNodes

@@ -1,0 +1,9 @@
+pub mod Alike
+pub mod Firsts
+pub mod Joined
+pub mod Kept
+pub mod One
+pub mod PortOrder
+pub mod Sets
+pub mod Sizes
+pub mod Walk

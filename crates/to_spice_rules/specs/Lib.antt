@@ -1,0 +1,6 @@
+pub mod Answers
+pub mod Connections
+pub mod Found
+pub mod Names
+pub mod PortWords
+pub mod Sets

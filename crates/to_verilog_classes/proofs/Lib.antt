@@ -1,0 +1,5 @@
+pub mod GroupLaws
+pub mod KeyLaws
+pub mod NodeLaws
+pub mod RootLaws
+pub mod Rooted

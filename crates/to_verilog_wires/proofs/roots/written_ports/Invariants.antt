@@ -1,7 +1,0 @@
-use Rattle.std.proofs.Common.{[], flat_map}
-use Rattle.std.specs.List.{range_with_len}
-use Rattle.to_verilog_wires.specs.Roots.{AddsKeys, of_live, ports_among}
-use Rattle.to_verilog_wires.proofs.roots.written_ports.Given as goal
-
-abbrev pub invariant-loop-class : goal.invariant-loop-class
-invariant-loop-class l = AddsKeys [] l.ports.keys (flat_map (of_live l.groups ports_among) (range_with_len 0 l.class))

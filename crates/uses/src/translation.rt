@@ -1,0 +1,28 @@
+ghost use Rattle.std.specs.Prelude.{IfSome};
+ghost use Rattle.to_verilog.specs.Answers.{IsVerilogFor};
+
+use edif_resolve::resolve;
+use edif_sizes::read_sized_edif;
+use net_bits::Names;
+use net_hier::Hier;
+use nl_io::Source;
+use std::alloc::Global;
+use to_verilog::to_verilog;
+use vlog_values::VlogFile;
+
+/// The design of an EDIF text that breaks no rule of EDIF.
+pub fn design_of<S: Source>(alloc: Global, source: &mut S) -> Option<Hier> {
+    let file = read_sized_edif(alloc, source).ok()?;
+    resolve(alloc, &file).ok()
+}
+
+/// The modules of a design that breaks no rule of Verilog as a target: they are the same design.
+pub fn modules_of(alloc: Global, design: &Hier) -> Option<VlogFile>
+    ensures { IfSome result (IsVerilogFor design.now) }
+{
+    let no_parameters = Names::new(alloc, false);
+    match to_verilog(alloc, design, &no_parameters) {
+        Ok(modules) => Some(modules),
+        Err(_) => None,
+    }
+}
