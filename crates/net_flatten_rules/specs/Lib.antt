@@ -1,0 +1,4 @@
+pub mod FlatDesign
+pub mod Joined
+pub mod Rules
+pub mod SameFlat
