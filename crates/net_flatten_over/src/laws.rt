@@ -8,8 +8,9 @@ ghost use Rattle.net_hier.specs.Valid.{HaveOwnInstances, IsValid};
 ghost use Rattle.net_flatten_over.specs.Over.{HasLeavesAlone, HasOwnNames};
 ghost use Rattle.net_flatten_rules.specs.SameFlat.{SameFlat};
 
-/// What is the same design as a flattened one, and whose top has no instances but leaves, is flattened from the same design. Of the two
-/// flat designs their paths and the names of their ports are asked, which valid designs have, and nothing of the design that was flattened.
+/// What is the same design as a flattened one, and whose top has no instances but leaves, is
+/// flattened from the same design. Of the two flat designs their paths and the names of their ports
+/// are asked, which valid designs have, and nothing of the design that was flattened.
 pub fn flat_designs_go_over()
     ensures named { (names : ConstantNames) (design flat other : Design)
         → HasOwnNames flat → HasOwnNames other → SameFlat names design flat
@@ -19,8 +20,9 @@ pub fn flat_designs_go_over()
         → SameDesign names flat other → HasLeavesAlone other → SameFlat names design other }
 {}
 
-/// What is the same as a flattened design cell by cell is flattened from the same design: its top has no instances but leaves, and cells of
-/// the constants that were added are leaves. Its instances need names of their own, and, where none is added, nothing is asked of it.
+/// What is the same as a flattened design cell by cell is flattened from the same design: its top
+/// has no instances but leaves, and cells of the constants that were added are leaves. Its
+/// instances need names of their own, and, where none is added, nothing is asked of it.
 pub fn copies_of_flat_designs_are_flat()
     ensures added { (names : ConstantNames) (design flat other : Design) (n : Option ℕ)
         → AreConstantNames names → IsValid flat → HaveOwnInstances other.cells
