@@ -1,0 +1,4 @@
+pub mod Cells
+pub mod Files
+pub mod Numbers
+pub mod Samples
