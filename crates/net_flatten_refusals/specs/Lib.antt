@@ -1,0 +1,4 @@
+pub mod Digests
+pub mod LongNames
+pub mod Named
+pub mod PathDigests
