@@ -1,0 +1,10 @@
+pub mod Clean
+pub mod Designs
+pub mod Files
+pub mod Idents
+pub mod Leaves
+pub mod Lists
+pub mod Recursion
+pub mod Target
+pub mod Values
+pub mod Whole
