@@ -13,11 +13,11 @@ use Rattle.netlist_cli.specs.declared.status.Status.{Status}
 use Rattle.netlist_cli.specs.declared.status.Status.TheVariants as statuses
 use Rattle.netlist_cli.specs.Statuses.{status_of}
 use Rattle.netlist_cli.specs.Lines.{line}
-use Rattle.netlist_cli.specs.Outcomes.{Meaning, Verdict, fine, breaks, exceeds, exceeds_flat, Outcome, faulty, too_long, judged, status_due, IsWriting, Says, Gives}
+use Rattle.netlist_cli.specs.Outcomes.{Meaning, Verdict, fine, breaks, breaks_of_tool, exceeds, exceeds_flat, Outcome, faulty, too_long, judged, status_due, IsWriting, Says, Gives}
 use Rattle.netlist_cli.specs.Meanings.{meaning_of}
 use Rattle.netlist_cli.specs.Runs.{PutsText, WroteText, BrokeOff, IsCause, Fails, IsTold, TakesFrom, TellsFailure, FitsBytes, IsDecided, Does, DoesAsked, Performs}
 use Rattle.netlist_cli.proofs.Told.{if_told, any_told}
-use Rattle.netlist_cli.proofs.Results.{IsExact, exact_of, one_outcome}
+use Rattle.netlist_cli.proofs.Results.{IsSettled, settled_of, one_outcome}
 
 -- the status of an answer
 abbrev pub ending : Result (Unit {0}) Failure → Status
@@ -30,13 +30,13 @@ takes_none i = record { taken = 0; left = sym (skip_none 0 i.left); within = ome
 
 -- ---- what the bytes are decides
 
-module _ (m : Meaning) (exact : IsExact m.question.language) (bs : List ℕ) where
+module _ (m : Meaning) (settled : IsSettled m.question) (bs : List ℕ) where
   -- the status that is due for what comes of the bytes fits them
   due_fits : (o : Outcome) → Gives m.question bs o → FitsBytes m bs (status_due o)
-  due_fits o h p k = inl (ap status_due (one_outcome m.question exact bs o p h k))
+  due_fits o h p k = inl (ap status_due (one_outcome m.question settled bs o p h k))
 
   broken_fits : Gives m.question bs (judged fine) → FitsBytes m bs statuses.WriteFault
-  broken_fits h o k = inr (inl (refl, subst IsWriting (one_outcome m.question exact bs (judged fine) o h k) tt))
+  broken_fits h o k = inr (inl (refl, subst IsWriting (one_outcome m.question settled bs (judged fine) o h k) tt))
 
   read_fault_fits : FitsBytes m bs statuses.ReadFault
   read_fault_fits o k = inr (inr (inl refl))
@@ -46,10 +46,10 @@ module _ (m : Meaning) (exact : IsExact m.question.language) (bs : List ℕ) whe
 
   module _ (output_failed : Type 0) where
     due_decided : (o : Outcome) → Gives m.question bs o → IsDecided m bs output_failed (status_due o)
-    due_decided o h p k n = inl (ap status_due (one_outcome m.question exact bs o p h k))
+    due_decided o h p k n = inl (ap status_due (one_outcome m.question settled bs o p h k))
 
     broken_decided : Gives m.question bs (judged fine) → output_failed → IsDecided m bs output_failed statuses.WriteFault
-    broken_decided h f o k n = absurd (n (subst IsWriting (one_outcome m.question exact bs (judged fine) o h k) tt) f)
+    broken_decided h f o k n = absurd (n (subst IsWriting (one_outcome m.question settled bs (judged fine) o h k) tt) f)
 
     no_memory_decided : IsDecided m bs output_failed statuses.NoMemory
     no_memory_decided o k n = inr refl
@@ -65,7 +65,7 @@ module _ {O : Type 0} (taken : O → List ℕ → Type 0) (accepts : O → ℕ �
 
   -- a text that may be written comes of a file with which nothing is wrong
   gives_fine : (r : Result (Unit {0}) Failed) → PutsText taken accepts faults m i j old new r → IfSome i.left (λ bs. Gives m.question bs (judged fine))
-  gives_fine r h = said_of_bytes m fine i.left (record { file = h.is_text.file; reads_as = h.is_text.reads_as; is_verdict = h.is_text.is_fine })
+  gives_fine r h = said_of_bytes m fine i.left (record { file = h.is_text.file; reads_as = h.is_text.reads_as; is_said = h.is_text.is_fine })
 
   -- ---- each status has its cause
 
@@ -78,6 +78,7 @@ module _ {O : Type 0} (taken : O → List ℕ → Type 0) (accepts : O → ℕ �
   done_so (Err failures.NoMemory) h e = absurd cc
   done_so (Err failures.InputLimit) h e = absurd cc
   done_so (Err (failures.Refused r)) h e = absurd cc
+  done_so (Err (failures.RefusedByTool r)) h e = absurd cc
   done_so (Err (failures.DesignLimit n)) h e = absurd cc
   done_so (Err (failures.FlatLimit n)) h e = absurd cc
 
@@ -90,6 +91,7 @@ module _ {O : Type 0} (taken : O → List ℕ → Type 0) (accepts : O → ℕ �
   broke_so (Err failures.NoMemory) h e = absurd cc
   broke_so (Err failures.InputLimit) h e = absurd cc
   broke_so (Err (failures.Refused r)) h e = absurd cc
+  broke_so (Err (failures.RefusedByTool r)) h e = absurd cc
   broke_so (Err (failures.DesignLimit n)) h e = absurd cc
   broke_so (Err (failures.FlatLimit n)) h e = absurd cc
 
@@ -101,6 +103,7 @@ module _ {O : Type 0} (taken : O → List ℕ → Type 0) (accepts : O → ℕ �
   cause_so failures.NoMemory h = tt
   cause_so failures.InputLimit h = h.0
   cause_so (failures.Refused r) h = h.0
+  cause_so (failures.RefusedByTool r) h = h.0
   cause_so (failures.DesignLimit n) h = h.0
   cause_so (failures.FlatLimit n) h = h.0
 
@@ -113,6 +116,7 @@ module _ {O : Type 0} (taken : O → List ℕ → Type 0) (accepts : O → ℕ �
   never_usage (Err failures.NoMemory) h e = absurd cc
   never_usage (Err failures.InputLimit) h e = absurd cc
   never_usage (Err (failures.Refused r)) h e = absurd cc
+  never_usage (Err (failures.RefusedByTool r)) h e = absurd cc
   never_usage (Err (failures.DesignLimit n)) h e = absurd cc
   never_usage (Err (failures.FlatLimit n)) h e = absurd cc
 
@@ -126,12 +130,13 @@ module _ {O : Type 0} (taken : O → List ℕ → Type 0) (accepts : O → ℕ �
   unwritten_so (Err failures.NoMemory) h n w = h.1
   unwritten_so (Err failures.InputLimit) h n w = h.1
   unwritten_so (Err (failures.Refused r)) h n w = h.1
+  unwritten_so (Err (failures.RefusedByTool r)) h n w = h.1
   unwritten_so (Err (failures.DesignLimit k)) h n w = h.1
   unwritten_so (Err (failures.FlatLimit k)) h n w = h.1
 
 -- ---- what the bytes are decides, from what was done
 
-module _ {O : Type 0} (taken : O → List ℕ → Type 0) (accepts : O → ℕ → Type 0) (faults : O → ℕ) (m : Meaning) (exact : IsExact m.question.language) (i j : Supply) (old new : O) where
+module _ {O : Type 0} (taken : O → List ℕ → Type 0) (accepts : O → ℕ → Type 0) (faults : O → ℕ) (m : Meaning) (settled : IsSettled m.question) (i j : Supply) (old new : O) where
   abbrev done : Result (Unit {0}) Failure → Type 0
   done = Does taken accepts faults m i j old new
 
@@ -139,17 +144,18 @@ module _ {O : Type 0} (taken : O → List ℕ → Type 0) (accepts : O → ℕ �
   puts_fine = gives_fine taken accepts faults m i j old new
 
   due_where : (o : Outcome) → IfSome i.left (λ bs. Gives m.question bs o) → IfSome i.left (λ bs. FitsBytes m bs (status_due o))
-  due_where o h = if_told i.left (λ bs. Gives m.question bs o) (λ bs. FitsBytes m bs (status_due o)) h (λ bs. due_fits m exact bs o)
+  due_where o h = if_told i.left (λ bs. Gives m.question bs o) (λ bs. FitsBytes m bs (status_due o)) h (λ bs. due_fits m settled bs o)
 
   pub fits_bytes : (r : Result (Unit {0}) Failure) → done r → IfSome i.left (λ bs. FitsBytes m bs (ending r))
   fits_bytes (Ok u) h = due_where (judged fine) (puts_fine (Ok tt) h)
   fits_bytes (Err (failures.Text f)) h = due_where (faulty f) h.0.first
-  fits_bytes (Err failures.ReadFault) h = any_told i.left (λ bs. FitsBytes m bs statuses.ReadFault) (λ bs. read_fault_fits m exact bs)
-  fits_bytes (Err failures.WriteFault) h = if_told i.left (λ bs. Gives m.question bs (judged fine)) (λ bs. FitsBytes m bs statuses.WriteFault) (puts_fine (Err h.0) h.1) (λ bs. broken_fits m exact bs)
+  fits_bytes (Err failures.ReadFault) h = any_told i.left (λ bs. FitsBytes m bs statuses.ReadFault) (λ bs. read_fault_fits m settled bs)
+  fits_bytes (Err failures.WriteFault) h = if_told i.left (λ bs. Gives m.question bs (judged fine)) (λ bs. FitsBytes m bs statuses.WriteFault) (puts_fine (Err h.0) h.1) (λ bs. broken_fits m settled bs)
   fits_bytes (Err failures.Usage) h = absurd h.0
-  fits_bytes (Err failures.NoMemory) h = any_told i.left (λ bs. FitsBytes m bs statuses.NoMemory) (λ bs. no_memory_fits m exact bs)
+  fits_bytes (Err failures.NoMemory) h = any_told i.left (λ bs. FitsBytes m bs statuses.NoMemory) (λ bs. no_memory_fits m settled bs)
   fits_bytes (Err failures.InputLimit) h = due_where too_long h.0
   fits_bytes (Err (failures.Refused r)) h = due_where (judged (breaks r)) (said_of_bytes m (breaks r) i.left h.0)
+  fits_bytes (Err (failures.RefusedByTool r)) h = due_where (judged (breaks_of_tool r)) (said_of_bytes m (breaks_of_tool r) i.left h.0)
   fits_bytes (Err (failures.DesignLimit n)) h = due_where (judged (exceeds n)) (said_of_bytes m (exceeds n) i.left h.0)
   fits_bytes (Err (failures.FlatLimit n)) h = due_where (judged (exceeds_flat n)) (said_of_bytes m (exceeds_flat n) i.left h.0)
 
@@ -157,18 +163,19 @@ module _ {O : Type 0} (taken : O → List ℕ → Type 0) (accepts : O → ℕ �
   failed = Rose (faults old) (faults new)
 
   decided_where : (o : Outcome) → IfSome i.left (λ bs. Gives m.question bs o) → IfSome i.left (λ bs. IsDecided m bs failed (status_due o))
-  decided_where o h = if_told i.left (λ bs. Gives m.question bs o) (λ bs. IsDecided m bs failed (status_due o)) h (λ bs. due_decided m exact bs failed o)
+  decided_where o h = if_told i.left (λ bs. Gives m.question bs o) (λ bs. IsDecided m bs failed (status_due o)) h (λ bs. due_decided m settled bs failed o)
 
   pub is_decided : (r : Result (Unit {0}) Failure) → done r → ¬ Rose i.faults j.faults → IfSome i.left (λ bs. IsDecided m bs failed (ending r))
   is_decided (Ok u) h n = decided_where (judged fine) (puts_fine (Ok tt) h)
   is_decided (Err (failures.Text f)) h n = decided_where (faulty f) h.0.first
   is_decided (Err failures.ReadFault) h n = absurd (n h.0)
   is_decided (Err failures.WriteFault) h n =
-      if_told i.left (λ bs. Gives m.question bs (judged fine)) (λ bs. IsDecided m bs failed statuses.WriteFault) (puts_fine (Err h.0) h.1) (λ bs gives. broken_decided m exact bs failed gives h.1.put.cause.failed)
+      if_told i.left (λ bs. Gives m.question bs (judged fine)) (λ bs. IsDecided m bs failed statuses.WriteFault) (puts_fine (Err h.0) h.1) (λ bs gives. broken_decided m settled bs failed gives h.1.put.cause.failed)
   is_decided (Err failures.Usage) h n = absurd h.0
-  is_decided (Err failures.NoMemory) h n = any_told i.left (λ bs. IsDecided m bs failed statuses.NoMemory) (λ bs. no_memory_decided m exact bs failed)
+  is_decided (Err failures.NoMemory) h n = any_told i.left (λ bs. IsDecided m bs failed statuses.NoMemory) (λ bs. no_memory_decided m settled bs failed)
   is_decided (Err failures.InputLimit) h n = decided_where too_long h.0
   is_decided (Err (failures.Refused r)) h n = decided_where (judged (breaks r)) (said_of_bytes m (breaks r) i.left h.0)
+  is_decided (Err (failures.RefusedByTool r)) h n = decided_where (judged (breaks_of_tool r)) (said_of_bytes m (breaks_of_tool r) i.left h.0)
   is_decided (Err (failures.DesignLimit k)) h n = decided_where (judged (exceeds k)) (said_of_bytes m (exceeds k) i.left h.0)
   is_decided (Err (failures.FlatLimit k)) h n = decided_where (judged (exceeds_flat k)) (said_of_bytes m (exceeds_flat k) i.left h.0)
 
@@ -220,8 +227,8 @@ module _ {S O : Type 0} (left : S → Option (List ℕ)) (count : S → ℕ) (ta
     usage = (λ e. absurd (never_usage taken accepts faults (meaning_of c) before after old new r h e), λ none. absurd (none c is));
     unread = λ e. absurd (never_usage taken accepts faults (meaning_of c) before after old new r h e);
     unwritten = unwritten_so taken accepts faults (meaning_of c) before after old new r h;
-    exact = for_command words c is _ (fits_bytes taken accepts faults (meaning_of c) (exact_of c) before after old new r h);
-    complete = λ n. for_command words c is _ (is_decided taken accepts faults (meaning_of c) (exact_of c) before after old new r h n);
+    exact = for_command words c is _ (fits_bytes taken accepts faults (meaning_of c) (settled_of c) before after old new r h);
+    complete = λ n. for_command words c is _ (is_decided taken accepts faults (meaning_of c) (settled_of c) before after old new r h n);
   }
 
   -- the same for a status that is known to be the one of the answer
@@ -247,6 +254,7 @@ never_done failures.Usage e = cc
 never_done failures.NoMemory e = cc
 never_done failures.InputLimit e = cc
 never_done (failures.Refused r) e = cc
+never_done (failures.RefusedByTool r) e = cc
 never_done (failures.DesignLimit n) e = cc
 never_done (failures.FlatLimit n) e = cc
 

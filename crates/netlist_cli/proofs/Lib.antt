@@ -1,5 +1,6 @@
 pub mod Lines
 pub mod Told
+pub mod SpiceSaid
 pub mod Results
 pub mod Verdicts
 pub mod Halting

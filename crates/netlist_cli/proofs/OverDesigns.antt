@@ -1,5 +1,5 @@
 -- What a command does that asks for the design of its input.
-use Rattle.std.proofs.Common.{◌≡◌, ℕ, List, Option, Some, None, IfSome, Result, Ok, Err, refl, ap, ◌∙◌}
+use Rattle.std.proofs.Common.{◌≡◌, ℕ, List, Option, Some, None, IfSome, Result, Ok, Err, refl, ap}
 use Rattle.std.specs.Prelude.{IfOk, MatchResult}
 use Rattle.std.specs.Io.KnownBytes.{IsAtEnd}
 use Rattle.nl_io.specs.declared.source.Failed.{Failed}
@@ -21,6 +21,9 @@ use Rattle.net_lint.specs.Lints.{HasLinted}
 use Rattle.net_bits.specs.Names.{NameSet}
 use Rattle.net_hier.specs.Constants.{ConstantNames}
 use Rattle.net_hier.specs.Design.{Design}
+use Rattle.spice_text.specs.Texts.{spice_text}
+use Rattle.spice_text.specs.declared.file.SpiceFile.{SpiceFile}
+use Rattle.to_spice.specs.Answers.{IsSpiceFor}
 use Rattle.vlog_design.specs.Names.{Name}
 use Rattle.vlog_design_laws.proofs.ShortNames.{short_names}
 use Rattle.vlog_design_laws.proofs.SoundValues.{sound}
@@ -33,35 +36,35 @@ use Rattle.vlog_values.specs.declared.module.VlogFile.{VlogFile}
 use Rattle.vlog_writer.specs.Forms.{vlog_text}
 use Rattle.netlist_cli.specs.declared.failure.Failure.{Failure}
 use Rattle.netlist_cli.specs.declared.failure.Failure.TheVariants as failures
-use Rattle.netlist_cli.specs.Designs.{HasDesign, IsDesignRead, IsNoDesign, Makes, MakesOf, PutsMade, question_of, AreModulesFor}
-use Rattle.netlist_cli.specs.Meanings.{IsEdifOf, IsMadeOfDesign, IsVerilogOf, Judgement, any_design, edif, edif_verdict, few_flat, meaning, of_design, target_rules, verilog, verilog_verdict}
+use Rattle.netlist_cli.specs.Designs.{AreModulesFor, HasDesign, IsDesignRead, IsNoDesign, Makes, MakesOf, PutsMade, first_question}
+use Rattle.netlist_cli.specs.Meanings.{IsEdifOf, IsMadeOfDesign, IsSpiceOf, IsVerilogOf, Judgement, SaysOfEdif, SaysOfVerilog, any_design, edif, edif_first, few_flat, meaning, of_design, spice_rules, target_rules, verilog, verilog_first}
 use Rattle.netlist_cli.specs.Outcomes.{FileLanguage, Verdict, fine, or_refused}
 use Rattle.netlist_cli.specs.Runs.{Does, IsFailureOf}
 use Rattle.netlist_cli.specs.Statuses.{after_writing}
-use Rattle.netlist_cli.proofs.Halting.{halted, said_unwritten, said_causes}
-use Rattle.netlist_cli.proofs.Verdicts.{of_edif_design, of_design_under, few_are_fine}
+use Rattle.netlist_cli.proofs.Halting.{cause_then, halted, said_causes, said_unwritten}
+use Rattle.netlist_cli.proofs.Verdicts.{few_are_fine, of_design_under, of_edif_design, said_at_first}
 
 -- ---- from a file that was read to its design
 
 pub edif_design_is_read : (i j : Supply) (file : EdifFile) → IfSome i.left (λ bytes. EdifReads bytes file) → IsAtEnd j.left → (found : Result Design Failure)
-    → MatchResult found (edif_answers.IsDesignOf file) (λ f. (judge : Judgement) → IsFailureOf (edif_verdict judge file) f) → MatchResult found (IsDesignRead None i j) (IsNoDesign None i j)
+    → MatchResult found (edif_answers.IsDesignOf file) (IsFailureOf (λ verdict. edif_first file ≡ Some verdict)) → MatchResult found (IsDesignRead None i j) (IsNoDesign None i j)
 edif_design_is_read i j file reads ended (Ok design) h = record { file = file; reads_as = reads; ended = ended; is_design = h }
 edif_design_is_read i j file reads ended (Err f) h = record {
-  unwritten = said_unwritten (edif_verdict any_design file) f (h any_design);
-  cause = λ judge. said_causes (question_of None judge) i j file reads f (h judge);
+  unwritten = said_unwritten (λ verdict. edif_first file ≡ Some verdict) f h;
+  cause = said_causes (first_question None) i j file reads f h;
 }
 
 pub design_under_is_read : (top : Name) (i j : Supply) (file : VlogFile) → IfSome i.left (λ bytes. VlogReads bytes file) → IsAtEnd j.left → (found : Result Design Failure)
-    → MatchResult found (verilog_answers.IsDesignOf file top) (λ f. (judge : Judgement) → IsFailureOf (verilog_verdict top judge file) f) → MatchResult found (IsDesignRead (Some top) i j) (IsNoDesign (Some top) i j)
+    → MatchResult found (verilog_answers.IsDesignOf file top) (IsFailureOf (λ verdict. verilog_first top file ≡ Some verdict)) → MatchResult found (IsDesignRead (Some top) i j) (IsNoDesign (Some top) i j)
 design_under_is_read top i j file reads ended (Ok design) h = record { file = file; reads_as = reads; ended = ended; is_design = h }
 design_under_is_read top i j file reads ended (Err f) h = record {
-  unwritten = said_unwritten (verilog_verdict top any_design file) f (h any_design);
-  cause = λ judge. said_causes (question_of (Some top) judge) i j file reads f (h judge);
+  unwritten = said_unwritten (λ verdict. verilog_first top file ≡ Some verdict) f h;
+  cause = said_causes (first_question (Some top)) i j file reads f h;
 }
 
 -- the design of a Verilog file that can be written can be written in EDIF
 pub design_under_is_sound : (top : Name) (file : VlogFile) → IsVlogValue file → (found : Result Design Failure)
-    → MatchResult found (verilog_answers.IsDesignOf file top) (λ f. (judge : Judgement) → IsFailureOf (verilog_verdict top judge file) f) → IfOk found IsSoundDesign
+    → MatchResult found (verilog_answers.IsDesignOf file top) (IsFailureOf (λ verdict. verilog_first top file ≡ Some verdict)) → IfOk found IsSoundDesign
 design_under_is_sound top file value (Ok design) h =
     let said : IsVlogDesign file top design = record { same_cells = h.same_cells; same_top = h.same_top; same_props = h.same_props } in
     sound_design design (short_names file top value design said) (sound file top value design said)
@@ -71,13 +74,13 @@ design_under_is_sound top file value (Err f) h = tt
 
 module _ {O : Type 0} (taken : O → List ℕ → Type 0) (accepts : O → ℕ → Type 0) (faults : O → ℕ) (old new : O) where
   -- a text that is made of a design is written, or a front of it
-  pub text_is_made : (said : Verdict) (IsMade : List ℕ → Type 0) (text : List ℕ) (r : Result (Unit {0}) Failed) → said ≡ fine → IsMade text → Writes taken accepts faults old new text r
+  pub text_is_made : (said : Verdict → Type 0) (IsMade : List ℕ → Type 0) (text : List ℕ) (r : Result (Unit {0}) Failed) → said fine → IsMade text → Writes taken accepts faults old new text r
       → Makes taken accepts faults said IsMade old new (after_writing r)
   text_is_made said IsMade text (Ok done) f made w = record { is_fine = f; text = text; made = made; put = w }
   text_is_made said IsMade text (Err failed) f made w = (failed, record { is_fine = f; text = text; made = made; put = w })
 
   -- nothing is made of a design
-  pub none_is_made : (said : Verdict) (IsMade : List ℕ → Type 0) (f : Failure) → IsFailureOf said f → new ≡ old → Makes taken accepts faults said IsMade old new (Err f)
+  pub none_is_made : (said : Verdict → Type 0) (IsMade : List ℕ → Type 0) (f : Failure) → IsFailureOf said f → new ≡ old → Makes taken accepts faults said IsMade old new (Err f)
   none_is_made said IsMade (failures.Text f) h s = absurd h
   none_is_made said IsMade failures.ReadFault h s = absurd h
   none_is_made said IsMade failures.WriteFault h s = absurd h
@@ -85,6 +88,7 @@ module _ {O : Type 0} (taken : O → List ℕ → Type 0) (accepts : O → ℕ �
   none_is_made said IsMade failures.NoMemory h s = (tt, s)
   none_is_made said IsMade failures.InputLimit h s = absurd h
   none_is_made said IsMade (failures.Refused r) h s = (h, s)
+  none_is_made said IsMade (failures.RefusedByTool r) h s = (h, s)
   none_is_made said IsMade (failures.DesignLimit n) h s = (h, s)
   none_is_made said IsMade (failures.FlatLimit n) h s = (h, s)
 
@@ -105,20 +109,26 @@ module _ {O : Type 0} (taken : O → List ℕ → Type 0) (accepts : O → ℕ �
       text_is_made (target_rules params design.cells design.top design.props) (IsVerilogOf design) (vlog_text modules) r (ap (λ first. or_refused first fine) h.translated.no_refusal)
       (record { modules = modules; same = h.translated.same; is_text = refl; spells = text_spells modules h.value }) w
 
+  -- subcircuits of a design are written, or a front of their text
+  pub subcircuits_are_made : (design : Design) (file : SpiceFile) (r : Result (Unit {0}) Failed) → IsSpiceFor design file → Writes taken accepts faults old new (spice_text file) r
+      → MakesOf taken accepts faults spice_rules IsSpiceOf design old new (after_writing r)
+  subcircuits_are_made design file r same w =
+      text_is_made (spice_rules design.cells design.top design.props) (IsSpiceOf design) (spice_text file) r same.keeps_rules (record { file = file; same = same; is_text = refl }) w
+
   -- an EDIF file of a design is written, or a front of its text
   pub edif_is_made : (design : Design) (names : ConstantNames) (file : EdifFile) (r : Result (Unit {0}) Failed) → IsEdifFor names design file → IsEdifValue file → Writes taken accepts faults old new (edif_text file) r
       → MakesOf taken accepts faults any_design (IsEdifOf names) design old new (after_writing r)
   edif_is_made design names file r same value w =
-      text_is_made fine (IsEdifOf names design) (edif_text file) r refl (record { file = file; same = same; is_text = refl; spells = edif_law.text_spells file value }) w
+      text_is_made (any_design design.cells design.top design.props) (IsEdifOf names design) (edif_text file) r refl (record { file = file; same = same; is_text = refl; spells = edif_law.text_spells file value }) w
 
   module _ (i j : Supply) where
-    module _ (language : FileLanguage) (verdict : language.File → Verdict) (IsDesignOf : language.File → Design → Type 0) (IsMade : Design → List ℕ → Type 0) (design : Design)
-        (h : HasDesign language.reads IsDesignOf i j design) (said : Verdict) (e : verdict h.file ≡ said) where
+    module _ (language : FileLanguage) (IsSaid : language.File → Verdict → Type 0) (IsDesignOf : language.File → Design → Type 0) (IsMade : Design → List ℕ → Type 0) (design : Design)
+        (h : HasDesign language.reads IsDesignOf i j design) (said : Verdict → Type 0) (of_file : (verdict : Verdict) → said verdict → IsSaid h.file verdict) where
       -- what is done with the design of a file, in the words of the file
-      over_file : (r : Result (Unit {0}) Failure) → Makes taken accepts faults said (IsMade design) old new r → Does taken accepts faults (meaning language verdict (IsMadeOfDesign IsDesignOf IsMade)) i j old new r
+      over_file : (r : Result (Unit {0}) Failure) → Makes taken accepts faults said (IsMade design) old new r → Does taken accepts faults (meaning language IsSaid (IsMadeOfDesign IsDesignOf IsMade)) i j old new r
       over_file (Ok done) m = record {
         text = m.text;
-        is_text = record { file = h.file; reads_as = h.reads_as; is_fine = e ∙ m.is_fine; made = record { design = design; is_design = h.is_design; made = m.made } };
+        is_text = record { file = h.file; reads_as = h.reads_as; is_fine = of_file fine m.is_fine; made = record { design = design; is_design = h.is_design; made = m.made } };
         ended = h.ended;
         put = m.put;
       }
@@ -126,7 +136,7 @@ module _ {O : Type 0} (taken : O → List ℕ → Type 0) (accepts : O → ℕ �
         m.0,
         record {
           text = m.1.text;
-          is_text = record { file = h.file; reads_as = h.reads_as; is_fine = e ∙ m.1.is_fine; made = record { design = design; is_design = h.is_design; made = m.1.made } };
+          is_text = record { file = h.file; reads_as = h.reads_as; is_fine = of_file fine m.1.is_fine; made = record { design = design; is_design = h.is_design; made = m.1.made } };
           ended = h.ended;
           put = m.1.put;
         },
@@ -136,18 +146,23 @@ module _ {O : Type 0} (taken : O → List ℕ → Type 0) (accepts : O → ℕ �
       over_file (Err failures.Usage) m = absurd m.0
       over_file (Err failures.NoMemory) m = (tt, m.1)
       over_file (Err failures.InputLimit) m = absurd m.0
-      over_file (Err (failures.Refused r)) m = (record { file = h.file; reads_as = h.reads_as; is_verdict = e ∙ m.0 }, m.1)
-      over_file (Err (failures.DesignLimit n)) m = (record { file = h.file; reads_as = h.reads_as; is_verdict = e ∙ m.0 }, m.1)
-      over_file (Err (failures.FlatLimit n)) m = (record { file = h.file; reads_as = h.reads_as; is_verdict = e ∙ m.0 }, m.1)
+      over_file (Err (failures.Refused r)) m = (record { file = h.file; reads_as = h.reads_as; is_said = of_file _ m.0 }, m.1)
+      over_file (Err (failures.RefusedByTool r)) m = (record { file = h.file; reads_as = h.reads_as; is_said = of_file _ m.0 }, m.1)
+      over_file (Err (failures.DesignLimit n)) m = (record { file = h.file; reads_as = h.reads_as; is_said = of_file _ m.0 }, m.1)
+      over_file (Err (failures.FlatLimit n)) m = (record { file = h.file; reads_as = h.reads_as; is_said = of_file _ m.0 }, m.1)
 
     -- what a command does with the design that it got
     pub design_is_used : (top : Option Name) (judge : Judgement) (IsMade : Design → List ℕ → Type 0) (design : Design) → IsDesignRead top i j design → (r : Result (Unit {0}) Failure)
         → MakesOf taken accepts faults judge IsMade design old new r → Does taken accepts faults (of_design top judge IsMade) i j old new r
-    design_is_used None judge IsMade design h r m = over_file edif (edif_verdict judge) edif_answers.IsDesignOf IsMade design h _ (of_edif_design h.file design judge h.is_design) r m
+    design_is_used None judge IsMade design h r m = over_file edif (SaysOfEdif judge) edif_answers.IsDesignOf IsMade design h _ (of_edif_design h.file design judge h.is_design) r m
     design_is_used (Some top) judge IsMade design h r m =
-        over_file verilog (verilog_verdict top judge) (λ file read. verilog_answers.IsDesignOf file top read) IsMade design h _ (of_design_under top h.file design judge h.is_design) r m
+        over_file verilog (SaysOfVerilog top judge) (λ file read. verilog_answers.IsDesignOf file top read) IsMade design h _ (of_design_under top h.file design judge h.is_design) r m
 
     -- there is no design
     pub no_design_is_told : (top : Option Name) (judge : Judgement) (IsMade : Design → List ℕ → Type 0) (f : Failure) → IsNoDesign top i j f → new ≡ old → Does taken accepts faults (of_design top judge IsMade) i j old new (Err f)
-    no_design_is_told None judge IsMade f h s = halted taken accepts faults (of_design None judge IsMade) i j old new f h.unwritten (h.cause judge) s
-    no_design_is_told (Some top) judge IsMade f h s = halted taken accepts faults (of_design (Some top) judge IsMade) i j old new f h.unwritten (h.cause judge) s
+    no_design_is_told None judge IsMade f h s =
+        halted taken accepts faults (of_design None judge IsMade) i j old new f h.unwritten
+        (cause_then edif (λ file verdict. edif_first file ≡ Some verdict) (SaysOfEdif judge) (λ file verdict. said_at_first _ verdict (edif_first file)) i j f h.cause) s
+    no_design_is_told (Some top) judge IsMade f h s =
+        halted taken accepts faults (of_design (Some top) judge IsMade) i j old new f h.unwritten
+        (cause_then verilog (λ file verdict. verilog_first top file ≡ Some verdict) (SaysOfVerilog top judge) (λ file verdict. said_at_first _ verdict (verilog_first top file)) i j f h.cause) s

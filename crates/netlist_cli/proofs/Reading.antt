@@ -39,26 +39,26 @@ error_unwritten errors.TooLong h = absurd cc
 error_unwritten errors.NoMemory h = absurd cc
 error_unwritten errors.Spent h = absurd cc
 
-module _ {K X V : Type 0} (L : Language X) (trail : X → Reason) (k : K) (part : PartOf K X V) (verdict : V → Verdict) where
+module _ {K X V : Type 0} (L : Language X) (trail : X → Reason) (k : K) (part : PartOf K X V) (IsSaid : V → Verdict → Type 0) where
   -- an error of a reader has its cause
-  pub error_causes : (e : ReadError) (i j : Supply) → ReadsText L trail k same part (Err e) i j → IsCause (record { language = texts L trail k part; verdict = verdict }) i j (failure_of e)
+  pub error_causes : (e : ReadError) (i j : Supply) → ReadsText L trail k same part (Err e) i j → IsCause (record { language = texts L trail k part; IsSaid = IsSaid }) i j (failure_of e)
   error_causes (errors.Text f) i j h = record { first = h.error; taken = h.taken; left = h.left; near = h.near }
   error_causes errors.ReadFault i j h = h.cause refl
   error_causes errors.TooLong i j h = h.error
   error_causes errors.NoMemory i j h = tt
   error_causes errors.Spent i j h = absurd (h.never_spent refl)
 
-module _ {K X V O : Type 0} (L : Language X) (trail : X → Reason) (k : K) (part : PartOf K X V) (verdict : V → Verdict) (IsMade : V → List ℕ → Type 0)
+module _ {K X V O : Type 0} (L : Language X) (trail : X → Reason) (k : K) (part : PartOf K X V) (IsSaid : V → Verdict → Type 0) (IsMade : V → List ℕ → Type 0)
     (taken : O → List ℕ → Type 0) (accepts : O → ℕ → Type 0) (faults : O → ℕ) (i j : Supply) (old new : O) where
   abbrev m : Meaning
-  m = meaning (texts L trail k part) verdict IsMade
+  m = meaning (texts L trail k part) IsSaid IsMade
 
   -- a text that is made of the file that was read is written, or a front of it
-  pub text_is_put : (v : V) (text : List ℕ) (r : Result (Unit {0}) Failed) → ReadsText L trail k same part (Ok v) i j → verdict v ≡ fine → IsMade v text → Writes taken accepts faults old new text r
+  pub text_is_put : (v : V) (text : List ℕ) (r : Result (Unit {0}) Failed) → ReadsText L trail k same part (Ok v) i j → IsSaid v fine → IsMade v text → Writes taken accepts faults old new text r
       → Does taken accepts faults m i j old new (after_writing r)
   text_is_put v text (Ok done) h f made w = record { text = text; is_text = record { file = v; reads_as = h.value; is_fine = f; made = made }; ended = h.ended; put = w }
   text_is_put v text (Err failed) h f made w = (failed, record { text = text; is_text = record { file = v; reads_as = h.value; is_fine = f; made = made }; ended = h.ended; put = w })
 
   -- no file was read
   pub error_is_told : (e : ReadError) → ReadsText L trail k same part (Err e) i j → new ≡ old → Does taken accepts faults m i j old new (Err (failure_of e))
-  error_is_told e h s = halted taken accepts faults m i j old new (failure_of e) (error_unwritten e) (error_causes L trail k part verdict e i j h) s
+  error_is_told e h s = halted taken accepts faults m i j old new (failure_of e) (error_unwritten e) (error_causes L trail k part IsSaid e i j h) s

@@ -16,7 +16,7 @@ use Rattle.vlog_values.specs.Values.{IsVlogValue}
 use Rattle.vlog_values.specs.declared.module.VlogFile.{VlogFile}
 use Rattle.netlist_cli.specs.declared.failure.Failure.{Failure}
 use Rattle.netlist_cli.specs.declared.failure.Failure.TheVariants as failures
-use Rattle.netlist_cli.specs.Meanings.{Judgement, edif, edif_verdict, verilog, verilog_verdict}
+use Rattle.netlist_cli.specs.Meanings.{Judgement, edif, edif_first, verilog, verilog_first}
 use Rattle.netlist_cli.specs.Outcomes.{Question, Verdict, fine}
 use Rattle.netlist_cli.specs.Runs.{IsCause, IsFailureOf}
 
@@ -34,30 +34,30 @@ abbrev pub IsDesignRead : Option Name → Supply → Supply → Design → Type 
 IsDesignRead None i j design = HasDesign EdifReads edif_answers.IsDesignOf i j design
 IsDesignRead (Some top) i j design = HasDesign VlogReads (λ file read. verilog_answers.IsDesignOf file top read) i j design
 
--- what a command asks that judges designs so
-abbrev pub question_of : Option Name → Judgement → Question
-question_of None judge = record { language = edif; verdict = edif_verdict judge }
-question_of (Some top) judge = record { language = verilog; verdict = verilog_verdict top judge }
+-- what is asked of a file before a command asks anything of its design
+abbrev pub first_question : Option Name → Question
+first_question None = record { language = edif; IsSaid = λ file verdict. edif_first file ≡ Some verdict }
+first_question (Some top) = record { language = verilog; IsSaid = λ file verdict. verilog_first top file ≡ Some verdict }
 
--- why there is no design, however a command judges designs
+-- why there is no design, whatever a command asks of it
 pub record IsNoDesign (top : Option Name) (i j : Supply) (failure : Failure) : Type 0 where
   pub unwritten : failure ≢ failures.WriteFault
-  pub cause : (judge : Judgement) → IsCause (question_of top judge) i j failure
+  pub cause : IsCause (first_question top) i j failure
 
 -- ---- from a design to a text
 
 -- Nothing is wrong with a design, and this is how the writing of a text that may be made of it went.
-pub record PutsMade {O : Type 0} (taken : O → List ℕ → Type 0) (accepts : O → ℕ → Type 0) (faults : O → ℕ) (said : Verdict) (IsMade : List ℕ → Type 0) (old new : O) (result : Result (Unit {0}) Failed) : Type 0 where
-  pub is_fine : said ≡ fine
+pub record PutsMade {O : Type 0} (taken : O → List ℕ → Type 0) (accepts : O → ℕ → Type 0) (faults : O → ℕ) (IsSaid : Verdict → Type 0) (IsMade : List ℕ → Type 0) (old new : O) (result : Result (Unit {0}) Failed) : Type 0 where
+  pub is_fine : IsSaid fine
   pub text : List ℕ
   pub made : IsMade text
   pub put : Writes taken accepts faults old new text result
 
 -- What a command does with a design of which this is said.
-abbrev pub Makes : {O : Type 0} → (O → List ℕ → Type 0) → (O → ℕ → Type 0) → (O → ℕ) → Verdict → (List ℕ → Type 0) → O → O → Result (Unit {0}) Failure → Type 0
-Makes taken accepts faults said IsMade old new (Ok u) = PutsMade taken accepts faults said IsMade old new (Ok tt)
-Makes taken accepts faults said IsMade old new (Err failures.WriteFault) = (e : Failed) × PutsMade taken accepts faults said IsMade old new (Err e)
-Makes taken accepts faults said IsMade old new (Err f) = IsFailureOf said f × (new ≡ old)
+abbrev pub Makes : {O : Type 0} → (O → List ℕ → Type 0) → (O → ℕ → Type 0) → (O → ℕ) → (Verdict → Type 0) → (List ℕ → Type 0) → O → O → Result (Unit {0}) Failure → Type 0
+Makes taken accepts faults IsSaid IsMade old new (Ok u) = PutsMade taken accepts faults IsSaid IsMade old new (Ok tt)
+Makes taken accepts faults IsSaid IsMade old new (Err failures.WriteFault) = (e : Failed) × PutsMade taken accepts faults IsSaid IsMade old new (Err e)
+Makes taken accepts faults IsSaid IsMade old new (Err f) = IsFailureOf IsSaid f × (new ≡ old)
 
 -- the same for a judgement of designs
 abbrev pub MakesOf : {O : Type 0} → (O → List ℕ → Type 0) → (O → ℕ → Type 0) → (O → ℕ) → Judgement → (Design → List ℕ → Type 0) → Design → O → O → Result (Unit {0}) Failure → Type 0

@@ -1,4 +1,5 @@
 pub mod Statuses
+pub mod Tools
 pub mod Lines
 pub mod Outcomes
 pub mod Meanings

@@ -9,6 +9,8 @@ use Rattle.nl_base.specs.declared.fault.Reason.{Reason}
 use Rattle.nl_base.specs.declared.fault.TextFault.{TextFault}
 use Rattle.netlist_cli.specs.declared.failure.Failure.{Failure}
 use Rattle.netlist_cli.specs.declared.failure.Failure.TheVariants as failures
+use Rattle.netlist_cli.specs.declared.tools.ToolRefusal.{ToolRefusal}
+use Rattle.netlist_cli.specs.Tools.{tool_rule_name}
 
 -- a blank and the word, where there is one
 abbrev pub word_then : Option (List ℕ) → List ℕ → List ℕ
@@ -33,8 +35,16 @@ names_then [] rest = rest
 names_then (name ∷ names) rest = codes " " ++ quoted name (names_then names rest)
 
 -- refused RULE CELL, and the names
-unfoldable pub refusal_then : Refusal → List ℕ → List ℕ
-refusal_then r rest = codes "refused " ++ (rule_name r.rule ++ (codes " " ++ quoted r.cell (names_then r.names rest)))
+unfoldable pub refused_then : List ℕ → List ℕ → List (List ℕ) → List ℕ → List ℕ
+refused_then rule cell names rest = codes "refused " ++ (rule ++ (codes " " ++ quoted cell (names_then names rest)))
+
+-- a refusal by a rule of a language
+abbrev pub refusal_then : Refusal → List ℕ → List ℕ
+refusal_then r = refused_then (rule_name r.rule) r.cell r.names
+
+-- a refusal by a rule of a tool
+abbrev pub tool_refusal_then : ToolRefusal → List ℕ → List ℕ
+tool_refusal_then r = refused_then (tool_rule_name r.rule) r.cell r.names
 
 -- limit KIND NUMBER
 unfoldable pub limit_then : List ℕ → ℕ → List ℕ → List ℕ
@@ -44,6 +54,7 @@ limit_then kind n rest = codes "limit " ++ (kind ++ (codes " " ++ (decimal n ++ 
 unfoldable pub message_then : Failure → List ℕ → List ℕ
 message_then (failures.Text f) rest = fault_then f rest
 message_then (failures.Refused r) rest = refusal_then r rest
+message_then (failures.RefusedByTool r) rest = tool_refusal_then r rest
 message_then failures.ReadFault rest = codes "read fault" ++ rest
 message_then failures.WriteFault rest = codes "write fault" ++ rest
 message_then failures.Usage rest = usage ++ rest

@@ -17,6 +17,10 @@ use Rattle.edif_design.specs.Design.{edif_design}
 use Rattle.edif_design.specs.FileRules.{first_E}
 use Rattle.edif_rereading.specs.Whole.{EdifSpells}
 use Rattle.edif_resolve.specs.Answers as edif_answers
+use Rattle.spice_text.specs.Texts.{spice_text}
+use Rattle.spice_text.specs.declared.file.SpiceFile.{SpiceFile}
+use Rattle.to_spice.specs.Answers.{IsSpiceFor}
+use Rattle.to_spice_rules.specs.Answers.{KeepsRules}
 use Rattle.to_verilog.specs.Answers.{IsVerilogFor}
 use Rattle.to_verilog_rules.specs.Rules.{first_V}
 use Rattle.vlog_design.specs.Design.{vlog_design}
@@ -29,7 +33,8 @@ use Rattle.vlog_values.specs.declared.module.VlogFile.{VlogFile}
 use Rattle.vlog_writer.specs.Forms.{vlog_text}
 use Rattle.netlist_words.specs.declared.command.Command.{Command}
 use Rattle.netlist_words.specs.declared.command.Command.TheVariants as commands
-use Rattle.netlist_cli.specs.Outcomes.{FileLanguage, Meaning, Verdict, fine, or_refused, or_too_big, or_too_flat}
+use Rattle.netlist_cli.specs.Outcomes.{FileLanguage, Meaning, SaidThen, Verdict, fine, breaks, breaks_of_tool, exceeds, exceeds_flat, or_refused, or_too_flat, said_first}
+use Rattle.netlist_cli.specs.Tools.{BreaksSpice}
 
 -- ---- the two languages
 
@@ -42,23 +47,32 @@ verilog = record { File = VlogFile; reads = VlogReads; fault = VlogFault; cut = 
 -- ---- what is said of a file: the rules of its language, then the limit of a design, and then what the command asks of the design
 
 -- what a command says of a design, by its cells, the number of its top and its properties
-abbrev pub Judgement : Type 0
-Judgement = List HCell → ℕ → List HProp → Verdict
+abbrev pub Judgement : Type 1
+Judgement = List HCell → ℕ → List HProp → Verdict → Type 0
 
-abbrev pub edif_verdict : Judgement → EdifFile → Verdict
-edif_verdict judge file = or_refused (first_E file) (or_too_big (units (edif_design file).cells) (judge (edif_design file).cells (edif_design file).top (edif_design file).props))
+-- what is said of an EDIF file before a command asks anything of its design
+abbrev pub edif_first : EdifFile → Option Verdict
+edif_first file = said_first (first_E file) (units (edif_design file).cells)
 
-abbrev pub verilog_verdict : Name → Judgement → VlogFile → Verdict
-verilog_verdict top judge file =
-    or_refused (first_G file top) (or_too_big (units (vlog_design file top).cells) (judge (vlog_design file top).cells (vlog_design file top).top (vlog_design file top).props))
+-- and of a Verilog file under the module of this name
+abbrev pub verilog_first : Name → VlogFile → Option Verdict
+verilog_first top file = said_first (first_G file top) (units (vlog_design file top).cells)
+
+-- what is said of an EDIF file by a command that says this of designs
+abbrev pub SaysOfEdif : Judgement → EdifFile → Verdict → Type 0
+SaysOfEdif judge file = SaidThen (edif_first file) (judge (edif_design file).cells (edif_design file).top (edif_design file).props)
+
+-- and of a Verilog file under the module of this name
+abbrev pub SaysOfVerilog : Name → Judgement → VlogFile → Verdict → Type 0
+SaysOfVerilog top judge file = SaidThen (verilog_first top file) (judge (vlog_design file top).cells (vlog_design file top).top (vlog_design file top).props)
 
 -- each design will do
 abbrev pub any_design : Judgement
-any_design cells top props = fine
+any_design cells top props verdict = fine ≡ verdict
 
 -- the flat count is within the limit of the flat tools
 abbrev pub few_flat : Judgement
-few_flat cells top props = or_too_flat (flat_count cells top) fine
+few_flat cells top props verdict = or_too_flat (flat_count cells top) fine ≡ verdict
 
 -- the set with these names too
 abbrev pub with_names : NameSet → List Name → NameSet
@@ -71,7 +85,15 @@ params_of names = with_names (record { up_to_case = false; names = [] }) names
 
 -- the rules of Verilog as a target, where these are the names of parameters
 abbrev pub target_rules : NameSet → Judgement
-target_rules params cells top props = or_refused (first_V cells top props (has_name params)) fine
+target_rules params cells top props verdict = or_refused (first_V cells top props (has_name params)) fine ≡ verdict
+
+-- the rules of SPICE: none is broken, or this is the first object of the lowest broken rule
+abbrev pub spice_rules : Judgement
+spice_rules cells top props fine = KeepsRules cells
+spice_rules cells top props (breaks refusal) = ⊥
+spice_rules cells top props (breaks_of_tool refusal) = BreaksSpice cells refusal
+spice_rules cells top props (exceeds count) = ⊥
+spice_rules cells top props (exceeds_flat count) = ⊥
 
 -- ---- the texts
 
@@ -95,6 +117,12 @@ pub record IsEdifOf (names : ConstantNames) (design : Design) (text : List ℕ) 
   pub is_text : text ≡ edif_text file
   pub spells : EdifSpells text file
 
+-- The text is that of subcircuits that have the same pins as the design, whose rules of SPICE it keeps; it reads as these subcircuits.
+pub record IsSpiceOf (design : Design) (text : List ℕ) : Type 0 where
+  pub file : SpiceFile
+  pub same : IsSpiceFor design file
+  pub is_text : text ≡ spice_text file
+
 -- The text is made of a design that says what the file says.
 pub record IsMadeOfDesign {File : Type 0} (IsDesignOf : File → Design → Type 0) (IsMade : Design → List ℕ → Type 0) (file : File) (text : List ℕ) : Type 0 where
   pub design : Design
@@ -104,20 +132,21 @@ pub record IsMadeOfDesign {File : Type 0} (IsDesignOf : File → Design → Type
 -- ---- the commands
 
 -- what a command asks of a file, and the texts that may be written
-abbrev pub meaning : (language : FileLanguage) → (language.File → Verdict) → (language.File → List ℕ → Type 0) → Meaning
-meaning language verdict IsMade = record { question = record { language = language; verdict = verdict }; IsMade = IsMade }
+abbrev pub meaning : (language : FileLanguage) → (language.File → Verdict → Type 0) → (language.File → List ℕ → Type 0) → Meaning
+meaning language IsSaid IsMade = record { question = record { language = language; IsSaid = IsSaid }; IsMade = IsMade }
 
 -- what a command asks of a design: that of an EDIF file, or that of a Verilog file under the module of this name
 abbrev pub of_design : Option Name → Judgement → (Design → List ℕ → Type 0) → Meaning
-of_design None judge IsMade = meaning edif (edif_verdict judge) (IsMadeOfDesign edif_answers.IsDesignOf IsMade)
-of_design (Some top) judge IsMade = meaning verilog (verilog_verdict top judge) (IsMadeOfDesign (λ file design. verilog_answers.IsDesignOf file top design) IsMade)
+of_design None judge IsMade = meaning edif (SaysOfEdif judge) (IsMadeOfDesign edif_answers.IsDesignOf IsMade)
+of_design (Some top) judge IsMade = meaning verilog (SaysOfVerilog top judge) (IsMadeOfDesign (λ file design. verilog_answers.IsDesignOf file top design) IsMade)
 
 -- the table of the commands, one line for each
 abbrev pub meaning_of : Command → Meaning
-meaning_of commands.Format = meaning edif (λ file. fine) (λ file text. text ≡ edif_text file)
-meaning_of commands.Vformat = meaning verilog (λ file. fine) (λ file text. text ≡ vlog_text file)
+meaning_of commands.Format = meaning edif (λ file verdict. fine ≡ verdict) (λ file text. text ≡ edif_text file)
+meaning_of commands.Vformat = meaning verilog (λ file verdict. fine ≡ verdict) (λ file text. text ≡ vlog_text file)
 meaning_of (commands.Check top) = of_design top any_design (λ design text. text ≡ ok_text)
 meaning_of (commands.Report top names) = of_design top few_flat (IsReport names)
 meaning_of (commands.Lint top names) = of_design top few_flat (IsLint names)
 meaning_of (commands.ToVerilog names) = of_design None (target_rules (params_of names)) IsVerilogOf
 meaning_of (commands.ToEdif top names) = of_design (Some top) any_design (IsEdifOf names)
+meaning_of (commands.ToSpice top) = of_design top spice_rules IsSpiceOf

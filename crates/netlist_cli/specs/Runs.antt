@@ -15,7 +15,7 @@ use Rattle.netlist_cli.specs.declared.status.Status.{Status}
 use Rattle.netlist_cli.specs.declared.status.Status.TheVariants as statuses
 use Rattle.netlist_cli.specs.Statuses.{status_of}
 use Rattle.netlist_cli.specs.Lines.{line}
-use Rattle.netlist_cli.specs.Outcomes.{Meaning, Question, Verdict, breaks, exceeds, exceeds_flat, Outcome, faulty, too_long, status_due, IsWriting, Says, Gives, IsTextFrom}
+use Rattle.netlist_cli.specs.Outcomes.{Meaning, Question, Verdict, breaks, breaks_of_tool, exceeds, exceeds_flat, Outcome, faulty, too_long, status_due, IsWriting, Says, Gives, IsTextFrom}
 use Rattle.netlist_cli.specs.Meanings.{meaning_of}
 
 -- The input was read to its end, and this is how the writing of a text that may be written went.
@@ -62,6 +62,7 @@ IsCause q i j failures.Usage = ⊥
 IsCause q i j failures.NoMemory = ⊤
 IsCause q i j failures.InputLimit = IfSome i.left (λ bs. Gives q bs too_long)
 IsCause q i j (failures.Refused r) = Says q i.left (breaks r)
+IsCause q i j (failures.RefusedByTool r) = Says q i.left (breaks_of_tool r)
 IsCause q i j (failures.DesignLimit n) = Says q i.left (exceeds n)
 IsCause q i j (failures.FlatLimit n) = Says q i.left (exceeds_flat n)
 
@@ -98,12 +99,13 @@ Does taken accepts faults m i j old new (Err failures.WriteFault) = BrokeOff tak
 Does taken accepts faults m i j old new (Err f) = IsCause m.question i j f × (new ≡ old)
 
 -- Why nothing is written for a file of which this is said; want of memory has no cause.
-abbrev pub IsFailureOf : Verdict → Failure → Type 0
-IsFailureOf verdict (failures.Refused r) = verdict ≡ breaks r
-IsFailureOf verdict (failures.DesignLimit n) = verdict ≡ exceeds n
-IsFailureOf verdict (failures.FlatLimit n) = verdict ≡ exceeds_flat n
-IsFailureOf verdict failures.NoMemory = ⊤
-IsFailureOf verdict f = ⊥
+abbrev pub IsFailureOf : (Verdict → Type 0) → Failure → Type 0
+IsFailureOf IsSaid (failures.Refused r) = IsSaid (breaks r)
+IsFailureOf IsSaid (failures.RefusedByTool r) = IsSaid (breaks_of_tool r)
+IsFailureOf IsSaid (failures.DesignLimit n) = IsSaid (exceeds n)
+IsFailureOf IsSaid (failures.FlatLimit n) = IsSaid (exceeds_flat n)
+IsFailureOf IsSaid failures.NoMemory = ⊤
+IsFailureOf IsSaid f = ⊥
 
 -- What is done for a command, if there is one.
 abbrev pub Performs : {S O : Type 0} → (O → List ℕ → Type 0) → (O → ℕ → Type 0) → (O → ℕ) → (S → Supply) → Option Command → S → S → O → O → Result (Unit {0}) Failure → Type 0

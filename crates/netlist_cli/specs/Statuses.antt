@@ -23,6 +23,7 @@ number_of statuses.Limit = 7
 abbrev pub status_of : Failure → Status
 status_of (failures.Text f) = statuses.TextFault
 status_of (failures.Refused r) = statuses.Refused
+status_of (failures.RefusedByTool r) = statuses.Refused
 status_of failures.ReadFault = statuses.ReadFault
 status_of failures.WriteFault = statuses.WriteFault
 status_of failures.Usage = statuses.Usage

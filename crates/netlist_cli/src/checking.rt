@@ -15,8 +15,8 @@ use std::alloc::Global;
 
 /// Says that a file breaks no rule.
 fn put_ok<O: Sink>(sink: &mut O) -> Result<(), Failure>
-    ensures { Makes O.taken O.accepts O.faults fine (λ text. text ≡ ok_text)
-        sink.old sink.new result }
+    ensures { Makes O.taken O.accepts O.faults (λ verdict. fine ≡ verdict)
+        (λ text. text ≡ ok_text) sink.old sink.new result }
 {
     let mut output = Output::new();
     output.put(b"ok\n", sink);

@@ -1,5 +1,5 @@
 // The design of an input, as the commands that ask for one get it.
-ghost use Rattle.std.specs.Prelude.{◌≤◌, IfOk, MatchResult, None, Some};
+ghost use Rattle.std.specs.Prelude.{◌≡◌, ◌≤◌, IfOk, MatchResult, None, Some};
 ghost use Rattle.net_hier.specs.Valid.{count_limit};
 ghost use Rattle.edif_library.specs.Sizes.{edif_size};
 ghost use Rattle.edif_plans.specs.Sound.{IsSoundDesign};
@@ -9,7 +9,7 @@ ghost use Rattle.vlog_elab.specs.Answers.{IsDesignOf as IsVlogDesign};
 ghost use Rattle.vlog_values.specs.Sizes.{vlog_size};
 ghost use Rattle.vlog_values.specs.Values.{IsVlogValue};
 ghost use Rattle.netlist_cli.specs.Designs.{IsDesignRead, IsNoDesign};
-ghost use Rattle.netlist_cli.specs.Meanings.{Judgement, edif_verdict, verilog_verdict};
+ghost use Rattle.netlist_cli.specs.Meanings.{edif_first, verilog_first};
 ghost use Rattle.netlist_cli.specs.Runs.{IsFailureOf, TakesFrom};
 
 use crate::failure::Failure;
@@ -24,11 +24,11 @@ use vlog_elab::{ResolveError as VlogError, elaborate};
 use vlog_sound::read_sound_vlog;
 use vlog_values::VlogFile;
 
-/// The design of an EDIF file, or why it has none, however designs are judged.
+/// The design of an EDIF file, or why it has none.
 fn design_of(alloc: Global, file: &EdifFile) -> Result<Hier, Failure>
     requires { edif_size file.now ≤ count_limit }
     ensures { MatchResult result (IsEdifDesign file.now)
-        (λ failure. (judge : Judgement) → IsFailureOf (edif_verdict judge file.now) failure) }
+        (IsFailureOf (λ verdict. edif_first file.now ≡ Some verdict)) }
 {
     match resolve(alloc, file) {
         Ok(design) => Ok(design),
@@ -40,13 +40,12 @@ fn design_of(alloc: Global, file: &EdifFile) -> Result<Hier, Failure>
     }
 }
 
-/// The design of a Verilog file under the module of this name, or why it has none, however designs are judged.
+/// The design of a Verilog file under the module of this name, or why it has none.
 fn design_under(alloc: Global, file: &VlogFile, top: &Text) -> Result<Hier, Failure>
     requires value { IsVlogValue file.now }
     requires small { vlog_size file.now ≤ count_limit }
     ensures { MatchResult result (IsVlogDesign file.now top.now)
-        (λ failure. (judge : Judgement)
-        → IsFailureOf (verilog_verdict top.now judge file.now) failure) }
+        (IsFailureOf (λ verdict. verilog_first top.now file.now ≡ Some verdict)) }
 {
     match elaborate(alloc, file, top) {
         Ok(design) => Ok(design),

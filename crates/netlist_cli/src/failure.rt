@@ -3,6 +3,7 @@ ghost use Rattle.netlist_cli.specs.Statuses.{after_writing, failure_of, status_o
 ghost use Rattle.nl_base.specs.declared.fault.ReadError.TheVariants as errors;
 
 use crate::status::Status;
+use crate::tools::ToolRefusal;
 use nl_base::{ReadError, Refusal, TextFault};
 use nl_io::Failed;
 
@@ -13,6 +14,8 @@ pub enum Failure {
     Text(TextFault),
     /// The file breaks a rule.
     Refused(Refusal),
+    /// The design breaks a rule of the tool that is asked for.
+    RefusedByTool(ToolRefusal),
     /// The input failed.
     ReadFault,
     /// The output failed.
@@ -51,6 +54,7 @@ impl Failure {
         match self {
             Failure::Text(_) => Status::TextFault,
             Failure::Refused(_) => Status::Refused,
+            Failure::RefusedByTool(_) => Status::Refused,
             Failure::ReadFault => Status::ReadFault,
             Failure::WriteFault => Status::WriteFault,
             Failure::Usage => Status::Usage,

@@ -1,13 +1,14 @@
 ghost use Rattle.std.specs.Prelude.{◌≡◌, ◌++◌};
 ghost use Rattle.nl_output.specs.Writing.{state, Puts, Writes};
-ghost use Rattle.netlist_cli.specs.Lines.{fault_then, limit_then, line, message_then, names_then, reason_then, refusal_then, word_then};
+ghost use Rattle.netlist_cli.specs.Lines.{fault_then, limit_then, line, message_then, names_then, reason_then, refusal_then, refused_then, tool_refusal_then, word_then};
 ghost use Rattle.netlist_cli.specs.Runs.{IsTold};
 ghost use Rattle.netlist_cli.specs.Statuses.{status_of};
 
 use crate::failure::Failure;
 use crate::status::Status;
+use crate::tools::ToolRefusal;
 use edif_writer::string::write_string;
-use nl_base::{Reason, Refusal, Text, TextFault};
+use nl_base::{Reason, Refusal, Seq, Text, TextFault};
 use nl_io::{Failed, Sink};
 use nl_output::Output;
 
@@ -56,17 +57,43 @@ fn put_names<E: Sink>(names: &[Text], output: &mut Output, errors: &mut E)
 }
 
 /// Puts a refusal by its rule, its cell and its names.
-#[tactic(auto, unfolding(crate::specs::Lines::refusal_then))]
+#[tactic(auto, unfolding(crate::specs::Lines::refused_then))]
+fn put_refused<E: Sink>(
+    rule: &[u8],
+    cell: &Text,
+    names: &Seq<Text>,
+    output: &mut Output,
+    errors: &mut E,
+)
+    ensures { Puts (refused_then rule.now cell.now names.now)
+        (state E.taken E.accepts E.faults errors.old output.old)
+        (state E.taken E.accepts E.faults errors.new output.new) }
+{
+    output.put(b"refused ", errors);
+    output.put(rule, errors);
+    output.put(b" ", errors);
+    write_string(cell.bytes(), output, errors);
+    put_names(names.items(), output, errors);
+}
+
+/// Puts a refusal by a rule of a language.
 fn put_refusal<E: Sink>(refusal: &Refusal, output: &mut Output, errors: &mut E)
     ensures { Puts (refusal_then refusal.now)
         (state E.taken E.accepts E.faults errors.old output.old)
         (state E.taken E.accepts E.faults errors.new output.new) }
 {
-    output.put(b"refused ", errors);
-    output.put(refusal.rule.name(), errors);
-    output.put(b" ", errors);
-    write_string(refusal.cell.bytes(), output, errors);
-    put_names(refusal.names.items(), output, errors);
+    let rule = refusal.rule.name();
+    put_refused(rule, &refusal.cell, &refusal.names, output, errors);
+}
+
+/// Puts a refusal by a rule of a tool.
+fn put_tool_refusal<E: Sink>(refusal: &ToolRefusal, output: &mut Output, errors: &mut E)
+    ensures { Puts (tool_refusal_then refusal.now)
+        (state E.taken E.accepts E.faults errors.old output.old)
+        (state E.taken E.accepts E.faults errors.new output.new) }
+{
+    let rule = refusal.rule.name();
+    put_refused(rule, &refusal.cell, &refusal.names, output, errors);
 }
 
 /// Puts a limit of this kind, and the number that passes it.
@@ -91,6 +118,7 @@ fn put_message<E: Sink>(failure: &Failure, output: &mut Output, errors: &mut E)
     match failure {
         Failure::Text(fault) => put_fault(fault, output, errors),
         Failure::Refused(refusal) => put_refusal(refusal, output, errors),
+        Failure::RefusedByTool(refusal) => put_tool_refusal(refusal, output, errors),
         Failure::ReadFault => output.put(b"read fault", errors),
         Failure::WriteFault => output.put(b"write fault", errors),
         Failure::Usage => output.put(USAGE, errors),

@@ -13,6 +13,7 @@ use crate::linting::write_findings;
 use crate::reporting::write_report;
 use crate::retranslating::translate_back;
 use crate::status::Status;
+use crate::subcircuits::write_subcircuits;
 use crate::translating::translate;
 use netlist_words::Command;
 use nl_base::{Seq, Text};
@@ -40,6 +41,7 @@ fn carry_out<S: Source, O: Sink>(
         Command::Lint(top, constants) => write_findings(alloc, top, constants, input, output),
         Command::ToVerilog(names) => translate(alloc, names, input, output),
         Command::ToEdif(top, constants) => translate_back(alloc, top, constants, input, output),
+        Command::ToSpice(top) => write_subcircuits(alloc, top, input, output),
     }
 }
 

@@ -6,7 +6,7 @@ use Rattle.nl_base.specs.declared.memory.NoMemory.{NoMemory}
 use Rattle.net_hier.specs.Constants.{ConstantNames, usual_names}
 use Rattle.net_hier.specs.declared.constants.ConstName.{ConstName}
 use Rattle.netlist_words.specs.Commands.{IsAsked, IsChosen, IsCommand, IsName, NamesDesign, NamesTop, option_words}
-use Rattle.netlist_words.specs.Parsing.{Wanted, are_options, behind_option, check_of, command, constants_behind, constants_of, if_none_left, lint_of, option_value, report_of, to_edif_for, to_edif_of, to_verilog_of, values_of, wanted_of}
+use Rattle.netlist_words.specs.Parsing.{Wanted, are_options, behind_option, check_of, command, constants_behind, constants_of, if_none_left, lint_of, option_value, report_of, to_edif_for, to_edif_of, to_spice_of, to_verilog_of, values_of, wanted_of}
 use Rattle.netlist_words.specs.declared.command.Command.{Command}
 use Rattle.netlist_words.specs.declared.command.Command.TheVariants as commands
 use Rattle.netlist_words.proofs.Taken.{same_text, not_empty, option_taken, option_named, none_left, options_taken, repeated_are, repeated_values, taken, passes_option, passes_words}
@@ -114,6 +114,11 @@ to_edif_is words c e = go (wanted_of words) refl e
     go None f e = absurd cc
     go (Some wanted) f e = top_there wanted.top wanted.names f e
 
+to_spice_is : (words : List (List ℕ)) (c : Command) → to_spice_of words ≡ Some c → IsCommand (codes "to-spice" ∷ words) c
+to_spice_is words c e =
+    let left = none_left (behind_top words) (Some (commands.ToSpice (option_value (codes "--top") words))) c e in
+    subst (λ (d : Command). IsCommand (codes "to-spice" ∷ words) d) (same_command _ _ left.1) (top_is (codes "to-spice") words left.0)
+
 format_is : (words : List (List ℕ)) (c : Command) → if_none_left words (Some commands.Format) ≡ Some c → IsCommand (codes "format" ∷ words) c
 format_is words c e =
     let left = none_left words (Some commands.Format) c e in
@@ -142,7 +147,8 @@ command_is (word ∷ words) c e =
     (either word (codes "report") words c _ _ (report_is words c)
     (either word (codes "lint") words c _ _ (lint_is words c)
     (either word (codes "to-verilog") words c _ _ (to_verilog_is words c)
-    (either word (codes "to-edif") words c _ None (to_edif_is words c) (λ h. absurd cc))))))) e
+    (either word (codes "to-edif") words c _ _ (to_edif_is words c)
+    (either word (codes "to-spice") words c _ None (to_spice_is words c) (λ h. absurd cc)))))))) e
 
 -- ---- what is asked for is found
 
@@ -172,6 +178,8 @@ is_found words (commands.Report top names) h = rw h.are (ap (option_map (λ want
 is_found words (commands.Lint top names) h = rw h.are (ap (option_map (λ wanted. commands.Lint wanted.top wanted.names)) (wanted_found (codes "lint") words top names h))
 is_found words (commands.ToVerilog names) h = rw h.are (rw (repeated_are (codes "--parameter") names h.named, repeated_values (codes "--parameter") names) refl)
 is_found words (commands.ToEdif top names) h = rw h.are (ap (option_and_then to_edif_for) (wanted_found (codes "to-edif") words (Some top) names h))
+is_found words (commands.ToSpice None) h = rw h.are refl
+is_found words (commands.ToSpice (Some top)) h = rw h.are (rw (not_empty top h.named) refl)
 
 -- words ask for one command at most
 pub one_command : (words : List (List ℕ)) (c d : Command) → IsCommand words c → IsCommand words d → c ≡ d

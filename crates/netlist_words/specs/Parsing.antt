@@ -114,6 +114,10 @@ to_edif_for wanted = option_map (λ top. commands.ToEdif top wanted.names) wante
 abbrev pub to_edif_of : List (List ℕ) → Option Command
 to_edif_of words = option_and_then to_edif_for (wanted_of words)
 
+-- `to-spice [--top NAME]`, by the words behind `to-spice`
+abbrev pub to_spice_of : List (List ℕ) → Option Command
+to_spice_of words = if_none_left (behind_option (codes "--top") words) (Some (commands.ToSpice (option_value (codes "--top") words)))
+
 -- the command whose form the words have, if any
 abbrev pub command : List (List ℕ) → Option Command
 command [] = None
@@ -124,4 +128,5 @@ command (word ∷ words) =
     else (if same_bytes word (codes "report") then report_of words
     else (if same_bytes word (codes "lint") then lint_of words
     else (if same_bytes word (codes "to-verilog") then to_verilog_of words
-    else (if same_bytes word (codes "to-edif") then to_edif_of words else None))))))
+    else (if same_bytes word (codes "to-edif") then to_edif_of words
+    else (if same_bytes word (codes "to-spice") then to_spice_of words else None)))))))

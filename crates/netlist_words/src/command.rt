@@ -1,7 +1,7 @@
 ghost use Rattle.std.specs.Prelude.{◌≡◌, IfSome, IsSome, IsTrue, MatchOption, MatchResult, None, Some};
 ghost use Rattle.netlist_words.specs.Commands.{IsAsked, IsCommand};
 ghost use Rattle.netlist_words.specs.Lent.{lent_names, lent_wanted};
-ghost use Rattle.netlist_words.specs.Parsing.{are_constants, check_of, command, constants_behind, if_none_left, lint_of, report_of, to_edif_of, to_verilog_of, wanted_of};
+ghost use Rattle.netlist_words.specs.Parsing.{are_constants, check_of, command, constants_behind, if_none_left, lint_of, report_of, to_edif_of, to_spice_of, to_verilog_of, wanted_of};
 ghost use Rattle.netlist_words.specs.declared.command.Command.{Command as CommandValue};
 
 use crate::constants::{Names, constants_of, copied_constants};
@@ -28,6 +28,8 @@ pub enum Command {
     ToVerilog(Seq<Text>),
     /// Reads a Verilog file and writes the design under the module of this name in EDIF, where these cells stand for the constants.
     ToEdif(Text, Constants),
+    /// Writes a design as SPICE subcircuits.
+    ToSpice(Option<Text>),
 }
 
 /// A design that is asked for: the name of its top module, if any, and the names of the constants.
@@ -148,6 +150,19 @@ fn to_edif_of(alloc: Global, words: &[Text]) -> Result<Option<Command>, NoMemory
     }
 }
 
+/// `to-spice`, with these words behind it.
+fn to_spice_of(alloc: Global, words: &[Text]) -> Result<Option<Command>, NoMemory>
+    ensures { MatchResult result (λ found. found ≡ to_spice_of words.now)
+        (λ _. IsSome (to_spice_of words.now)) }
+{
+    let named = take_option(b"--top", words);
+    if !named.rest.is_empty() {
+        return Ok(None);
+    }
+    let top = copied(alloc, named.value)?;
+    Ok(Some(Command::ToSpice(top)))
+}
+
 /// The command of which this is the word and these are the words behind it.
 fn parsed(alloc: Global, words: &Seq<Text>) -> Result<Option<Command>, NoMemory>
     ensures { MatchResult result (λ found. found ≡ command words.now)
@@ -180,6 +195,10 @@ fn parsed(alloc: Global, words: &Seq<Text>) -> Result<Option<Command>, NoMemory>
     }
     if word.bytes() == b"to-edif".as_slice() {
         let found = to_edif_of(alloc, options)?;
+        return Ok(found);
+    }
+    if word.bytes() == b"to-spice".as_slice() {
+        let found = to_spice_of(alloc, options)?;
         return Ok(found);
     }
     Ok(None)

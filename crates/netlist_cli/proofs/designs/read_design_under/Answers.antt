@@ -1,4 +1,5 @@
-use Rattle.netlist_cli.specs.Meanings.{verilog_verdict}
+use Rattle.std.proofs.Common.{◌≡◌, Some}
+use Rattle.netlist_cli.specs.Meanings.{verilog_first}
 use Rattle.netlist_cli.proofs.Reading.{error_causes, error_unwritten, text_takes}
 use Rattle.netlist_cli.proofs.OverDesigns.{design_under_is_read, design_under_is_sound}
 use Rattle.netlist_cli.proofs.designs.read_design_under.Goals as goal
@@ -17,6 +18,6 @@ returns-in-Err g c =
     let read = rw c.in-Err.is at c.read_sound_vlog.ensures.reads in
     record {
       sound = tt;
-      reads = rw c.of_read_error.ensures (record { unwritten = error_unwritten c.in-Err.error; cause = λ judge. error_causes _ _ _ _ (verilog_verdict c.args.top.now judge) c.in-Err.error _ _ read });
+      reads = rw c.of_read_error.ensures (record { unwritten = error_unwritten c.in-Err.error; cause = error_causes _ _ _ _ (λ file verdict. verilog_first c.args.top.now file ≡ Some verdict) c.in-Err.error _ _ read });
       taken = text_takes _ _ _ _ _ _ c.read_sound_vlog.result c.read_sound_vlog.ensures.reads;
     }

@@ -1,4 +1,5 @@
-use Rattle.netlist_cli.specs.Meanings.{edif_verdict}
+use Rattle.std.proofs.Common.{◌≡◌, Some}
+use Rattle.netlist_cli.specs.Meanings.{edif_first}
 use Rattle.netlist_cli.proofs.Reading.{error_causes, error_unwritten, text_takes}
 use Rattle.netlist_cli.proofs.OverDesigns.{edif_design_is_read}
 use Rattle.netlist_cli.proofs.designs.read_edif_design.Goals as goal
@@ -15,6 +16,6 @@ pub returns-in-Err : goal.returns-in-Err
 returns-in-Err g c =
     let read = rw c.in-Err.is at c.read_sized_edif.ensures.reads in
     record {
-      reads = rw c.of_read_error.ensures (record { unwritten = error_unwritten c.in-Err.error; cause = λ judge. error_causes _ _ _ _ (edif_verdict judge) c.in-Err.error _ _ read });
+      reads = rw c.of_read_error.ensures (record { unwritten = error_unwritten c.in-Err.error; cause = error_causes _ _ _ _ (λ file verdict. edif_first file ≡ Some verdict) c.in-Err.error _ _ read });
       taken = text_takes _ _ _ _ _ _ c.read_sized_edif.result c.read_sized_edif.ensures.reads;
     }

@@ -29,6 +29,10 @@ pub returns-in-Refused : goal.returns-in-Refused
 unfolding message_then
 returns-in-Refused g c = λ b rest h. c.put_refusal.ensures b rest (rw c.in-Refused.is at h)
 
+pub returns-in-RefusedByTool : goal.returns-in-RefusedByTool
+unfolding message_then
+returns-in-RefusedByTool g c = λ b rest h. c.put_tool_refusal.ensures b rest (rw c.in-RefusedByTool.is at h)
+
 pub returns-in-DesignLimit : goal.returns-in-DesignLimit
 unfolding message_then
 returns-in-DesignLimit g c = λ b rest h. c.put_limit.ensures b rest (rw c.in-DesignLimit.is at h)
