@@ -1,0 +1,5 @@
+pub mod Fits
+pub mod Names
+pub mod Sums
+pub mod UnitLaws
+pub mod Whole
