@@ -1,4 +1,7 @@
 ghost use Rattle.std.specs.Prelude.{IfSome};
+ghost use Rattle.edif_library.specs.Text.{EdifReads};
+ghost use Rattle.edif_library.specs.declared.file.EdifFile.{EdifFile};
+ghost use Rattle.edif_resolve.specs.Answers.{IsDesignOf};
 ghost use Rattle.to_verilog.specs.Answers.{IsVerilogFor};
 
 use edif_resolve::resolve;
@@ -10,8 +13,11 @@ use std::alloc::Global;
 use to_verilog::to_verilog;
 use vlog_values::VlogFile;
 
-/// The design of an EDIF text that breaks no rule of EDIF.
-pub fn design_of<S: Source>(alloc: Global, source: &mut S) -> Option<Hier> {
+/// The design of an EDIF text that breaks no rule of EDIF, where there is one within the limits.
+pub fn design_of<S: Source>(alloc: Global, source: &mut S) -> Option<Hier>
+    ensures { IfSome result (λ design. (file : EdifFile)
+        × IfSome (S.left source.old) (λ bytes. EdifReads bytes file) × IsDesignOf file design) }
+{
     let file = read_sized_edif(alloc, source).ok()?;
     resolve(alloc, &file).ok()
 }
