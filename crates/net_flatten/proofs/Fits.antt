@@ -23,14 +23,12 @@ use Rattle.flat_numbers.proofs.Rows.{last_or_less}
 use Rattle.flat_numbers.proofs.SpotLaws.{SpotFacts, in_either, spot_facts}
 use Rattle.flat_numbers.specs.Spots.{top_spot}
 use Rattle.flat_numbers.specs.declared.spots.Spot.{Spot}
-use Rattle.net_flatten.proofs.Names.{mapped_nothing, names_differ}
 use Rattle.net_flatten.proofs.Sums.{once_filter}
 use Rattle.net_flatten_cells.proofs.FlatLaws.{inner_leaf}
 use Rattle.net_flatten_cells.proofs.OrderLaws.{StandOnce, order_all, order_once}
+use Rattle.net_flatten_refusals.specs.Named.{HaveOwnJoinedNames}
 use Rattle.net_flatten_rules.specs.FlatDesign.{cell_at, cell_or_none, face, flat_cells, flat_top, inner, join_at, joins_from, leaf_cells, leaf_instance, no_cell, node_of, numbered_net, place_in, stands_at, wired}
-use Rattle.net_flatten_rules.specs.Joined.{name_at}
-use Rattle.net_flatten_rules.specs.Rules.{names_twice, refused, repeated}
-use Rattle.net_flatten_rules.specs.declared.refusal.FlattenRule.TheVariants.{F1}
+use Rattle.net_flatten_same.proofs.Lists.{mapped_at}
 use Rattle.net_graph.proofs.ListLaws.{element_there}
 use Rattle.net_graph.proofs.OrderLaws.{StandsIn, contained, front_or_last, get_front, get_last}
 use Rattle.net_graph.proofs.WalkLaws.{linked_by, linked_itself}
@@ -38,7 +36,7 @@ use Rattle.net_graph.specs.Graph.{IsAbove, IsReached, ReachesItself}
 use Rattle.net_graph.specs.Walks.{Leads}
 use Rattle.net_hier.specs.Cells.{IsPinBit, IsPortBit, width_of}
 use Rattle.net_hier.specs.Constants.{ConstantNames}
-use Rattle.net_hier.specs.Design.{Design, IsCell, below_of, cells_below, top_name}
+use Rattle.net_hier.specs.Design.{Design, IsCell, below_of, cells_below}
 use Rattle.net_hier.specs.Paths.{Path}
 use Rattle.net_hier.specs.Valid.{IsGoodCell, IsHier, IsJoinOf, IsNode}
 use Rattle.net_hier.specs.declared.cells.HCell.{HCell}
@@ -47,12 +45,6 @@ use Rattle.net_hier.specs.declared.cells.HPort.{HPort}
 use Rattle.net_hier.specs.declared.nodes.Join.{Join}
 
 -- ---- lists
-
--- what is mapped comes of an element at its place
-pub mapped_from : {A B : Type 0} (f : A → B) (xs : List A) (i : ℕ) (y : B) → slice_get (map f xs) i ≡ Some y → (x : A) × (slice_get xs i ≡ Some x) × (f x ≡ y)
-mapped_from f [] i y e = absurd (cc)
-mapped_from f (x ∷ xs) zero y e = (x, refl, cc)
-mapped_from f (x ∷ xs) (suc i) y e = mapped_from f xs i y e
 
 -- a number that is there stands at its place
 pub place_there : (numbers : List ℕ) (number : ℕ) → Contains numbers number → slice_get numbers (place_in numbers number) ≡ Some number
@@ -82,7 +74,7 @@ record FromGroup (terminals : List Terminal) (leaves : List ℕ) (least bound : 
 from_group : (terminals : List Terminal) (leaves : List ℕ) (least : ℕ) (groups : List (List ℕ)) (i : ℕ) (join : Join) → slice_get (joins_from terminals leaves least groups) i ≡ Some join → FromGroup terminals leaves least (least + length groups) join
 from_group terminals leaves least [] i join e = absurd (cc)
 from_group terminals leaves least (members ∷ groups) i join e = elim (in_either (map (join_at terminals leaves least) members) (joins_from terminals leaves (suc least) groups) i join e) [
-  | inl f ↦ let (place, there, is) = mapped_from (join_at terminals leaves least) members i join f in record { net = least; within = omega arith; place = place; is = is }
+  | inl f ↦ let (place, there, is) = mapped_at (join_at terminals leaves least) members i join f in record { net = least; within = omega arith; place = place; is = is }
   | inr (j, at, f) ↦
       let g : FromGroup terminals leaves (suc least) (suc least + length groups) join = from_group terminals leaves (suc least) groups j join f in
       let lt = g.within in
@@ -135,7 +127,7 @@ module _ (names : ConstantNames) (design : Design) (hier : IsHier design) (few :
 
   pub face_or_top : (place : ℕ) (cell : HCell) → IsCell cells place cell → IsFace place cell ⊎ ((place ≡ length numbers) × (the_top ≡ cell))
   face_or_top place cell e = elim (front_or_last (map the_face numbers) the_top place cell e) as (λ _. IsFace place cell ⊎ ((place ≡ length numbers) × (the_top ≡ cell))) [
-    | inl f ↦ let (number, there, is) = mapped_from the_face numbers place cell f in inl (record { number = number; is_there = there; is = is })
+    | inl f ↦ let (number, there, is) = mapped_at the_face numbers place cell f in inl (record { number = number; is_there = there; is = is })
     | inr f ↦ inr (f.0 ∙ faces_long, f.1)
   ]
 
@@ -256,22 +248,19 @@ module _ (names : ConstantNames) (design : Design) (hier : IsHier design) (few :
         widths = good.widths;
       }
 
-  module _ (none : names_twice design paths flat ≡ []) where
+  module _ (own : HaveOwnJoinedNames paths leaves) where
     joined_differ : (place oplace : ℕ) (a b : HInst) → slice_get the_top.instances place ≡ Some a → slice_get the_top.instances oplace ≡ Some b → a.name ≡ b.name → place ≡ oplace
     joined_differ place oplace a b e f same =
-        let (leaf, there, is) = mapped_from the_leaf leaves place a e in
-        let (other, othere, ois) = mapped_from the_leaf leaves oplace b f in
-        let nothing : repeated [] (map (name_at paths) leaves) ≡ [] = mapped_nothing (λ name. refused F1 (top_name design.cells design.top) (name ∷ [])) (repeated [] (map (name_at paths) leaves)) none in
-        let names_same : name_at paths other ≡ name_at paths leaf = ap (λ (i : HInst). i.name) ois ∙ (sym same ∙ sym (ap (λ (i : HInst). i.name) is)) in
-        names_differ [] (map (name_at paths) leaves) nothing place oplace (name_at paths leaf) (map_there (name_at paths) leaves place leaf there)
-        (map_there (name_at paths) leaves oplace other othere ∙ ap Some names_same)
+        let (leaf, there, is) = mapped_at the_leaf leaves place a e in
+        let (other, othere, ois) = mapped_at the_leaf leaves oplace b f in
+        own place oplace leaf other there othere (ap (λ (i : HInst). i.name) is ∙ (same ∙ sym (ap (λ (i : HInst). i.name) ois)))
 
     top_good : IsGoodCell cells the_top
     top_good =
         let good : IsGoodCell design.cells (cell_or_none design.cells design.top) = hier.valid.good_cells design.top (cell_or_none design.cells design.top) top_cell in
         record {
           instances_in_range = λ place instance e.
-              let (leaf, there, is) = mapped_from the_leaf leaves place instance e in
+              let (leaf, there, is) = mapped_at the_leaf leaves place instance e in
               let lt = leaf_within leaf (contains_there leaves place leaf there) in
               let l = long in
               let below : place_in numbers (cell_at flat.spots leaf) < length cells = omega (arith, lt, l) in
@@ -311,13 +300,13 @@ module _ (names : ConstantNames) (design : Design) (hier : IsHier design) (few :
 
   only_top_above : (outer inner : ℕ) → IsAbove (cells_below cells) outer inner → (outer ≡ length numbers) × (inner < length numbers)
   only_top_above outer inner above =
-      let (cell, is_cell, are_numbers) = mapped_from below_of cells outer above.numbers above.are_below in
+      let (cell, is_cell, are_numbers) = mapped_at below_of cells outer above.numbers above.are_below in
       let there : slice_get (below_of cell) above.place ≡ Some inner = subst (λ ns. slice_get ns above.place ≡ Some inner) (sym are_numbers) above.is_there in
       elim (face_or_top outer cell is_cell) as (λ _. (outer ≡ length numbers) × (inner < length numbers)) [
         | inl f ↦ absurd (nothing_below (subst (λ (c : HCell). slice_get (below_of c) above.place ≡ Some inner) (sym f.is) there))
         | inr t ↦
-            let (instance, is_instance, is_inner) = mapped_from (λ (i : HInst). i.cell) the_top.instances above.place inner (subst (λ (c : HCell). slice_get (below_of c) above.place ≡ Some inner) (sym t.1) there) in
-            let (leaf, is_leaf, is) = mapped_from the_leaf leaves above.place instance is_instance in
+            let (instance, is_instance, is_inner) = mapped_at (λ (i : HInst). i.cell) the_top.instances above.place inner (subst (λ (c : HCell). slice_get (below_of c) above.place ≡ Some inner) (sym t.1) there) in
+            let (leaf, is_leaf, is) = mapped_at the_leaf leaves above.place instance is_instance in
             (t.0, subst (λ n. n < length numbers) (ap (λ (i : HInst). i.cell) is ∙ is_inner) (leaf_within leaf (contains_there leaves above.place leaf is_leaf)))
       ]
     where

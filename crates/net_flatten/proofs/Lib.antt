@@ -1,5 +1,4 @@
 pub mod Fits
-pub mod Names
 pub mod Sums
 pub mod UnitLaws
 pub mod Whole

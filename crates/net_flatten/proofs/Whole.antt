@@ -1,6 +1,5 @@
 -- the cells of a flattened design are those of a design, and what `flatten` answers
-use Rattle.std.proofs.Common.{◌≡◌, ℕ, ◌+◌, ◌-◌, ◌≤◌, inl, inr, List, [], ◌++◌, refl, ap, subst, slice_get, Some, length, arith}
-use Rattle.std.specs.List.{flat_map}
+use Rattle.std.proofs.Common.{◌≡◌, ℕ, ◌+◌, ◌-◌, ◌≤◌, inl, inr, List, [], refl, ap, subst, slice_get, Some, length, arith}
 use Rattle.std.specs.Prelude.{◌∷◌, IfOk, MatchResult, None, Result, Ok, Err}
 use Rattle.std.proofs.lemmas.List.{length-map}
 use Rattle.flat_classes.specs.FlatFaults.{IsFlatFault}
@@ -10,13 +9,13 @@ use Rattle.flat_classes.specs.declared.flat.FlatFault.{FlatFault}
 use Rattle.flat_classes.specs.declared.flat.FlatFault.TheVariants as faults
 use Rattle.flat_report.specs.Report.{ArePaths}
 use Rattle.net_flatten.proofs.Fits.{all_reached, face_or_top, good, leaves, long, numbers, the_leaf}
-use Rattle.net_flatten.proofs.Names.{both_nothing}
 use Rattle.net_flatten.proofs.UnitLaws.{numbers_short}
 use Rattle.net_flatten.specs.Flattening.{IsFlattenError, IsFlattening, flatten_fault}
 use Rattle.net_flatten.specs.declared.flattening.FlattenError.{FlattenError}
 use Rattle.net_flatten_cells.proofs.CellLaws.{inner_few}
-use Rattle.net_flatten_rules.specs.FlatDesign.{flat_cells}
-use Rattle.net_flatten_rules.specs.Rules.{first_of, long_in_cell, long_in_design, names_twice, refusals}
+use Rattle.net_flatten_refusals.specs.Named.{HaveOwnJoinedNames}
+use Rattle.net_flatten_rules.specs.FlatDesign.{flat_cells, inner}
+use Rattle.net_flatten_rules.specs.Rules.{first_of, refusals}
 use Rattle.net_flatten_rules.specs.SameFlat.{SameFlat}
 use Rattle.net_flatten_same.proofs.Same.{unrefused_same}
 use Rattle.net_graph.specs.Graph.{IsFirstRecursion, ReachesItself}
@@ -26,10 +25,6 @@ use Rattle.net_hier.specs.Design.{Design}
 use Rattle.net_hier.specs.Paths.{Path}
 use Rattle.net_hier.specs.Valid.{CellsFit, IsHier, IsValid, count_limit}
 use Rattle.net_hier.specs.declared.cells.HCell.{HCell}
-
--- where there is no refusal, no joined name is repeated
-pub none_twice : (design : Design) (paths : List Path) (flat : FlatValue) → refusals design paths flat ≡ [] → names_twice design paths flat ≡ []
-none_twice design paths flat none = (both_nothing (names_twice design paths flat) (flat_map long_in_cell (flat_cells design paths flat) ++ long_in_design design) none).0
 
 module _ (names : ConstantNames) (design : Design) (hier : IsHier design) (few : IsFewFlat design) (flat : FlatValue) (are : AreFlatClasses names design flat) (paths : List Path) where
   abbrev ks : List HCell
@@ -54,11 +49,11 @@ module _ (names : ConstantNames) (design : Design) (hier : IsHier design) (few :
   ]
 
   -- the cells fit
-  pub cells_fit : names_twice design paths flat ≡ [] → CellsFit ks (length ks - 1)
-  cells_fit none = subst (CellsFit ks) top_is (record {
+  pub cells_fit : HaveOwnJoinedNames paths (inner flat.leaves) → CellsFit ks (length ks - 1)
+  cells_fit own = subst (CellsFit ks) top_is (record {
     few_parts = record { few_cells = let s = numbers_short names design hier few flat are paths in let l = is_long in omega (arith, s, l); few_instances = few_in };
     has_top = let l = is_long in omega (arith, l);
-    good_cells = good names design hier few flat are paths none;
+    good_cells = good names design hier few flat are paths own;
     reached = all_reached names design hier few flat are paths;
   })
 

@@ -1,9 +1,9 @@
 -- the leaves and terminals of a design that is flattened
-use Rattle.std.proofs.Common.{◌≡◌, ℕ, ◌<◌, List, true, not, eqb, refl, get_or, slice_get, length, Some, arith, All}
+use Rattle.std.proofs.Common.{◌≡◌, ℕ, ◌<◌, List, true, not, eqb, refl, get_or, slice_get, length, Some, arith}
 use Rattle.std.specs.Prelude.{Contains}
 use Rattle.std.proofs.lemmas.Bool.Decides.{nat_tests}
 use Rattle.std.proofs.lemmas.Option.{slice_get-get_or, slice_get_within}
-use Rattle.flat_classes.proofs.LeafLists.{all_of, from_filter}
+use Rattle.flat_classes.proofs.LeafLists.{from_filter}
 use Rattle.flat_classes.specs.Terminals.{AreFlatClasses, FlatValue, IsLeafSpot}
 use Rattle.flat_classes.specs.declared.flat.Terminal.{Terminal}
 use Rattle.flat_numbers.proofs.SpotLaws.{HasParent, SpotFacts, spot_facts}
@@ -53,9 +53,6 @@ module _ (names : ConstantNames) (design : Design) (flat : FlatValue) (are : Are
   -- a leaf below the top is that of a leaf's spot
   pub inner_leaf : (number : ℕ) → Contains (inner flat.leaves) number → (0 < number) × IsLeafSpot names design.cells flat.spots number
   inner_leaf number c = let (there, e) = from_filter (λ leaf. not (eqb leaf 0)) flat.leaves number c in (below_top number e, (are.are_leaves.are number).0 there)
-
-  pub inner_within : All (λ leaf. leaf < length flat.spots) (inner flat.leaves)
-  inner_within = all_of (λ leaf. leaf < length flat.spots) (inner flat.leaves) (λ number c. let (pos, h) = inner_leaf number c in slice_get_within flat.spots number h.of_cell.spot h.of_cell.is_spot)
 
   pub are_inner : AreInner design.cells flat.spots (inner flat.leaves)
   are_inner number c = let (pos, h) = inner_leaf number c in inner_spot (spot_facts design.cells design.top flat.spots are.are_spots) number h.of_cell.spot pos h.of_cell.is_spot

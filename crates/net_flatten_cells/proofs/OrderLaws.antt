@@ -1,5 +1,5 @@
 -- the order of a design has the number of each cell, once
-use Rattle.std.proofs.Common.{◌≡◌, ◌⊎◌, ◌||◌, inl, inr, ℕ, suc, ◌<◌, ◌≤◌, Bool, true, false, List, [], ◌∷◌, ◌++◌, Some, eqb, get_or, length, slice_get, refl, sym, ap, ◌∙◌, subst, filter, arith, All}
+use Rattle.std.proofs.Common.{◌≡◌, ◌⊎◌, ◌||◌, inl, inr, ℕ, suc, ◌<◌, ◌≤◌, Bool, true, false, List, [], ◌∷◌, ◌++◌, Some, eqb, get_or, length, slice_get, refl, sym, ap, ◌∙◌, subst, arith}
 use Rattle.std.specs.Prelude.{Contains}
 use Rattle.std.specs.List.{list_any}
 use Rattle.std.proofs.lemmas.Bool.{eqb-true}
@@ -8,7 +8,6 @@ use Rattle.std.proofs.lemmas.Map.Keys.{IsDistinct-from_apart}
 use Rattle.std.proofs.lemmas.Map.Steps.{length-le_from_distinct_below}
 use Rattle.std.proofs.lemmas.Option.{slice_get-get_or}
 use Rattle.flat_classes.proofs.KindLaws.{first_or_rest, in_first, in_rest, nothing_in}
-use Rattle.flat_classes.proofs.LeafLists.{all_of, from_filter}
 use Rattle.flat_numbers.proofs.Counting.{good_order}
 use Rattle.flat_numbers.proofs.Linking.{contains_there}
 use Rattle.flat_numbers.specs.declared.spots.Spot.{Spot}
@@ -18,9 +17,7 @@ use Rattle.net_graph.proofs.OrderLaws.{StandsIn, contained, front_or_last, reach
 use Rattle.net_graph.proofs.WalkLaws.{linked_along, linked_by, linked_itself}
 use Rattle.net_hier.specs.Design.{Design, cells_below}
 use Rattle.net_hier.specs.Valid.{IsValid}
-use Rattle.net_flatten_cells.proofs.PlaceLaws.{filter_same}
 use Rattle.net_flatten_cells.proofs.SizeLaws.{filtered_few}
-use Rattle.net_flatten_cells.specs.Places.{AreMarks}
 
 -- each number stands once
 abbrev pub StandOnce : List ℕ → Type 0
@@ -121,24 +118,8 @@ order_few design valid = length-le_from_distinct_below design.order (length desi
     (IsDistinct-from_apart eqb design.order (λ i j d lt within. differ design.order (order_once design valid) i j d lt within))
     (λ q h. let at = any_stands design.order q h in (good_order design valid).in_range at.0 q at.1)
 
-pub order_read : (design : Design) → IsValid design → (order : List ℕ) → order ≡ design.order → All (λ number. number < length design.cells) order
-order_read design valid order e k d lt = (good_order design valid).in_range k (get_or order k d) (ap (λ l. slice_get l k) (sym e) ∙ slice_get-get_or order k d lt)
-
 -- ---- the numbers of the cells at the leaves
 
--- the marked numbers of the order are those of the cells at the leaves
-pub marked_are : (design : Design) → IsValid design → (order : List ℕ) (spots : List Spot) (leaves : List ℕ) (count : ℕ) (marks : List Bool) → order ≡ design.order → count ≡ length design.cells → AreMarks spots leaves count marks →
-    filter (λ number. get_or marks number false) order ≡ leaf_cells design.order spots leaves
-marked_are design valid order spots leaves count marks e long are =
-    ap (filter (λ number. get_or marks number false)) e
-    ∙ filter_same (λ number. get_or marks number false) (stands_at spots leaves) design.order (λ i number there. are.are number (let lt = (good_order design valid).in_range i number there in omega (arith, lt, long)))
-
 module _ (design : Design) (valid : IsValid design) (spots : List Spot) (leaves : List ℕ) where
-  pub numbers_within : All (λ number. number < length design.cells) (leaf_cells design.order spots leaves)
-  numbers_within = all_of (λ number. number < length design.cells) (leaf_cells design.order spots leaves) (λ number c.
-      let (there, stands) = from_filter (stands_at spots leaves) design.order number c in
-      let s : StandsIn design.order number = contained design.order number there in
-      (good_order design valid).in_range s.place number s.is_there)
-
   pub numbers_few : length (leaf_cells design.order spots leaves) ≤ length design.cells
   numbers_few = let f = filtered_few (stands_at spots leaves) design.order in let o = order_few design valid in omega (arith, f, o)

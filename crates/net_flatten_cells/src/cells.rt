@@ -8,11 +8,12 @@ ghost use Rattle.net_hier.specs.Constants.{ConstantNames};
 ghost use Rattle.net_hier.specs.Paths.{Path};
 
 use crate::copies::{copy_of, ports_copy, props_copy};
-use crate::faces::{faces_of, leaf_cells};
+use crate::faces::faces_of;
 use crate::instances::leaf_instances;
 use crate::nets::{flat_joins, nets_of};
 use crate::places::Places;
 use flat_classes::Flat;
+use net_flatten_refusals::leaf_cells;
 use net_flatten_rules::inner_leaves;
 use net_hier::{HCell, Hier};
 use nl_base::{NoMemory, Seq};

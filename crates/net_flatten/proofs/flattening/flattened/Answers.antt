@@ -2,7 +2,8 @@ use Rattle.std.proofs.Common.{ℕ, ◌-◌, ◌≤◌, length, sym, subst, subst
 use Rattle.flat_report.proofs.OneReport.{some_paths}
 use Rattle.net_flatten.proofs.Fits.{no_recursion}
 use Rattle.net_flatten.proofs.UnitLaws.{units_few}
-use Rattle.net_flatten.proofs.Whole.{cells_fit, none_twice}
+use Rattle.net_flatten.proofs.Whole.{cells_fit}
+use Rattle.net_flatten_refusals.proofs.ShortLaws.{own_names}
 use Rattle.net_graph.specs.Graph.{ReachesItself}
 use Rattle.net_hier.specs.Build.{IsBuilt}
 use Rattle.net_hier.specs.Design.{cells_below}
@@ -14,7 +15,7 @@ pub design_of-requires-clause-fits : goal.design_of-requires-clause-fits
 design_of-requires-clause-fits c =
     let p = some_paths c.args.hier.now c.props.ensures.valid.valid c.args.flat.now.spots c.requires.classes.1.are_spots in
     subst (λ cs. CellsFit cs (length cs - 1)) (sym (c.in_ok-cells.ensures p.0 p.1))
-    (cells_fit c.requires.classes.0 c.args.hier.now c.props.ensures.valid c.requires.few c.args.flat.now c.requires.classes.1 p.0 (none_twice c.args.hier.now p.0 c.args.flat.now (c.requires.kept p.0 p.1)))
+    (cells_fit c.requires.classes.0 c.args.hier.now c.props.ensures.valid c.requires.few c.args.flat.now c.requires.classes.1 p.0 (own_names c.args.hier.now p.0 c.args.flat.now (c.requires.kept p.0 p.1)))
 
 pub design_of-requires-clause-free : goal.design_of-requires-clause-free
 design_of-requires-clause-free c =

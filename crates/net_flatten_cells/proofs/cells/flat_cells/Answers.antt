@@ -1,7 +1,6 @@
 use Rattle.std.proofs.Common.{◌≡◌, ◌<◌, ◌++◌, ◌∷◌, [], length, map, ap, subst₂, sym, ◌∙◌, arith, All}
 use Rattle.net_flatten_cells.proofs.CellLaws.{cells_few, inner_few}
-use Rattle.net_flatten_cells.proofs.FlatLaws.{inner_within}
-use Rattle.net_flatten_cells.proofs.OrderLaws.{numbers_within}
+use Rattle.net_flatten_refusals.proofs.MarkLaws.{cells_within, inner_within}
 use Rattle.net_flatten_rules.specs.FlatDesign.{cell_or_none, face, inner, leaf_cells}
 use Rattle.net_flatten_cells.proofs.cells.flat_cells.Goals as goal
 
@@ -15,7 +14,7 @@ faces_of-requires c =
     let leaves : c.as_slice.result.now ≡ inner c.args.flat.now.leaves = c.as_slice.ensures.value ∙ (c.in_ok-leaves.ensures ∙ ap inner c.leaves.ensures) in
     let numbers : c.as_slice-2.result.now ≡ leaf_cells c.args.hier.now.order c.args.flat.now.spots (inner c.args.flat.now.leaves) = c.as_slice-2.ensures.value
     ∙ (c.in_ok-numbers.ensures ∙ (ap (λ ss. leaf_cells c.args.hier.now.order ss c.as_slice.result.now) c.spots.ensures ∙ ap (leaf_cells c.args.hier.now.order c.args.flat.now.spots) leaves)) in
-    subst₂ (λ cs ns. All (λ number. number < length cs) ns) (sym c.cells.ensures.cells) (sym numbers) (numbers_within c.args.hier.now c.cells.ensures.valid.valid c.args.flat.now.spots (inner c.args.flat.now.leaves))
+    subst₂ (λ cs ns. All (λ number. number < length cs) ns) (sym c.cells.ensures.cells) (sym numbers) (cells_within c.args.hier.now c.cells.ensures.valid.valid c.args.flat.now.spots (inner c.args.flat.now.leaves))
 
 pub of-requires-clause-few : goal.of-requires-clause-few
 of-requires-clause-few c =
@@ -30,7 +29,7 @@ of-requires-clause-below c =
     let leaves : c.as_slice.result.now ≡ inner c.args.flat.now.leaves = c.as_slice.ensures.value ∙ (c.in_ok-leaves.ensures ∙ ap inner c.leaves.ensures) in
     let numbers : c.in_ok-numbers.numbers.items ≡ leaf_cells c.args.hier.now.order c.args.flat.now.spots (inner c.args.flat.now.leaves) =
     c.in_ok-numbers.ensures ∙ (ap (λ ss. leaf_cells c.args.hier.now.order ss c.as_slice.result.now) c.spots.ensures ∙ ap (leaf_cells c.args.hier.now.order c.args.flat.now.spots) leaves) in
-    subst₂ (λ cs ns. All (λ number. number < length cs) ns) (sym c.cells-2.ensures.cells) (sym numbers) (numbers_within c.args.hier.now c.cells.ensures.valid.valid c.args.flat.now.spots (inner c.args.flat.now.leaves))
+    subst₂ (λ cs ns. All (λ number. number < length cs) ns) (sym c.cells-2.ensures.cells) (sym numbers) (cells_within c.args.hier.now c.cells.ensures.valid.valid c.args.flat.now.spots (inner c.args.flat.now.leaves))
 
 pub of-requires-2-clause-few : goal.of-requires-2-clause-few
 of-requires-2-clause-few c =
