@@ -18,6 +18,8 @@ mod hostile;
 #[cfg(test)]
 mod reports;
 #[cfg(test)]
+mod spice;
+#[cfg(test)]
 mod texts;
 #[cfg(test)]
 mod tops;
