@@ -1,5 +1,5 @@
 -- the instances for leaves
-use Rattle.std.proofs.Common.{◌≡◌, ℕ, ◌<◌, List, sym, ◌∙◌, ap, get_or, Some, length, arith}
+use Rattle.std.proofs.Common.{◌≡◌, ℕ, ◌<◌, List, sym, ◌∙◌, ap, get_or, length, arith}
 use Rattle.std.specs.Option.{option_map_or}
 use Rattle.std.proofs.lemmas.Option.{get_or_from_slice_get, slice_get_within}
 use Rattle.flat_numbers.proofs.SpotLaws.{listed_cells}
@@ -12,7 +12,6 @@ use Rattle.net_flatten_rules.specs.Joined.{instance_at, name_at}
 use Rattle.net_hier.specs.Design.{Design}
 use Rattle.net_hier.specs.Paths.{Path}
 use Rattle.net_hier.specs.declared.cells.HCell.{HCell}
-use Rattle.net_hier.specs.declared.cells.HInst.{HInst}
 use Rattle.net_hier.specs.declared.cells.HProp.{HProp}
 
 -- the cell at the spot of a leaf
@@ -37,6 +36,3 @@ leaf_read design spots are leaf inner d =
 pub leaf_made : (cells : List HCell) (spots : List Spot) (paths : List Path) (numbers : List ℕ) (leaf : ℕ) (name : List ℕ) (cell : ℕ) (props : List HProp) → name ≡ name_at paths leaf → cell ≡ place_in numbers (cell_at spots leaf) → props ≡ props_of (instance_at cells spots leaf) →
     record { name = name; cell = cell; props = props } ≡ leaf_instance cells spots paths numbers leaf
 leaf_made cells spots paths numbers leaf name cell props e f g = λ j. record { name = e j; cell = f j; props = g j }
-
-pub props_read : (cells : List HCell) (spots : List Spot) (leaf : ℕ) (instance : HInst) → instance_at cells spots leaf ≡ Some instance → instance.props ≡ props_of (instance_at cells spots leaf)
-props_read cells spots leaf instance e = sym (ap props_of e)

@@ -3,16 +3,27 @@ ghost use Rattle.std.specs.Prelude.{◌≡◌, List, length, map, IfOk};
 ghost use Rattle.flat_numbers.specs.Spots.{AreSpots};
 ghost use Rattle.flat_report.specs.Report.{ArePaths};
 ghost use Rattle.flat_report.specs.Ways.{AreInner, IsInner};
-ghost use Rattle.net_flatten_rules.specs.FlatDesign.{leaf_instance};
+ghost use Rattle.net_flatten_rules.specs.FlatDesign.{leaf_instance, props_of};
+ghost use Rattle.net_flatten_rules.specs.Joined.{instance_at};
 ghost use Rattle.net_hier.specs.Paths.{Path};
 
 use crate::copies::props_copy;
 use crate::places::Places;
 use flat_classes::Spot;
 use net_flatten_rules::{instance_at, joined_name};
-use net_hier::{HInst, Hier};
+use net_hier::{HInst, HProp, Hier};
 use nl_base::{NoMemory, Seq, Text};
 use std::alloc::Global;
+
+/// The copies of the properties of a leaf: those of the last instance of its path.
+fn leaf_props(alloc: Global, hier: &Hier, spots: &[Spot], leaf: u32) -> Result<Seq<HProp>, NoMemory>
+    requires { IsInner hier.now.cells spots.now leaf }
+    ensures { IfOk result (λ props. props ≡ props_of (instance_at hier.now.cells spots.now leaf)) }
+{
+    let instance = instance_at(hier, spots, leaf as usize);
+    let props = props_copy(alloc, instance.props.items())?;
+    Ok(props)
+}
 
 /// The instance for a leaf: under its joined name, of its cell, with the properties of the last instance of its path.
 fn leaf_instance(
@@ -31,9 +42,8 @@ fn leaf_instance(
     let _cells = hier.cells();
     let spot = spots[leaf as usize];
     let name = joined_name(alloc, hier, spots, leaf)?;
-    let instance = instance_at(hier, spots, leaf as usize);
     let cell = cells.place(spot.cell);
-    let props = props_copy(alloc, instance.props.items())?;
+    let props = leaf_props(alloc, hier, spots, leaf)?;
     Ok(HInst {
         name: Text::compact(alloc, name),
         cell,

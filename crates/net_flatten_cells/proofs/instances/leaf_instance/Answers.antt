@@ -2,7 +2,7 @@ use Rattle.std.proofs.Common.{ap, ◌∙◌, arith}
 use Rattle.flat_report.proofs.OneReport.{listed_path}
 use Rattle.flat_report.specs.Report.{path_at}
 use Rattle.net_flatten_rules.specs.FlatDesign.{place_in}
-use Rattle.net_flatten_cells.proofs.InstanceLaws.{leaf_made, leaf_read, props_read}
+use Rattle.net_flatten_cells.proofs.InstanceLaws.{leaf_made, leaf_read}
 use Rattle.net_flatten_cells.proofs.instances.leaf_instance.Goals as goal
 
 pub place-cell-requires : goal.place-cell-requires
@@ -16,4 +16,4 @@ returns c = λ paths of.
     leaf_made c.args.hier.now.cells c.args.spots.now paths c.args.cells.now.numbers c.args.leaf c.compact.result c.place-cell.result c.in_ok-props.props
     (c.compact.ensures ∙ c.in_ok-name.ensures (path_at paths c.args.leaf) (listed_path c.args.hier.now c.cells-cells.ensures.valid.valid c.args.spots.now c.requires.spots paths of c.args.leaf r.within))
     (c.place-cell.ensures ∙ ap (place_in c.args.cells.now.numbers) r.is)
-    (c.in_ok-props.ensures ∙ (c.items.ensures ∙ props_read c.args.hier.now.cells c.args.spots.now c.args.leaf c.instance_at-instance.result.now c.instance_at-instance.ensures.instance))
+    c.in_ok-props.ensures
