@@ -1,0 +1,115 @@
+// The design of a generated file, and its modules.
+ghost use Rattle.std.specs.Prelude.{◌≡◌, ◌<◌, ◌≤◌, ◌^◌, None, IfOk};
+ghost use Rattle.edif_design.specs.Design.{edif_design};
+ghost use Rattle.edif_design.specs.FileRules.{first_E};
+ghost use Rattle.edif_library.specs.Sizes.{edif_size};
+ghost use Rattle.edif_rereading.specs.Values.{IsEdifValue};
+ghost use Rattle.edif_resolve.specs.Answers.{IsDesignOf};
+ghost use Rattle.net_bits.specs.Names.{has_name};
+ghost use Rattle.net_hier.specs.Units.{units};
+ghost use Rattle.net_hier.specs.Valid.{count_limit, unit_limit};
+ghost use Rattle.net_values.specs.Sound.{IsSound};
+ghost use Rattle.to_verilog.specs.Answers.{IsTranslated};
+ghost use Rattle.to_verilog_rules.specs.Rules.{first_V};
+ghost use Rattle.vectors.specs.Files.{generated};
+ghost use Rattle.vectors_line.specs.Lines.{no_params};
+ghost use Rattle.vlog_values.specs.Values.{IsVlogValue};
+
+use crate::texts::{file_of, text_of};
+use edif_library::EdifFile;
+use edif_resolve::{ResolveError, resolve};
+use net_bits::Names;
+use net_hier::Hier;
+use nl_base::NoMemory;
+use std::alloc::Global;
+use to_verilog::{TargetError, to_verilog};
+use vectors::generate;
+use vlog_values::VlogFile;
+
+/// The file that the text of a file reads as, which is the file itself.
+#[tactic(auto, using(crate::proofs::Again::same_file))]
+fn read_again(alloc: Global, file: &EdifFile) -> Result<EdifFile, NoMemory>
+    requires { IsEdifValue file.now }
+    ensures same { IfOk result (λ read. read ≡ file.now) }
+    ensures small { IfOk result (λ read. edif_size read ≤ count_limit) }
+{
+    let text = text_of(alloc, file)?;
+    let read = file_of(alloc, text)?;
+    Ok(read)
+}
+
+/// The design of a file that breaks no rule and whose design is within the limit of a design.
+fn design_of(alloc: Global, file: &EdifFile) -> Result<Hier, NoMemory>
+    requires small { edif_size file.now ≤ count_limit }
+    requires no_refusal { first_E file.now ≡ None }
+    requires fits { units (edif_design file.now).cells ≤ unit_limit }
+    ensures { IfOk result (IsDesignOf file.now) }
+{
+    match resolve(alloc, file) {
+        Ok(design) => Ok(design),
+        Err(error) => match error {
+            ResolveError::Refused(_) => unreachable!(),
+            ResolveError::TooBig(_) => unreachable!(),
+            ResolveError::NoMemory => Err(NoMemory),
+        },
+    }
+}
+
+/// The modules of a design that breaks no rule of Verilog as a target.
+fn modules_of(alloc: Global, design: &Hier) -> Result<VlogFile, NoMemory>
+    requires rules { first_V design.now.cells design.now.top design.now.props (has_name no_params)
+        ≡ None }
+    requires sound { IsSound design.now }
+    ensures translated { IfOk result (IsTranslated design.now no_params) }
+    ensures value { IfOk result IsVlogValue }
+{
+    let params = Names::new(alloc, false);
+    match to_verilog(alloc, design, &params) {
+        Ok(modules) => Ok(modules),
+        Err(error) => match error {
+            TargetError::Refused(_) => unreachable!(),
+            TargetError::NoMemory => Err(NoMemory),
+        },
+    }
+}
+
+/// The generated file, as its text reads.
+#[tactic(auto, using(crate::proofs::Generated::file_value))]
+fn generated_again(alloc: Global, seed: u64, cells: u32) -> Result<EdifFile, NoMemory>
+    requires { 0 < cells }
+    ensures same { IfOk result (λ file. file ≡ generated seed cells) }
+    ensures small { IfOk result (λ file. edif_size file ≤ count_limit) }
+{
+    let file = generate(alloc, seed, cells)?;
+    let read = read_again(alloc, &file)?;
+    Ok(read)
+}
+
+/// The design of the generated file.
+#[tactic(auto, using(crate::proofs::Generated::file_clean, crate::proofs::Generated::file_fits, crate::proofs::Generated::design_of_same))]
+pub(crate) fn generated_design(alloc: Global, seed: u64, cells: u32) -> Result<Hier, NoMemory>
+    requires some { 0 < cells }
+    requires few { cells ≤ 100000 }
+    ensures { IfOk result (IsDesignOf (generated seed cells)) }
+{
+    let file = generated_again(alloc, seed, cells)?;
+    let design = design_of(alloc, &file)?;
+    Ok(design)
+}
+
+/// The modules of the design of the generated file.
+#[tactic(auto, using(crate::proofs::Generated::target_clean, crate::proofs::Generated::design_sound))]
+pub(crate) fn generated_modules(
+    alloc: Global,
+    seed: u64,
+    cells: u32,
+    design: &Hier,
+) -> Result<VlogFile, NoMemory>
+    requires some { 0 < cells }
+    requires design { IsDesignOf (generated seed cells) design.now }
+    ensures translated { IfOk result (IsTranslated design.now no_params) }
+    ensures value { IfOk result IsVlogValue }
+{
+    let modules = modules_of(alloc, design)?;
+    Ok(modules)
+}
