@@ -4,7 +4,7 @@
 // each with its name, ports and properties alone, and then the top. The top keeps its name, ports and properties. Its instances are
 // the leaves in depth-first order, each under its joined name, of its cell, with the properties of the last instance of its path. Its
 // nets are the groups of two or more connected terminals, `n0`, `n1` and so on, each joined to the terminals of its group in order.
-// Nothing but want of memory keeps `flat_cells` from this, and it takes time and memory in proportion to what it answers.
+// Nothing but want of memory keeps `flat_cells` from this. The places of cells and leaves are looked up in tables.
 //
 // Cells, instances, nets and joined terminals are those of EDIF 2 0 0 (cell, instance, net, joined) and of IEEE 1364-2005, clause 12.
 #![tactic(auto)]
