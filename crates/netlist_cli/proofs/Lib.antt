@@ -1,8 +1,9 @@
 pub mod Lines
 pub mod Told
 pub mod SpiceSaid
-pub mod Results
 pub mod Verdicts
+pub mod Flattened
+pub mod Results
 pub mod Halting
 pub mod Reading
 pub mod OverDesigns

@@ -1,5 +1,5 @@
 -- What a command does that asks for the design of its input.
-use Rattle.std.proofs.Common.{◌≡◌, ℕ, List, Option, Some, None, IfSome, Result, Ok, Err, refl, ap}
+use Rattle.std.proofs.Common.{◌≡◌, ℕ, List, Option, Some, None, IfSome, Result, Ok, Err, refl, sym, ap, subst}
 use Rattle.std.specs.Prelude.{IfOk, MatchResult}
 use Rattle.std.specs.Io.KnownBytes.{IsAtEnd}
 use Rattle.nl_io.specs.declared.source.Failed.{Failed}
@@ -19,8 +19,11 @@ use Rattle.flat_report.specs.Reports.{HasReported}
 use Rattle.net_lint.specs.Lint.{IsLint}
 use Rattle.net_lint.specs.Lints.{HasLinted}
 use Rattle.net_bits.specs.Names.{NameSet}
-use Rattle.net_hier.specs.Constants.{ConstantNames}
+use Rattle.net_flatten_over.proofs.Copied.{goes_over_copied}
+use Rattle.net_hier.specs.Constants.{AreConstantNames, ConstantNames}
 use Rattle.net_hier.specs.Design.{Design}
+use Rattle.net_hier.specs.Valid.{HaveOwnInstances}
+use Rattle.net_hier.proofs.Partners.{partner_owns_instances}
 use Rattle.spice_text.specs.Texts.{spice_text}
 use Rattle.spice_text.specs.declared.file.SpiceFile.{SpiceFile}
 use Rattle.to_spice.specs.Answers.{IsSpiceFor}
@@ -36,11 +39,12 @@ use Rattle.vlog_values.specs.declared.module.VlogFile.{VlogFile}
 use Rattle.vlog_writer.specs.Forms.{vlog_text}
 use Rattle.netlist_cli.specs.declared.failure.Failure.{Failure}
 use Rattle.netlist_cli.specs.declared.failure.Failure.TheVariants as failures
-use Rattle.netlist_cli.specs.Designs.{AreModulesFor, HasDesign, IsDesignRead, IsNoDesign, Makes, MakesOf, PutsMade, first_question}
-use Rattle.netlist_cli.specs.Meanings.{IsEdifOf, IsMadeOfDesign, IsSpiceOf, IsVerilogOf, Judgement, SaysOfEdif, SaysOfVerilog, any_design, edif, edif_first, few_flat, meaning, of_design, spice_rules, target_rules, verilog, verilog_first}
+use Rattle.netlist_cli.specs.Designs.{AreFlatModules, AreModulesFor, HasDesign, IsDesignRead, IsFlatFile, IsNoDesign, Makes, MakesOf, PutsMade, first_question}
+use Rattle.netlist_cli.specs.Meanings.{IsEdifOf, IsFlatEdifOf, IsFlatVerilogOf, IsMadeOfDesign, IsSpiceOf, IsVerilogOf, Judgement, SaysOfEdif, SaysOfVerilog, any_design, edif, edif_first, few_flat, flat_rules, meaning, of_design, plain_target, spice_rules, target_rules, verilog, verilog_first}
 use Rattle.netlist_cli.specs.Outcomes.{FileLanguage, Verdict, fine, or_refused}
 use Rattle.netlist_cli.specs.Runs.{Does, IsFailureOf}
 use Rattle.netlist_cli.specs.Statuses.{after_writing}
+use Rattle.netlist_cli.proofs.Flattened.{fine_said, own_instances}
 use Rattle.netlist_cli.proofs.Halting.{cause_then, halted, said_causes, said_unwritten}
 use Rattle.netlist_cli.proofs.Verdicts.{few_are_fine, of_design_under, of_edif_design, said_at_first}
 
@@ -120,6 +124,32 @@ module _ {O : Type 0} (taken : O → List ℕ → Type 0) (accepts : O → ℕ �
       → MakesOf taken accepts faults any_design (IsEdifOf names) design old new (after_writing r)
   edif_is_made design names file r same value w =
       text_is_made (any_design design.cells design.top design.props) (IsEdifOf names design) (edif_text file) r refl (record { file = file; same = same; is_text = refl; spells = edif_law.text_spells file value }) w
+
+  -- an EDIF file of the flattened design is written, or a front of its text
+  pub flat_edif_is_made : (names : ConstantNames) (design : Design) (file : EdifFile) (r : Result (Unit {0}) Failed) → AreConstantNames names → IsFlatFile names design file → Writes taken accepts faults old new (edif_text file) r
+      → MakesOf taken accepts faults (flat_rules names any_design) (IsFlatEdifOf names) design old new (after_writing r)
+  flat_edif_is_made names design file r constants h w =
+      text_is_made (flat_rules names any_design design.cells design.top design.props) (IsFlatEdifOf names design) (edif_text file) r (fine_said names any_design design h.flat h.is_flat refl) (record {
+        flat = h.flat;
+        flattens = h.is_flat.flattens;
+        written = record { file = file; same = h.is_file.same; is_text = refl; spells = edif_law.text_spells file h.is_file.value };
+        same_flat = λ other is.
+            let own = subst (λ cells. HaveOwnInstances cells) (sym is.same_cells) (own_instances file h.is_file.same.no_refusal) in
+            goes_over_copied names design h.flat other _ constants h.is_file.valid own h.is_flat.same (h.is_file.same.same_cells other is);
+      }) w
+
+  -- modules of the flattened design are written, or a front of their text
+  pub flat_modules_are_made : (names : ConstantNames) (design : Design) (modules : VlogFile) (r : Result (Unit {0}) Failed) → AreConstantNames names → AreFlatModules names design modules
+      → Writes taken accepts faults old new (vlog_text modules) r → MakesOf taken accepts faults (flat_rules names plain_target) (IsFlatVerilogOf names) design old new (after_writing r)
+  flat_modules_are_made names design modules r constants h w =
+      text_is_made (flat_rules names plain_target design.cells design.top design.props) (IsFlatVerilogOf names design) (vlog_text modules) r
+      (fine_said names plain_target design h.flat h.is_flat (ap (λ first. or_refused first fine) h.are_modules.translated.no_refusal)) (record {
+        flat = h.flat;
+        flattens = h.is_flat.flattens;
+        written = record { modules = modules; same = h.are_modules.translated.same; is_text = refl; spells = text_spells modules h.are_modules.value };
+        same_flat = λ other is. (let cells = h.are_modules.translated.same.same_cells names constants other is in
+            goes_over_copied names design h.flat other None constants h.valid (partner_owns_instances names h.flat other h.valid cells) h.is_flat.same cells);
+      }) w
 
   module _ (i j : Supply) where
     module _ (language : FileLanguage) (IsSaid : language.File → Verdict → Type 0) (IsDesignOf : language.File → Design → Type 0) (IsMade : Design → List ℕ → Type 0) (design : Design)

@@ -1,10 +1,11 @@
 -- Of the same bytes one thing comes.
-use Rattle.std.proofs.Common.{◌≡◌, ℕ, List, Option, Some, None, refl, sym, ap, subst, ◌∙◌}
+use Rattle.std.proofs.Common.{◌≡◌, ℕ, List, [], Option, Some, None, refl, sym, ap, subst, ◌∙◌}
 use Rattle.nl_base.specs.declared.fault.TextFault.{TextFault}
 use Rattle.edif_library.proofs.AtMostOne as edif_laws
 use Rattle.vlog_modules.proofs.AtMostOne as verilog_laws
 use Rattle.flat_classes.specs.FlatSums.{flat_count}
 use Rattle.net_bits.specs.Names.{has_name}
+use Rattle.net_hier.specs.Constants.{ConstantNames}
 use Rattle.net_hier.specs.Design.{Design}
 use Rattle.net_hier.specs.declared.cells.HCell.{HCell}
 use Rattle.net_hier.specs.declared.cells.HProp.{HProp}
@@ -13,10 +14,11 @@ use Rattle.to_verilog_rules.specs.Rules.{first_V}
 use Rattle.vlog_design.specs.Names.{Name}
 use Rattle.netlist_words.specs.declared.command.Command.{Command}
 use Rattle.netlist_words.specs.declared.command.Command.TheVariants as commands
-use Rattle.netlist_cli.specs.Meanings.{IsEdifOf, IsVerilogOf, Judgement, any_design, edif, edif_first, few_flat, meaning_of, of_design, params_of, spice_rules, target_rules, verilog, verilog_first}
-use Rattle.netlist_cli.specs.Outcomes.{FileLanguage, Question, SaidThen, or_refused, or_too_flat, Verdict, fine, breaks, breaks_of_tool, exceeds, exceeds_flat, Outcome, faulty, too_long, judged, Gives}
+use Rattle.netlist_cli.specs.Meanings.{IsEdifOf, IsFlatEdifOf, IsFlatVerilogOf, IsNoFlattening, IsVerilogOf, Judgement, SaysFlattened, any_design, edif, edif_first, flat_rules, meaning_of, of_design, params_of, plain_target, spice_rules, verilog, verilog_first}
+use Rattle.netlist_cli.specs.Outcomes.{FileLanguage, Question, SaidThen, or_refused, or_too_flat, said_of_count, Verdict, fine, breaks, breaks_of_tool, exceeds, exceeds_flat, Outcome, faulty, too_long, judged, Gives}
 use Rattle.netlist_cli.specs.Tools.{BreaksSpice, spice_refusal}
 use Rattle.netlist_cli.specs.declared.tools.ToolRefusal.{ToolRefusal}
+use Rattle.netlist_cli.proofs.Flattened.{one_of_flattened}
 use Rattle.netlist_cli.proofs.SpiceSaid.{spice_said}
 
 -- What a language says of all bytes: they read as at most one file, have at most one first fault or go on past the limit, and never two of these.
@@ -47,20 +49,26 @@ verilog_exact = record {
 
 -- ---- of each file one thing is said
 
--- The language is exact; of each file one thing is said at most, and it cannot be that nothing is said.
+-- The language is exact, and of each file one thing is said at most.
 pub record IsSettled (q : Question) : Type 0 where
   pub exact : IsExact q.language
   pub one_said : (file : q.language.File) (v w : Verdict) → q.IsSaid file v → q.IsSaid file w → v ≡ w
-  pub some_said : (file : q.language.File) → ¬ ¬ ((verdict : Verdict) × q.IsSaid file verdict)
+
+-- It cannot be that nothing is said of a file.
+abbrev pub HasSaid : Question → Type 0
+HasSaid q = (file : q.language.File) → ¬ ¬ ((verdict : Verdict) × q.IsSaid file verdict)
 
 -- one thing is said that is this one
 same_said : (said v w : Verdict) → said ≡ v → said ≡ w → v ≡ w
 same_said said v w h k = sym h ∙ k
 
--- of each design one thing is said
-record SaysOne (judge : Judgement) : Type 0 where
-  one : (cells : List HCell) (top : ℕ) (props : List HProp) (v w : Verdict) → judge cells top props v → judge cells top props w → v ≡ w
-  some : (cells : List HCell) (top : ℕ) (props : List HProp) → ¬ ¬ ((verdict : Verdict) × judge cells top props verdict)
+-- of each design one thing is said at most
+abbrev SaysOne : Judgement → Type 0
+SaysOne judge = (cells : List HCell) (top : ℕ) (props : List HProp) (v w : Verdict) → judge cells top props v → judge cells top props w → v ≡ w
+
+-- it cannot be that nothing is said of a design
+abbrev SaysSome : Judgement → Type 0
+SaysSome judge = (cells : List HCell) (top : ℕ) (props : List HProp) → ¬ ¬ ((verdict : Verdict) × judge cells top props verdict)
 
 one_then : (first : Option Verdict) (said : Verdict → Type 0) → ((v w : Verdict) → said v → said w → v ≡ w) → (v w : Verdict) → SaidThen first said v → SaidThen first said w → v ≡ w
 one_then None said one v w h k = one v w h k
@@ -72,29 +80,32 @@ some_then (Some first) said some = λ none. none (first, refl)
 
 -- a command that asks for designs
 design_settled : (top : Option Name) (judge : Judgement) (IsMade : Design → List ℕ → Type 0) → SaysOne judge → IsSettled (of_design top judge IsMade).question
-design_settled None judge IsMade says = record {
-  exact = edif_exact;
-  one_said = λ file. one_then (edif_first file) _ (says.one _ _ _);
-  some_said = λ file. some_then (edif_first file) _ (says.some _ _ _);
-}
-design_settled (Some top) judge IsMade says = record {
-  exact = verilog_exact;
-  one_said = λ file. one_then (verilog_first top file) _ (says.one _ _ _);
-  some_said = λ file. some_then (verilog_first top file) _ (says.some _ _ _);
-}
+design_settled None judge IsMade says = record { exact = edif_exact; one_said = λ file. one_then (edif_first file) _ (says _ _ _) }
+design_settled (Some top) judge IsMade says = record { exact = verilog_exact; one_said = λ file. one_then (verilog_first top file) _ (says _ _ _) }
+
+design_said : (top : Option Name) (judge : Judgement) (IsMade : Design → List ℕ → Type 0) → SaysSome judge → HasSaid (of_design top judge IsMade).question
+design_said None judge IsMade says = λ file. some_then (edif_first file) _ (says _ _ _)
+design_said (Some top) judge IsMade says = λ file. some_then (verilog_first top file) _ (says _ _ _)
 
 -- a judgement by a function
-by_function : (f : List HCell → ℕ → List HProp → Verdict) → SaysOne (λ cells top props verdict. f cells top props ≡ verdict)
-by_function f = record { one = λ cells top props. same_said (f cells top props); some = λ cells top props none. none (f cells top props, refl) }
+one_by_function : (f : List HCell → ℕ → List HProp → Verdict) → SaysOne (λ cells top props verdict. f cells top props ≡ verdict)
+one_by_function f cells top props = same_said (f cells top props)
 
-any_one : SaysOne any_design
-any_one = by_function (λ cells top props. fine)
+some_by_function : (f : List HCell → ℕ → List HProp → Verdict) → SaysSome (λ cells top props verdict. f cells top props ≡ verdict)
+some_by_function f cells top props none = none (f cells top props, refl)
 
-few_one : SaysOne few_flat
-few_one = by_function (λ cells top props. or_too_flat (flat_count cells top) fine)
+abbrev any_said : List HCell → ℕ → List HProp → Verdict
+any_said cells top props = fine
 
-target_one : (names : List Name) → SaysOne (target_rules (params_of names))
-target_one names = by_function (λ cells top props. or_refused (first_V cells top props (has_name (params_of names))) fine)
+abbrev few_said : List HCell → ℕ → List HProp → Verdict
+few_said cells top props = or_too_flat (flat_count cells top) fine
+
+abbrev target_said : List Name → List HCell → ℕ → List HProp → Verdict
+target_said names cells top props = or_refused (first_V cells top props (has_name (params_of names))) fine
+
+-- a judgement of the flattened design
+flat_one : (names : ConstantNames) (judge : Judgement) → SaysOne judge → SaysOne (flat_rules names judge)
+flat_one names judge one cells top props = one_then (said_of_count (flat_count cells top)) (SaysFlattened names judge cells top props) (one_of_flattened names judge cells top props one)
 
 -- one refusal tells the first object that breaks a rule of SPICE
 one_breaks : (cells : List HCell) (r s : ToolRefusal) → BreaksSpice cells r → BreaksSpice cells s → r ≡ s
@@ -115,19 +126,30 @@ one_of_spice cells top props (breaks_of_tool r) (exceeds_flat n) h k = absurd k
 one_of_spice cells top props (exceeds n) w h k = absurd h
 one_of_spice cells top props (exceeds_flat n) w h k = absurd h
 
-spice_one : SaysOne spice_rules
-spice_one = record { one = one_of_spice; some = spice_said }
-
 -- what each command asks
 pub settled_of : (c : Command) → IsSettled (meaning_of c).question
-settled_of commands.Format = record { exact = edif_exact; one_said = λ file. same_said fine; some_said = λ file none. none (fine, refl) }
-settled_of commands.Vformat = record { exact = verilog_exact; one_said = λ file. same_said fine; some_said = λ file none. none (fine, refl) }
-settled_of (commands.Check top) = design_settled top _ _ any_one
-settled_of (commands.Report top names) = design_settled top _ _ few_one
-settled_of (commands.Lint top names) = design_settled top _ _ few_one
-settled_of (commands.ToVerilog names) = design_settled None _ IsVerilogOf (target_one names)
-settled_of (commands.ToEdif top names) = design_settled (Some top) _ (IsEdifOf names) any_one
-settled_of (commands.ToSpice top) = design_settled top _ _ spice_one
+settled_of commands.Format = record { exact = edif_exact; one_said = λ file. same_said fine }
+settled_of commands.Vformat = record { exact = verilog_exact; one_said = λ file. same_said fine }
+settled_of (commands.Check top) = design_settled top _ _ (one_by_function any_said)
+settled_of (commands.Report top names) = design_settled top _ _ (one_by_function few_said)
+settled_of (commands.Lint top names) = design_settled top _ _ (one_by_function few_said)
+settled_of (commands.ToVerilog names) = design_settled None _ IsVerilogOf (one_by_function (target_said names))
+settled_of (commands.ToEdif top names) = design_settled (Some top) _ (IsEdifOf names) (one_by_function any_said)
+settled_of (commands.Flatten None names) = design_settled None _ (IsFlatEdifOf names) (flat_one names any_design (one_by_function any_said))
+settled_of (commands.Flatten (Some top) names) = design_settled (Some top) _ (IsFlatVerilogOf names) (flat_one names plain_target (one_by_function (target_said [])))
+settled_of (commands.ToSpice top) = design_settled top _ _ one_of_spice
+
+-- what is said by each command that does not flatten
+pub said_of : (c : Command) → IsNoFlattening c → HasSaid (meaning_of c).question
+said_of commands.Format never = λ file none. none (fine, refl)
+said_of commands.Vformat never = λ file none. none (fine, refl)
+said_of (commands.Check top) never = design_said top _ _ (some_by_function any_said)
+said_of (commands.Report top names) never = design_said top _ _ (some_by_function few_said)
+said_of (commands.Lint top names) never = design_said top _ _ (some_by_function few_said)
+said_of (commands.ToVerilog names) never = design_said None _ IsVerilogOf (some_by_function (target_said names))
+said_of (commands.ToEdif top names) never = design_said (Some top) _ (IsEdifOf names) (some_by_function any_said)
+said_of (commands.Flatten top names) never = absurd never
+said_of (commands.ToSpice top) never = design_said top _ _ spice_said
 
 module _ (q : Question) (settled : IsSettled q) (bs : List ℕ) where
   abbrev exact : IsExact q.language

@@ -1,13 +1,21 @@
 -- What is made on the way from an input over its design to a text.
-use Rattle.std.specs.Prelude.{◌≡◌, ◌≢◌, ℕ, List, Option, Some, None, Result, Ok, Err, IfSome}
+use Rattle.std.specs.Prelude.{◌≡◌, ◌≢◌, ℕ, ◌<◌, ⊤, List, [], Option, Some, None, Result, Ok, Err, IfSome}
 use Rattle.std.specs.Io.KnownBytes.{IsAtEnd}
 use Rattle.nl_io.specs.declared.source.Failed.{Failed}
 use Rattle.nl_output.specs.Writing.{Writes}
 use Rattle.readers.specs.Sources.{Supply}
+use Rattle.edif_copies.specs.Answers.{IsEdifFor}
 use Rattle.edif_library.specs.Text.{EdifReads}
+use Rattle.edif_library.specs.declared.file.EdifFile.{EdifFile}
+use Rattle.edif_rereading.specs.Values.{IsEdifValue}
 use Rattle.edif_resolve.specs.Answers as edif_answers
+use Rattle.flat_classes.specs.FlatSums.{IsFewFlat, flat_count, flat_limit}
 use Rattle.net_bits.specs.Names.{NameSet}
+use Rattle.net_flatten.specs.Flattening.{IsFlattening}
+use Rattle.net_flatten_rules.specs.SameFlat.{SameFlat}
+use Rattle.net_hier.specs.Constants.{ConstantNames}
 use Rattle.net_hier.specs.Design.{Design}
+use Rattle.net_hier.specs.Valid.{IsValid}
 use Rattle.to_verilog.specs.Answers.{IsTranslated}
 use Rattle.vlog_design.specs.Names.{Name}
 use Rattle.vlog_elab.specs.Answers as verilog_answers
@@ -16,9 +24,11 @@ use Rattle.vlog_values.specs.Values.{IsVlogValue}
 use Rattle.vlog_values.specs.declared.module.VlogFile.{VlogFile}
 use Rattle.netlist_cli.specs.declared.failure.Failure.{Failure}
 use Rattle.netlist_cli.specs.declared.failure.Failure.TheVariants as failures
-use Rattle.netlist_cli.specs.Meanings.{Judgement, edif, edif_first, verilog, verilog_first}
+use Rattle.netlist_cli.specs.declared.tools.ToolRefusal.{ToolRefusal}
+use Rattle.netlist_cli.specs.Meanings.{Judgement, edif, edif_first, params_of, verilog, verilog_first}
 use Rattle.netlist_cli.specs.Outcomes.{Question, Verdict, fine}
 use Rattle.netlist_cli.specs.Runs.{IsCause, IsFailureOf}
+use Rattle.netlist_cli.specs.Tools.{BreaksFlatten}
 
 -- ---- from an input to its design
 
@@ -69,3 +79,45 @@ MakesOf taken accepts faults judge IsMade design = Makes taken accepts faults (j
 pub record AreModulesFor (design : Design) (params : NameSet) (modules : VlogFile) : Type 0 where
   pub translated : IsTranslated design params modules
   pub value : IsVlogValue modules
+
+-- ---- flattened designs
+
+-- the design, which is valid, is flattened to the other one, and that is the design as one cell of leaf instances
+pub record IsFlatOf (names : ConstantNames) (design flat : Design) : Type 0 where
+  pub valid : IsValid design
+  pub flattens : IsFlattening names design flat
+  pub same : SameFlat names design flat
+
+-- why a design, which is valid, is not flattened, whatever is asked of the flattened design; want of memory has no cause
+pub record IsTooFlat (design : Design) (count : ℕ) : Type 0 where
+  pub is_count : count ≡ flat_count design.cells design.top
+  pub passes : flat_limit < count
+
+pub record IsBroken (names : ConstantNames) (design : Design) (refusal : ToolRefusal) : Type 0 where
+  pub few : IsFewFlat design
+  pub breaks : BreaksFlatten names design.cells design.top design.props refusal
+
+abbrev pub IsNotFlattened : ConstantNames → Design → Failure → Type 0
+IsNotFlattened names design (failures.FlatLimit count) = IsTooFlat design count
+IsNotFlattened names design (failures.RefusedByTool refusal) = IsBroken names design refusal
+IsNotFlattened names design failures.NoMemory = ⊤
+IsNotFlattened names design f = ⊥
+
+-- the file is one for the design, which is valid, and can be written
+pub record IsFileFor (names : ConstantNames) (design : Design) (file : EdifFile) : Type 0 where
+  pub valid : IsValid design
+  pub same : IsEdifFor names design file
+  pub value : IsEdifValue file
+
+-- the file is one for the flattened design
+pub record IsFlatFile (names : ConstantNames) (design : Design) (file : EdifFile) : Type 0 where
+  pub flat : Design
+  pub is_flat : IsFlatOf names design flat
+  pub is_file : IsFileFor names flat file
+
+-- the modules are those of the flattened design, which is valid, without names of parameters
+pub record AreFlatModules (names : ConstantNames) (design : Design) (modules : VlogFile) : Type 0 where
+  pub flat : Design
+  pub is_flat : IsFlatOf names design flat
+  pub valid : IsValid flat
+  pub are_modules : AreModulesFor flat (params_of []) modules

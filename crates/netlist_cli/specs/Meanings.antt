@@ -1,6 +1,6 @@
 -- What each command makes of its input.
-use Rattle.std.specs.Prelude.{◌≡◌, ℕ, List, [], ◌∷◌, false, Option, Some, None, codes}
-use Rattle.edif_copies.specs.Answers.{IsEdifFor}
+use Rattle.std.specs.Prelude.{◌≡◌, ℕ, List, [], ◌∷◌, false, Option, Some, None, codes, ⊤}
+use Rattle.edif_copies.specs.Answers.{IsEdifDesign, IsEdifFor}
 use Rattle.edif_library.specs.Text.{EdifReads, EdifFault, EdifCut}
 use Rattle.edif_library.specs.declared.file.EdifFile.{EdifFile}
 use Rattle.edif_writer.specs.Forms.{edif_text}
@@ -9,7 +9,9 @@ use Rattle.flat_report.specs.Report.{IsReport}
 use Rattle.net_lint.specs.Lint.{IsLint}
 use Rattle.net_bits.specs.Names.{NameSet, has_name, with_name}
 use Rattle.net_hier.specs.Constants.{ConstantNames}
-use Rattle.net_hier.specs.Design.{Design}
+use Rattle.net_flatten.specs.Flattening.{IsFlattening}
+use Rattle.net_flatten_rules.specs.SameFlat.{SameFlat}
+use Rattle.net_hier.specs.Design.{Design, top_name}
 use Rattle.net_hier.specs.Units.{units}
 use Rattle.net_hier.specs.declared.cells.HCell.{HCell}
 use Rattle.net_hier.specs.declared.cells.HProp.{HProp}
@@ -26,6 +28,7 @@ use Rattle.to_verilog_rules.specs.Rules.{first_V}
 use Rattle.vlog_design.specs.Design.{vlog_design}
 use Rattle.vlog_design.specs.Names.{Name}
 use Rattle.vlog_design.specs.Rules.{first_G}
+use Rattle.vlog_design_laws.specs.Designs.{IsVlogDesign}
 use Rattle.vlog_elab.specs.Answers as verilog_answers
 use Rattle.vlog_modules.specs.Text.{VlogReads, VlogFault, VlogCut}
 use Rattle.vlog_rereading.specs.Whole.{VlogSpells}
@@ -33,8 +36,8 @@ use Rattle.vlog_values.specs.declared.module.VlogFile.{VlogFile}
 use Rattle.vlog_writer.specs.Forms.{vlog_text}
 use Rattle.netlist_words.specs.declared.command.Command.{Command}
 use Rattle.netlist_words.specs.declared.command.Command.TheVariants as commands
-use Rattle.netlist_cli.specs.Outcomes.{FileLanguage, Meaning, SaidThen, Verdict, fine, breaks, breaks_of_tool, exceeds, exceeds_flat, or_refused, or_too_flat, said_first}
-use Rattle.netlist_cli.specs.Tools.{BreaksSpice}
+use Rattle.netlist_cli.specs.Outcomes.{FileLanguage, Meaning, SaidThen, Verdict, fine, breaks, breaks_of_tool, exceeds, exceeds_flat, or_refused, or_too_flat, said_first, said_of_count}
+use Rattle.netlist_cli.specs.Tools.{BreaksFlatten, BreaksSpice, Flattens}
 
 -- ---- the two languages
 
@@ -95,6 +98,28 @@ spice_rules cells top props (breaks_of_tool refusal) = BreaksSpice cells refusal
 spice_rules cells top props (exceeds count) = ⊥
 spice_rules cells top props (exceeds_flat count) = ⊥
 
+-- what is said of the flattened design of a design of these parts, where these cells stand for the constants
+pub record SaysOfFlat (names : ConstantNames) (judge : Judgement) (cells : List HCell) (top : ℕ) (props : List HProp) (verdict : Verdict) : Type 0 where
+  pub flat : Design
+  pub flattens : Flattens names cells top props flat
+  pub is_said : judge flat.cells flat.top flat.props verdict
+
+-- the first object of the lowest broken rule of flattened designs, or what is said of the flattened design
+abbrev pub SaysFlattened : ConstantNames → Judgement → Judgement
+SaysFlattened names judge cells top props fine = SaysOfFlat names judge cells top props fine
+SaysFlattened names judge cells top props (breaks refusal) = SaysOfFlat names judge cells top props (breaks refusal)
+SaysFlattened names judge cells top props (breaks_of_tool refusal) = BreaksFlatten names cells top props refusal
+SaysFlattened names judge cells top props (exceeds count) = ⊥
+SaysFlattened names judge cells top props (exceeds_flat count) = ⊥
+
+-- the flat limit, the rules of flattened designs, and then what is said so of the flattened design
+abbrev pub flat_rules : ConstantNames → Judgement → Judgement
+flat_rules names judge cells top props = SaidThen (said_of_count (flat_count cells top)) (SaysFlattened names judge cells top props)
+
+-- the rules of Verilog as a target, without names of parameters
+abbrev pub plain_target : Judgement
+plain_target = target_rules (params_of [])
+
 -- ---- the texts
 
 -- what is written of a file that breaks no rule
@@ -123,6 +148,21 @@ pub record IsSpiceOf (design : Design) (text : List ℕ) : Type 0 where
   pub same : IsSpiceFor design file
   pub is_text : text ≡ spice_text file
 
+-- The text is that of an EDIF file of the flattened design, where these cells stand for the constants: it breaks no rule, and each design that
+-- says what the file says is the design as one cell of leaf instances. Whatever its length, the text spells this file.
+pub record IsFlatEdifOf (names : ConstantNames) (design : Design) (text : List ℕ) : Type 0 where
+  pub flat : Design
+  pub flattens : IsFlattening names design flat
+  pub written : IsEdifOf names flat text
+  pub same_flat : (other : Design) → IsEdifDesign written.file other → SameFlat names design other
+
+-- The same of modules, under the name of the design's top.
+pub record IsFlatVerilogOf (names : ConstantNames) (design : Design) (text : List ℕ) : Type 0 where
+  pub flat : Design
+  pub flattens : IsFlattening names design flat
+  pub written : IsVerilogOf flat text
+  pub same_flat : (other : Design) → IsVlogDesign written.modules (top_name flat.cells flat.top) other → SameFlat names design other
+
 -- The text is made of a design that says what the file says.
 pub record IsMadeOfDesign {File : Type 0} (IsDesignOf : File → Design → Type 0) (IsMade : Design → List ℕ → Type 0) (file : File) (text : List ℕ) : Type 0 where
   pub design : Design
@@ -149,4 +189,11 @@ meaning_of (commands.Report top names) = of_design top few_flat (IsReport names)
 meaning_of (commands.Lint top names) = of_design top few_flat (IsLint names)
 meaning_of (commands.ToVerilog names) = of_design None (target_rules (params_of names)) IsVerilogOf
 meaning_of (commands.ToEdif top names) = of_design (Some top) any_design (IsEdifOf names)
+meaning_of (commands.Flatten None names) = of_design None (flat_rules names any_design) (IsFlatEdifOf names)
+meaning_of (commands.Flatten (Some top) names) = of_design (Some top) (flat_rules names plain_target) (IsFlatVerilogOf names)
 meaning_of (commands.ToSpice top) = of_design top spice_rules IsSpiceOf
+
+-- the command does not flatten
+abbrev pub IsNoFlattening : Command → Type 0
+IsNoFlattening (commands.Flatten top names) = ⊥
+IsNoFlattening c = ⊤

@@ -36,6 +36,10 @@ or_refused (Some refusal) otherwise = breaks refusal
 abbrev pub or_too_flat : ℕ → Verdict → Verdict
 or_too_flat count otherwise = if nat_lt flat_limit count then exceeds_flat count else otherwise
 
+-- this flat count, where it passes the limit of the flat tools; else nothing
+abbrev pub said_of_count : ℕ → Option Verdict
+said_of_count count = if nat_lt flat_limit count then Some (exceeds_flat count) else None
+
 -- what is said before a command asks anything of a design: a refusal, if there is one, or so many units, where they pass the limit of a
 -- design; else nothing
 abbrev pub said_first : Option Refusal → ℕ → Option Verdict

@@ -31,6 +31,7 @@
 pub mod checking;
 pub mod designs;
 pub mod failure;
+pub mod flattening;
 pub mod formatting;
 pub mod laws;
 pub mod line;

@@ -7,6 +7,7 @@ ghost use Rattle.netlist_cli.specs.Runs.{BrokeOff, Does, DoesAsked, FitsBytes, I
 
 use crate::checking::check;
 use crate::failure::Failure;
+use crate::flattening::write_flattened;
 use crate::formatting::{format, vformat};
 use crate::line::report;
 use crate::linting::write_findings;
@@ -41,6 +42,7 @@ fn carry_out<S: Source, O: Sink>(
         Command::Lint(top, constants) => write_findings(alloc, top, constants, input, output),
         Command::ToVerilog(names) => translate(alloc, names, input, output),
         Command::ToEdif(top, constants) => translate_back(alloc, top, constants, input, output),
+        Command::Flatten(top, constants) => write_flattened(alloc, top, constants, input, output),
         Command::ToSpice(top) => write_subcircuits(alloc, top, input, output),
     }
 }

@@ -1,7 +1,8 @@
 // The rules of tools on designs.
 ghost use Rattle.std.specs.Prelude.{◌≡◌};
-ghost use Rattle.netlist_cli.specs.Tools.{spice_rule_name, tool_rule_name};
+ghost use Rattle.netlist_cli.specs.Tools.{flatten_rule_name, spice_rule_name, tool_rule_name};
 
+use net_flatten_rules::FlattenRule;
 use nl_base::{Seq, Text};
 use to_spice_rules::SpiceRule;
 
@@ -10,6 +11,8 @@ use to_spice_rules::SpiceRule;
 pub enum ToolRule {
     /// A rule of SPICE texts.
     Spice(SpiceRule),
+    /// A rule of flattened designs.
+    Flatten(FlattenRule),
 }
 
 /// A broken rule of a tool, the name of the cell in which the object stands, and the names that tell the object.
@@ -34,6 +37,16 @@ fn spice_rule_name(rule: SpiceRule) -> &'static [u8]
     }
 }
 
+/// The name that is printed for a rule of flattened designs.
+fn flatten_rule_name(rule: FlattenRule) -> &'static [u8]
+    ensures { result.now ≡ flatten_rule_name rule }
+{
+    match rule {
+        FlattenRule::F1 => b"F1",
+        FlattenRule::F2 => b"F2",
+    }
+}
+
 impl ToolRule {
     /// The name that is printed for it.
     pub fn name(&self) -> &'static [u8]
@@ -41,6 +54,7 @@ impl ToolRule {
     {
         match self {
             ToolRule::Spice(rule) => spice_rule_name(*rule),
+            ToolRule::Flatten(rule) => flatten_rule_name(*rule),
         }
     }
 }

@@ -53,7 +53,7 @@ fn modules_of(alloc: Global, hier: &Hier, params: &Names) -> Result<VlogFile, Fa
 }
 
 /// The same, where these are the names of parameters.
-fn modules_under(alloc: Global, hier: &Hier, names: &Seq<Text>) -> Result<VlogFile, Failure>
+pub fn modules_under(alloc: Global, hier: &Hier, names: &Seq<Text>) -> Result<VlogFile, Failure>
     ensures { MatchResult result (AreModulesFor hier.now (params_of names.now)) (IsFailureOf
         (target_rules (params_of names.now) hier.now.cells hier.now.top hier.now.props)) }
 {

@@ -6,7 +6,7 @@ use Rattle.nl_base.specs.declared.memory.NoMemory.{NoMemory}
 use Rattle.net_hier.specs.Constants.{ConstantNames, usual_names}
 use Rattle.net_hier.specs.declared.constants.ConstName.{ConstName}
 use Rattle.netlist_words.specs.Commands.{IsAsked, IsChosen, IsCommand, IsName, NamesDesign, NamesTop, option_words}
-use Rattle.netlist_words.specs.Parsing.{Wanted, are_options, behind_option, check_of, command, constants_behind, constants_of, if_none_left, lint_of, option_value, report_of, to_edif_for, to_edif_of, to_spice_of, to_verilog_of, values_of, wanted_of}
+use Rattle.netlist_words.specs.Parsing.{Wanted, are_options, behind_option, check_of, command, constants_behind, constants_of, flatten_of, if_none_left, lint_of, option_value, report_of, to_edif_for, to_edif_of, to_spice_of, to_verilog_of, values_of, wanted_of}
 use Rattle.netlist_words.specs.declared.command.Command.{Command}
 use Rattle.netlist_words.specs.declared.command.Command.TheVariants as commands
 use Rattle.netlist_words.proofs.Taken.{same_text, not_empty, option_taken, option_named, none_left, options_taken, repeated_are, repeated_values, taken, passes_option, passes_words}
@@ -91,6 +91,15 @@ lint_is words c e = go (wanted_of words) refl e
         let same : commands.Lint wanted.top wanted.names ≡ c = cc in
         subst (λ (d : Command). IsCommand (codes "lint" ∷ words) d) same (wanted_is (codes "lint") words wanted f)
 
+flatten_is : (words : List (List ℕ)) (c : Command) → flatten_of words ≡ Some c → IsCommand (codes "flatten" ∷ words) c
+flatten_is words c e = go (wanted_of words) refl e
+  where
+    go : (found : Option Wanted) → wanted_of words ≡ found → option_map (λ wanted. commands.Flatten wanted.top wanted.names) found ≡ Some c → IsCommand (codes "flatten" ∷ words) c
+    go None f e = absurd cc
+    go (Some wanted) f e =
+        let same : commands.Flatten wanted.top wanted.names ≡ c = cc in
+        subst (λ (d : Command). IsCommand (codes "flatten" ∷ words) d) same (wanted_is (codes "flatten") words wanted f)
+
 to_verilog_is : (words : List (List ℕ)) (c : Command) → to_verilog_of words ≡ Some c → IsCommand (codes "to-verilog" ∷ words) c
 to_verilog_is words c e = go (are_options (codes "--parameter") words) refl e
   where
@@ -148,7 +157,8 @@ command_is (word ∷ words) c e =
     (either word (codes "lint") words c _ _ (lint_is words c)
     (either word (codes "to-verilog") words c _ _ (to_verilog_is words c)
     (either word (codes "to-edif") words c _ _ (to_edif_is words c)
-    (either word (codes "to-spice") words c _ None (to_spice_is words c) (λ h. absurd cc)))))))) e
+    (either word (codes "flatten") words c _ _ (flatten_is words c)
+    (either word (codes "to-spice") words c _ None (to_spice_is words c) (λ h. absurd cc))))))))) e
 
 -- ---- what is asked for is found
 
@@ -176,6 +186,7 @@ is_found words (commands.Check None) h = rw h.are refl
 is_found words (commands.Check (Some top)) h = rw h.are (rw (not_empty top h.named) refl)
 is_found words (commands.Report top names) h = rw h.are (ap (option_map (λ wanted. commands.Report wanted.top wanted.names)) (wanted_found (codes "report") words top names h))
 is_found words (commands.Lint top names) h = rw h.are (ap (option_map (λ wanted. commands.Lint wanted.top wanted.names)) (wanted_found (codes "lint") words top names h))
+is_found words (commands.Flatten top names) h = rw h.are (ap (option_map (λ wanted. commands.Flatten wanted.top wanted.names)) (wanted_found (codes "flatten") words top names h))
 is_found words (commands.ToVerilog names) h = rw h.are (rw (repeated_are (codes "--parameter") names h.named, repeated_values (codes "--parameter") names) refl)
 is_found words (commands.ToEdif top names) h = rw h.are (ap (option_and_then to_edif_for) (wanted_found (codes "to-edif") words (Some top) names h))
 is_found words (commands.ToSpice None) h = rw h.are refl

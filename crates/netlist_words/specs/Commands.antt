@@ -65,6 +65,7 @@ IsCommand words (commands.Report top names) = NamesDesign (codes "report") words
 IsCommand words (commands.Lint top names) = NamesDesign (codes "lint") words top names
 IsCommand words (commands.ToVerilog names) = NamesParameters (codes "to-verilog") words names
 IsCommand words (commands.ToEdif top names) = NamesDesign (codes "to-edif") words (Some top) names
+IsCommand words (commands.Flatten top names) = NamesDesign (codes "flatten") words top names
 IsCommand words (commands.ToSpice top) = NamesTop (codes "to-spice") words top
 
 -- what is so of the command for which the words ask, if they ask for one

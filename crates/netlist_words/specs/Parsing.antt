@@ -114,6 +114,10 @@ to_edif_for wanted = option_map (λ top. commands.ToEdif top wanted.names) wante
 abbrev pub to_edif_of : List (List ℕ) → Option Command
 to_edif_of words = option_and_then to_edif_for (wanted_of words)
 
+-- `flatten [--top NAME] [--zero CELL.PORT] [--one CELL.PORT]`, by the words behind `flatten`
+abbrev pub flatten_of : List (List ℕ) → Option Command
+flatten_of words = option_map (λ wanted. commands.Flatten wanted.top wanted.names) (wanted_of words)
+
 -- `to-spice [--top NAME]`, by the words behind `to-spice`
 abbrev pub to_spice_of : List (List ℕ) → Option Command
 to_spice_of words = if_none_left (behind_option (codes "--top") words) (Some (commands.ToSpice (option_value (codes "--top") words)))
@@ -129,4 +133,5 @@ command (word ∷ words) =
     else (if same_bytes word (codes "lint") then lint_of words
     else (if same_bytes word (codes "to-verilog") then to_verilog_of words
     else (if same_bytes word (codes "to-edif") then to_edif_of words
-    else (if same_bytes word (codes "to-spice") then to_spice_of words else None)))))))
+    else (if same_bytes word (codes "flatten") then flatten_of words
+    else (if same_bytes word (codes "to-spice") then to_spice_of words else None))))))))

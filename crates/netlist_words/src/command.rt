@@ -1,7 +1,7 @@
 ghost use Rattle.std.specs.Prelude.{◌≡◌, IfSome, IsSome, IsTrue, MatchOption, MatchResult, None, Some};
 ghost use Rattle.netlist_words.specs.Commands.{IsAsked, IsCommand};
 ghost use Rattle.netlist_words.specs.Lent.{lent_names, lent_wanted};
-ghost use Rattle.netlist_words.specs.Parsing.{are_constants, check_of, command, constants_behind, if_none_left, lint_of, report_of, to_edif_of, to_spice_of, to_verilog_of, wanted_of};
+ghost use Rattle.netlist_words.specs.Parsing.{are_constants, check_of, command, constants_behind, flatten_of, if_none_left, lint_of, report_of, to_edif_of, to_spice_of, to_verilog_of, wanted_of};
 ghost use Rattle.netlist_words.specs.declared.command.Command.{Command as CommandValue};
 
 use crate::constants::{Names, constants_of, copied_constants};
@@ -28,6 +28,8 @@ pub enum Command {
     ToVerilog(Seq<Text>),
     /// Reads a Verilog file and writes the design under the module of this name in EDIF, where these cells stand for the constants.
     ToEdif(Text, Constants),
+    /// Writes a design as one cell of leaf instances in the language that is read, where these cells stand for the constants.
+    Flatten(Option<Text>, Constants),
     /// Writes a design as SPICE subcircuits.
     ToSpice(Option<Text>),
 }
@@ -150,6 +152,21 @@ fn to_edif_of(alloc: Global, words: &[Text]) -> Result<Option<Command>, NoMemory
     }
 }
 
+/// `flatten`, with these words behind it.
+fn flatten_of(alloc: Global, words: &[Text]) -> Result<Option<Command>, NoMemory>
+    ensures { MatchResult result (λ found. found ≡ flatten_of words.now)
+        (λ _. IsSome (flatten_of words.now)) }
+{
+    match wanted_of(words) {
+        None => Ok(None),
+        Some(wanted) => {
+            let top = copied(alloc, wanted.top)?;
+            let constants = copied_constants(alloc, wanted.names)?;
+            Ok(Some(Command::Flatten(top, constants)))
+        }
+    }
+}
+
 /// `to-spice`, with these words behind it.
 fn to_spice_of(alloc: Global, words: &[Text]) -> Result<Option<Command>, NoMemory>
     ensures { MatchResult result (λ found. found ≡ to_spice_of words.now)
@@ -195,6 +212,10 @@ fn parsed(alloc: Global, words: &Seq<Text>) -> Result<Option<Command>, NoMemory>
     }
     if word.bytes() == b"to-edif".as_slice() {
         let found = to_edif_of(alloc, options)?;
+        return Ok(found);
+    }
+    if word.bytes() == b"flatten".as_slice() {
+        let found = flatten_of(alloc, options)?;
         return Ok(found);
     }
     if word.bytes() == b"to-spice".as_slice() {
