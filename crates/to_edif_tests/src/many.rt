@@ -1,0 +1,72 @@
+// A cell of 300,000 instances, each joined to the next by a net of its own.
+use crate::given::{constants_of, design_of};
+use edif_library::{CellItem, EdifFile, FileItem, LibraryItem, ViewItem};
+use edif_writer::write_edif;
+use net_hier::{Constants, Hier};
+use nl_base::NoMemory;
+use nl_io::CountSink;
+use std::alloc::Global;
+use std::test::Fail;
+use to_edif::to_edif;
+
+/// How many instances the cell has.
+const COUNT: u32 = 300_000;
+
+/// The cell as a module: the output of each instance and the input of the next one are on one net.
+fn module_of(alloc: Global) -> Result<Vec<u8>, NoMemory> {
+    let mut text = Vec::from_slice(
+        alloc,
+        b"module INV (input I, output O); endmodule module top (); wire n0",
+    )?;
+    for number in 1..COUNT - 1 {
+        let net = format!(in alloc; ", n{number}")?;
+        text.extend_from_slice(net.as_bytes())?;
+    }
+    text.extend_from_slice(b"; INV i0 (.O(n0))")?;
+    for number in 1..COUNT - 1 {
+        let before = number - 1;
+        let instance = format!(in alloc; ", i{number} (.I(n{before}), .O(n{number}))")?;
+        text.extend_from_slice(instance.as_bytes())?;
+    }
+    text.extend_from_slice(b", i299999 (.I(n299998)); endmodule")?;
+    Ok(text)
+}
+
+/// How many items the contents of the last cell have.
+fn items_of(file: &EdifFile) -> Option<usize> {
+    let [FileItem::Library(library), ..] = file.items.items() else {
+        return None;
+    };
+    let [.., LibraryItem::Cell(cell)] = library.items.items() else {
+        return None;
+    };
+    let [CellItem::View(view)] = cell.items.items() else {
+        return None;
+    };
+    let [ViewItem::Contents(items)] = view.items.items() else {
+        return None;
+    };
+    Some(items.len())
+}
+
+/// How many items the contents of the top cell have, and how many bytes the file of the design is written in.
+fn sizes_of(alloc: Global, hier: &Hier, constants: &Constants) -> Option<(usize, u64)> {
+    let file = to_edif(alloc, hier, constants).ok()?;
+    let mut sink = CountSink::new();
+    write_edif(&file, &mut sink).ok()?;
+    Some((items_of(&file)?, sink.total()))
+}
+
+// A scan of all joins for each class would look at 180,000,000,000 of them.
+#[test]
+fn many_instances_are_translated(rt: HostRuntime) -> Result<(), Fail> {
+    let alloc = rt.alloc();
+    let text = module_of(alloc)?;
+    let hier = design_of(alloc, text, b"top")?;
+    let sizes = match (hier, constants_of(alloc, (b"GND", b"G"), (b"VCC", b"P"))?) {
+        (Some(hier), Some(constants)) => sizes_of(alloc, &hier, &constants),
+        _ => None,
+    };
+    assert!(rt; sizes == Some((599_999, 79_655_964)));
+    Ok(())
+}
