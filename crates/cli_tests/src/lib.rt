@@ -10,6 +10,8 @@ mod designs;
 #[cfg(test)]
 mod edif;
 #[cfg(test)]
+mod flattened;
+#[cfg(test)]
 mod formats;
 #[cfg(test)]
 mod given;
