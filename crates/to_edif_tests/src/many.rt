@@ -3,14 +3,44 @@ use crate::given::{constants_of, design_of};
 use edif_library::{CellItem, EdifFile, FileItem, LibraryItem, ViewItem};
 use edif_writer::write_edif;
 use net_hier::{Constants, Hier};
-use nl_base::NoMemory;
+use nl_base::{NoMemory, spell_u64};
 use nl_io::CountSink;
 use std::alloc::Global;
 use std::test::Fail;
 use to_edif::to_edif;
 
-/// How many instances the cell has.
-const COUNT: u32 = 300_000;
+/// The number of the last instance, behind 299,999 others.
+const LAST: u64 = 299_999;
+
+fn add_number(text: &mut Vec<u8>, number: u64) -> Result<(), NoMemory> {
+    let mut digits = [0; 20];
+    let len = spell_u64(number, &mut digits);
+    text.extend_from_slice(&digits[..len])?;
+    Ok(())
+}
+
+/// Adds the nets behind the first one.
+fn add_nets(text: &mut Vec<u8>) -> Result<(), NoMemory> {
+    for number in 1..LAST {
+        text.extend_from_slice(b", n")?;
+        add_number(text, number)?;
+    }
+    Ok(())
+}
+
+/// Adds the instances between the first and the last one, each with the net before it and its own.
+fn add_instances(text: &mut Vec<u8>) -> Result<(), NoMemory> {
+    for number in 1..LAST {
+        text.extend_from_slice(b", i")?;
+        add_number(text, number)?;
+        text.extend_from_slice(b" (.I(n")?;
+        add_number(text, number - 1)?;
+        text.extend_from_slice(b"), .O(n")?;
+        add_number(text, number)?;
+        text.extend_from_slice(b"))")?;
+    }
+    Ok(())
+}
 
 /// The cell as a module: the output of each instance and the input of the next one are on one net.
 fn module_of(alloc: Global) -> Result<Vec<u8>, NoMemory> {
@@ -18,16 +48,9 @@ fn module_of(alloc: Global) -> Result<Vec<u8>, NoMemory> {
         alloc,
         b"module INV (input I, output O); endmodule module top (); wire n0",
     )?;
-    for number in 1..COUNT - 1 {
-        let net = format!(in alloc; ", n{number}")?;
-        text.extend_from_slice(net.as_bytes())?;
-    }
+    add_nets(&mut text)?;
     text.extend_from_slice(b"; INV i0 (.O(n0))")?;
-    for number in 1..COUNT - 1 {
-        let before = number - 1;
-        let instance = format!(in alloc; ", i{number} (.I(n{before}), .O(n{number}))")?;
-        text.extend_from_slice(instance.as_bytes())?;
-    }
+    add_instances(&mut text)?;
     text.extend_from_slice(b", i299999 (.I(n299998)); endmodule")?;
     Ok(text)
 }
