@@ -1,10 +1,11 @@
 -- How a run ends, from what was done with the input and the output.
-use Rattle.std.proofs.Common.{◌≡◌, ◌≢◌, ◌↔◌, inl, inr, ℕ, List, Option, Some, None, IfSome, Result, Ok, Err, refl, sym, ap, ◌∙◌, subst, arith}
+use Rattle.std.proofs.Common.{◌≡◌, ◌≢◌, ◌↔◌, ◌⊎◌, inl, inr, ℕ, List, Option, Some, None, IfSome, Result, Ok, Err, refl, sym, ap, ◌∙◌, subst, arith}
 use Rattle.nl_io.specs.Causes.{Rose}
 use Rattle.nl_io.specs.declared.source.Failed.{Failed}
 use Rattle.readers.specs.Sources.{Supply, supply}
 use Rattle.readers.proofs.Moving.{skip_none}
 use Rattle.netlist_words.specs.declared.command.Command.{Command}
+use Rattle.netlist_words.specs.declared.command.Command.TheVariants as commands
 use Rattle.netlist_words.specs.Commands.{IfCommand, IsAsked, IsCommand, IsNoCommand}
 use Rattle.netlist_words.proofs.OneCommand.{one_command}
 use Rattle.netlist_cli.specs.declared.failure.Failure.{Failure}
@@ -15,7 +16,7 @@ use Rattle.netlist_cli.specs.Statuses.{status_of}
 use Rattle.netlist_cli.specs.Lines.{line}
 use Rattle.netlist_cli.specs.Outcomes.{Meaning, Verdict, fine, breaks, breaks_of_tool, exceeds, exceeds_flat, Outcome, faulty, too_long, judged, status_due, IsWriting, Says, Gives}
 use Rattle.netlist_cli.specs.Meanings.{meaning_of}
-use Rattle.netlist_cli.specs.Runs.{PutsText, WroteText, BrokeOff, IsCause, Fails, IsTold, TakesFrom, TellsFailure, FitsBytes, IsDecided, Does, DoesAsked, Performs}
+use Rattle.netlist_cli.specs.Runs.{PutsText, WroteText, BrokeOff, EndsUnread, HasFewCells, IsCause, Fails, IsTold, LeavesInput, ReadsNothing, TakesFrom, TellsFailure, FitsBytes, IsDecided, Does, DoesAsked, Performs}
 use Rattle.netlist_cli.proofs.Told.{if_told, any_told}
 use Rattle.netlist_cli.proofs.Results.{IsSettled, settled_of, one_outcome}
 
@@ -168,7 +169,7 @@ module _ {O : Type 0} (taken : O → List ℕ → Type 0) (accepts : O → ℕ �
   pub is_decided : (r : Result (Unit {0}) Failure) → done r → ¬ Rose i.faults j.faults → IfSome i.left (λ bs. IsDecided m bs failed (ending r))
   is_decided (Ok u) h n = decided_where (judged fine) (puts_fine (Ok tt) h)
   is_decided (Err (failures.Text f)) h n = decided_where (faulty f) h.0.first
-  is_decided (Err failures.ReadFault) h n = absurd (n h.0)
+  is_decided (Err failures.ReadFault) h n = absurd (n (settled.exact.failed_so i j h.0))
   is_decided (Err failures.WriteFault) h n =
       if_told i.left (λ bs. Gives m.question bs (judged fine)) (λ bs. IsDecided m bs failed statuses.WriteFault) (puts_fine (Err h.0) h.1) (λ bs gives. broken_decided m settled bs failed gives h.1.put.cause.failed)
   is_decided (Err failures.Usage) h n = absurd h.0
@@ -179,12 +180,45 @@ module _ {O : Type 0} (taken : O → List ℕ → Type 0) (accepts : O → ℕ �
   is_decided (Err (failures.DesignLimit k)) h n = decided_where (judged (exceeds k)) (said_of_bytes m (exceeds k) i.left h.0)
   is_decided (Err (failures.FlatLimit k)) h n = decided_where (judged (exceeds_flat k)) (said_of_bytes m (exceeds_flat k) i.left h.0)
 
+-- ---- commands that read nothing
+
+ends_unread : (r : Result (Unit {0}) Failure) → EndsUnread r → (ending r ≡ statuses.Done) ⊎ (ending r ≡ statuses.WriteFault) ⊎ (ending r ≡ statuses.NoMemory)
+ends_unread (Ok u) h = inl refl
+ends_unread (Err (failures.Text f)) h = absurd h
+ends_unread (Err failures.ReadFault) h = absurd h
+ends_unread (Err failures.WriteFault) h = inr (inl refl)
+ends_unread (Err failures.Usage) h = absurd h
+ends_unread (Err failures.NoMemory) h = inr (inr refl)
+ends_unread (Err failures.InputLimit) h = absurd h
+ends_unread (Err (failures.Refused r)) h = absurd h
+ends_unread (Err (failures.RefusedByTool r)) h = absurd h
+ends_unread (Err (failures.DesignLimit n)) h = absurd h
+ends_unread (Err (failures.FlatLimit n)) h = absurd h
+
+-- a command for which words ask has as many cells as can be generated
+command_fits : (words : List (List ℕ)) (c : Command) → IsCommand words c → HasFewCells c
+command_fits words commands.Format h = tt
+command_fits words commands.Vformat h = tt
+command_fits words (commands.Check top) h = tt
+command_fits words (commands.Report top names) h = tt
+command_fits words (commands.Lint top names) h = tt
+command_fits words (commands.ToVerilog names) h = tt
+command_fits words (commands.ToEdif top names) h = tt
+command_fits words (commands.Flatten top names) h = tt
+command_fits words (commands.ToSpice top) h = tt
+command_fits words (commands.Generate seed cells) h = (h.some, h.few)
+
+pub asked_fits : (words : List (List ℕ)) (asked : Option Command) → IsAsked words asked → IfSome asked HasFewCells
+asked_fits words None h = tt
+asked_fits words (Some c) h = command_fits words c h
+
 -- What a run has done with the input and the output, by its status.
 pub record RunsTo {S O : Type 0} (left : S → Option (List ℕ)) (count : S → ℕ) (taken : O → List ℕ → Type 0) (accepts : O → ℕ → Type 0) (faults : O → ℕ) (words : List (List ℕ)) (a b : S) (old new : O) (status : Status) : Type 0 where
   pub done : status ≡ statuses.Done → IfCommand words (λ c. WroteText taken accepts faults (meaning_of c) (supply left count a) (supply left count b) old new)
   pub write_fault : status ≡ statuses.WriteFault → IfCommand words (λ c. BrokeOff taken accepts faults (meaning_of c) (supply left count a) (supply left count b) old new)
   pub usage : (status ≡ statuses.Usage) ↔ IsNoCommand words
   pub unread : status ≡ statuses.Usage → b ≡ a
+  pub leaves_input : IfCommand words (λ c. ReadsNothing c → LeavesInput a b status)
   pub unwritten : status ≢ statuses.Done → status ≢ statuses.WriteFault → new ≡ old
   pub exact : IfCommand words (λ c. IfSome (left a) (λ bs. FitsBytes (meaning_of c) bs status))
   pub complete : ¬ Rose (count a) (count b) → IfCommand words (λ c. IfSome (left a) (λ bs. IsDecided (meaning_of c) bs (Rose (faults old) (faults new)) status))
@@ -213,6 +247,7 @@ module _ {S O : Type 0} (left : S → Option (List ℕ)) (count : S → ℕ) (ta
     write_fault = λ h c asked. absurd (none c asked);
     usage = (λ h. none, λ h. refl);
     unread = λ h. e;
+    leaves_input = λ c asked. absurd (none c asked);
     unwritten = λ h k. d;
     exact = λ c asked. absurd (none c asked);
     complete = λ h c asked. absurd (none c asked);
@@ -222,13 +257,14 @@ module _ {S O : Type 0} (left : S → Option (List ℕ)) (count : S → ℕ) (ta
   run_ends : (asked : Option Command) (r : Result (Unit {0}) Failure) → IsAsked words asked → performed asked r → RunsTo left count taken accepts faults words a b old new (ending r)
   run_ends None r is h = rw h.0 (no_command is h.1 h.2)
   run_ends (Some c) r is h = record {
-    done = λ e. for_command words c is _ (done_so taken accepts faults (meaning_of c) before after old new r h e);
-    write_fault = λ e. for_command words c is _ (broke_so taken accepts faults (meaning_of c) before after old new r h e);
-    usage = (λ e. absurd (never_usage taken accepts faults (meaning_of c) before after old new r h e), λ none. absurd (none c is));
-    unread = λ e. absurd (never_usage taken accepts faults (meaning_of c) before after old new r h e);
-    unwritten = unwritten_so taken accepts faults (meaning_of c) before after old new r h;
-    exact = for_command words c is _ (fits_bytes taken accepts faults (meaning_of c) (settled_of c) before after old new r h);
-    complete = λ n. for_command words c is _ (is_decided taken accepts faults (meaning_of c) (settled_of c) before after old new r h n);
+    done = λ e. for_command words c is _ (done_so taken accepts faults (meaning_of c) before after old new r h.0 e);
+    write_fault = λ e. for_command words c is _ (broke_so taken accepts faults (meaning_of c) before after old new r h.0 e);
+    usage = (λ e. absurd (never_usage taken accepts faults (meaning_of c) before after old new r h.0 e), λ none. absurd (none c is));
+    unread = λ e. absurd (never_usage taken accepts faults (meaning_of c) before after old new r h.0 e);
+    leaves_input = for_command words c is _ (λ unread. record { unread = (h.1 unread).0; ends = ends_unread r (h.1 unread).1 });
+    unwritten = unwritten_so taken accepts faults (meaning_of c) before after old new r h.0;
+    exact = for_command words c is _ (fits_bytes taken accepts faults (meaning_of c) (settled_of c) before after old new r h.0);
+    complete = λ n. for_command words c is _ (is_decided taken accepts faults (meaning_of c) (settled_of c) before after old new r h.0 n);
   }
 
   -- the same for a status that is known to be the one of the answer
@@ -237,7 +273,7 @@ module _ {S O : Type 0} (left : S → Option (List ℕ)) (count : S → ℕ) (ta
 
   fails : (asked : Option Command) (f : Failure) → IsAsked words asked → performed asked (Err f) → Fails words before after f
   fails None f is h = let d : Err f ≡ Err failures.Usage = h.0 in record { usage = λ none. cc; cause = λ c asked. absurd (is c asked) }
-  fails (Some c) f is h = record { usage = λ none. absurd (none c is); cause = for_command words c is _ (cause_so taken accepts faults (meaning_of c) before after old new f h) }
+  fails (Some c) f is h = record { usage = λ none. absurd (none c is); cause = for_command words c is _ (cause_so taken accepts faults (meaning_of c) before after old new f h.0) }
 
   -- a failure that was told has its cause
   pub tells : {E : Type 0} (etaken : E → List ℕ → Type 0) (eaccepts : E → ℕ → Type 0) (efaults : E → ℕ) (f : Failure) (status : Status) (eold enew : E) → does_asked (Err f) → status ≡ status_of f

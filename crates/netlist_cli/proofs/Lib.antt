@@ -1,5 +1,6 @@
 pub mod Lines
 pub mod Told
+pub mod Unread
 pub mod SpiceSaid
 pub mod Verdicts
 pub mod Flattened

@@ -153,13 +153,13 @@ module _ {O : Type 0} (taken : O → List ℕ → Type 0) (accepts : O → ℕ �
 
   module _ (i j : Supply) where
     module _ (language : FileLanguage) (IsSaid : language.File → Verdict → Type 0) (IsDesignOf : language.File → Design → Type 0) (IsMade : Design → List ℕ → Type 0) (design : Design)
-        (h : HasDesign language.reads IsDesignOf i j design) (said : Verdict → Type 0) (of_file : (verdict : Verdict) → said verdict → IsSaid h.file verdict) where
+        (h : HasDesign language.reads IsDesignOf i j design) (is_read : language.IsRead i j) (said : Verdict → Type 0) (of_file : (verdict : Verdict) → said verdict → IsSaid h.file verdict) where
       -- what is done with the design of a file, in the words of the file
       over_file : (r : Result (Unit {0}) Failure) → Makes taken accepts faults said (IsMade design) old new r → Does taken accepts faults (meaning language IsSaid (IsMadeOfDesign IsDesignOf IsMade)) i j old new r
       over_file (Ok done) m = record {
         text = m.text;
         is_text = record { file = h.file; reads_as = h.reads_as; is_fine = of_file fine m.is_fine; made = record { design = design; is_design = h.is_design; made = m.made } };
-        ended = h.ended;
+        ended = is_read;
         put = m.put;
       }
       over_file (Err failures.WriteFault) m = (
@@ -167,7 +167,7 @@ module _ {O : Type 0} (taken : O → List ℕ → Type 0) (accepts : O → ℕ �
         record {
           text = m.1.text;
           is_text = record { file = h.file; reads_as = h.reads_as; is_fine = of_file fine m.1.is_fine; made = record { design = design; is_design = h.is_design; made = m.1.made } };
-          ended = h.ended;
+          ended = is_read;
           put = m.1.put;
         },
       )
@@ -184,9 +184,9 @@ module _ {O : Type 0} (taken : O → List ℕ → Type 0) (accepts : O → ℕ �
     -- what a command does with the design that it got
     pub design_is_used : (top : Option Name) (judge : Judgement) (IsMade : Design → List ℕ → Type 0) (design : Design) → IsDesignRead top i j design → (r : Result (Unit {0}) Failure)
         → MakesOf taken accepts faults judge IsMade design old new r → Does taken accepts faults (of_design top judge IsMade) i j old new r
-    design_is_used None judge IsMade design h r m = over_file edif (SaysOfEdif judge) edif_answers.IsDesignOf IsMade design h _ (of_edif_design h.file design judge h.is_design) r m
+    design_is_used None judge IsMade design h r m = over_file edif (SaysOfEdif judge) edif_answers.IsDesignOf IsMade design h h.ended _ (of_edif_design h.file design judge h.is_design) r m
     design_is_used (Some top) judge IsMade design h r m =
-        over_file verilog (SaysOfVerilog top judge) (λ file read. verilog_answers.IsDesignOf file top read) IsMade design h _ (of_design_under top h.file design judge h.is_design) r m
+        over_file verilog (SaysOfVerilog top judge) (λ file read. verilog_answers.IsDesignOf file top read) IsMade design h h.ended _ (of_design_under top h.file design judge h.is_design) r m
 
     -- there is no design
     pub no_design_is_told : (top : Option Name) (judge : Judgement) (IsMade : Design → List ℕ → Type 0) (f : Failure) → IsNoDesign top i j f → new ≡ old → Does taken accepts faults (of_design top judge IsMade) i j old new (Err f)

@@ -1,9 +1,11 @@
 -- What a command does that reads its whole input as a text of a language.
 use Rattle.std.proofs.Common.{◌≡◌, ◌≢◌, ℕ, List, Result, Ok, Err, refl}
+use Rattle.std.specs.Io.KnownBytes.{IsAtEnd}
 use Rattle.grammar.specs.Whole.{whole, IsFirstFault, IsCut}
 use Rattle.nl_base.specs.declared.fault.Reason.{Reason}
 use Rattle.nl_base.specs.declared.fault.ReadError.{ReadError}
 use Rattle.nl_base.specs.declared.fault.ReadError.TheVariants as errors
+use Rattle.nl_io.specs.Causes.{Rose}
 use Rattle.nl_io.specs.declared.source.Failed.{Failed}
 use Rattle.nl_output.specs.Writing.{Writes}
 use Rattle.readers.specs.Parts.{PartOf}
@@ -25,6 +27,8 @@ module _ {K X V : Type 0} (L : Language X) (trail : X → Reason) (k : K) (part 
     reads = SpellsText L trail k part;
     fault = λ bs f. IsFirstFault (fault_at L) k (whole trail part) (tokens_of L bs) f;
     cut = λ bs. IsCut k (whole trail part) (tokens_of L bs);
+    IsRead = λ i j. IsAtEnd j.left;
+    HasFailed = λ i j. Rose i.faults j.faults;
   }
 
   -- bytes are taken by a reader of a whole text

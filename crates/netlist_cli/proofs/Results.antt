@@ -1,6 +1,8 @@
 -- Of the same bytes one thing comes.
 use Rattle.std.proofs.Common.{◌≡◌, ℕ, List, [], Option, Some, None, refl, sym, ap, subst, ◌∙◌}
 use Rattle.nl_base.specs.declared.fault.TextFault.{TextFault}
+use Rattle.nl_io.specs.Causes.{Rose}
+use Rattle.readers.specs.Sources.{Supply}
 use Rattle.edif_library.proofs.AtMostOne as edif_laws
 use Rattle.vlog_modules.proofs.AtMostOne as verilog_laws
 use Rattle.flat_classes.specs.FlatSums.{flat_count}
@@ -14,20 +16,22 @@ use Rattle.to_verilog_rules.specs.Rules.{first_V}
 use Rattle.vlog_design.specs.Names.{Name}
 use Rattle.netlist_words.specs.declared.command.Command.{Command}
 use Rattle.netlist_words.specs.declared.command.Command.TheVariants as commands
-use Rattle.netlist_cli.specs.Meanings.{IsEdifOf, IsFlatEdifOf, IsFlatVerilogOf, IsNoFlattening, IsVerilogOf, Judgement, SaysFlattened, any_design, edif, edif_first, flat_rules, meaning_of, of_design, params_of, plain_target, spice_rules, verilog, verilog_first}
+use Rattle.netlist_cli.specs.Meanings.{IsEdifOf, IsFlatEdifOf, IsFlatVerilogOf, IsNoFlattening, IsVerilogOf, Judgement, SaysFlattened, any_design, edif, edif_first, flat_rules, meaning_of, no_input, of_design, params_of, plain_target, spice_rules, verilog, verilog_first}
 use Rattle.netlist_cli.specs.Outcomes.{FileLanguage, Question, SaidThen, or_refused, or_too_flat, said_of_count, Verdict, fine, breaks, breaks_of_tool, exceeds, exceeds_flat, Outcome, faulty, too_long, judged, Gives}
 use Rattle.netlist_cli.specs.Tools.{BreaksSpice, spice_refusal}
 use Rattle.netlist_cli.specs.declared.tools.ToolRefusal.{ToolRefusal}
 use Rattle.netlist_cli.proofs.Flattened.{one_of_flattened}
 use Rattle.netlist_cli.proofs.SpiceSaid.{spice_said}
 
--- What a language says of all bytes: they read as at most one file, have at most one first fault or go on past the limit, and never two of these.
+-- What a language says of all bytes: they read as at most one file, have at most one first fault or go on past the limit, and never two of these;
+-- and an input has failed only where its count rose.
 pub record IsExact (language : FileLanguage) : Type 0 where
   pub one : (bs : List ℕ) (v w : language.File) → language.reads bs v → language.reads bs w → v ≡ w
   pub one_fault : (bs : List ℕ) (f g : TextFault) → language.fault bs f → language.fault bs g → f ≡ g
   pub no_fault : (bs : List ℕ) (v : language.File) (f : TextFault) → language.reads bs v → language.fault bs f → ⊥
   pub no_cut : (bs : List ℕ) (v : language.File) → language.reads bs v → language.cut bs → ⊥
   pub no_fault_of_cut : (bs : List ℕ) (f : TextFault) → language.fault bs f → language.cut bs → ⊥
+  pub failed_so : (i j : Supply) → language.HasFailed i j → Rose i.faults j.faults
 
 edif_exact : IsExact edif
 edif_exact = record {
@@ -36,6 +40,7 @@ edif_exact = record {
   no_fault = edif_laws.file_or_fault;
   no_cut = edif_laws.file_or_cut;
   no_fault_of_cut = edif_laws.fault_or_cut;
+  failed_so = λ i j h. h;
 }
 
 verilog_exact : IsExact verilog
@@ -45,6 +50,17 @@ verilog_exact = record {
   no_fault = verilog_laws.file_or_fault;
   no_cut = verilog_laws.file_or_cut;
   no_fault_of_cut = verilog_laws.fault_or_cut;
+  failed_so = λ i j h. h;
+}
+
+no_input_exact : IsExact no_input
+no_input_exact = record {
+  one = λ bs v w h k. refl;
+  one_fault = λ bs f g h k. absurd h;
+  no_fault = λ bs v f h k. absurd k;
+  no_cut = λ bs v h k. absurd k;
+  no_fault_of_cut = λ bs f h k. absurd h;
+  failed_so = λ i j h. absurd h;
 }
 
 -- ---- of each file one thing is said
@@ -138,6 +154,7 @@ settled_of (commands.ToEdif top names) = design_settled (Some top) _ (IsEdifOf n
 settled_of (commands.Flatten None names) = design_settled None _ (IsFlatEdifOf names) (flat_one names any_design (one_by_function any_said))
 settled_of (commands.Flatten (Some top) names) = design_settled (Some top) _ (IsFlatVerilogOf names) (flat_one names plain_target (one_by_function (target_said [])))
 settled_of (commands.ToSpice top) = design_settled top _ _ one_of_spice
+settled_of (commands.Generate seed cells) = record { exact = no_input_exact; one_said = λ file. same_said fine }
 
 -- what is said by each command that does not flatten
 pub said_of : (c : Command) → IsNoFlattening c → HasSaid (meaning_of c).question
@@ -150,6 +167,7 @@ said_of (commands.ToVerilog names) never = design_said None _ IsVerilogOf (some_
 said_of (commands.ToEdif top names) never = design_said (Some top) _ (IsEdifOf names) (some_by_function any_said)
 said_of (commands.Flatten top names) never = absurd never
 said_of (commands.ToSpice top) never = design_said top _ _ spice_said
+said_of (commands.Generate seed cells) never = λ file none. none (fine, refl)
 
 module _ (q : Question) (settled : IsSettled q) (bs : List ℕ) where
   abbrev exact : IsExact q.language

@@ -1,5 +1,7 @@
 -- What each command makes of its input.
 use Rattle.std.specs.Prelude.{◌≡◌, ℕ, List, [], ◌∷◌, false, Option, Some, None, codes, ⊤}
+use Rattle.std.specs.Io.KnownBytes.{IsAtEnd}
+use Rattle.nl_io.specs.Causes.{Rose}
 use Rattle.edif_copies.specs.Answers.{IsEdifDesign, IsEdifFor}
 use Rattle.edif_library.specs.Text.{EdifReads, EdifFault, EdifCut}
 use Rattle.edif_library.specs.declared.file.EdifFile.{EdifFile}
@@ -25,6 +27,7 @@ use Rattle.to_spice.specs.Answers.{IsSpiceFor}
 use Rattle.to_spice_rules.specs.Answers.{KeepsRules}
 use Rattle.to_verilog.specs.Answers.{IsVerilogFor}
 use Rattle.to_verilog_rules.specs.Rules.{first_V}
+use Rattle.vectors_line.specs.Lines.{IsGeneratedLine}
 use Rattle.vlog_design.specs.Design.{vlog_design}
 use Rattle.vlog_design.specs.Names.{Name}
 use Rattle.vlog_design.specs.Rules.{first_G}
@@ -42,10 +45,35 @@ use Rattle.netlist_cli.specs.Tools.{BreaksFlatten, BreaksSpice, Flattens}
 -- ---- the two languages
 
 abbrev pub edif : FileLanguage
-edif = record { File = EdifFile; reads = EdifReads; fault = EdifFault; cut = EdifCut }
+edif = record {
+  File = EdifFile;
+  reads = EdifReads;
+  fault = EdifFault;
+  cut = EdifCut;
+  IsRead = λ i j. IsAtEnd j.left;
+  HasFailed = λ i j. Rose i.faults j.faults;
+}
 
 abbrev pub verilog : FileLanguage
-verilog = record { File = VlogFile; reads = VlogReads; fault = VlogFault; cut = VlogCut }
+verilog = record {
+  File = VlogFile;
+  reads = VlogReads;
+  fault = VlogFault;
+  cut = VlogCut;
+  IsRead = λ i j. IsAtEnd j.left;
+  HasFailed = λ i j. Rose i.faults j.faults;
+}
+
+-- the language of commands that read nothing: whatever the bytes are, they have no fault, the input stays as it is, and it does not fail
+abbrev pub no_input : FileLanguage
+no_input = record {
+  File = Unit {0};
+  reads = λ bytes file. ⊤;
+  fault = λ bytes fault. ⊥;
+  cut = λ bytes. ⊥;
+  IsRead = λ i j. j ≡ i;
+  HasFailed = λ i j. ⊥;
+}
 
 -- ---- what is said of a file: the rules of its language, then the limit of a design, and then what the command asks of the design
 
@@ -192,6 +220,7 @@ meaning_of (commands.ToEdif top names) = of_design (Some top) any_design (IsEdif
 meaning_of (commands.Flatten None names) = of_design None (flat_rules names any_design) (IsFlatEdifOf names)
 meaning_of (commands.Flatten (Some top) names) = of_design (Some top) (flat_rules names plain_target) (IsFlatVerilogOf names)
 meaning_of (commands.ToSpice top) = of_design top spice_rules IsSpiceOf
+meaning_of (commands.Generate seed cells) = meaning no_input (λ file verdict. fine ≡ verdict) (λ file text. IsGeneratedLine seed cells text)
 
 -- the command does not flatten
 abbrev pub IsNoFlattening : Command → Type 0

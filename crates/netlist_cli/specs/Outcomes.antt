@@ -4,18 +4,22 @@ use Rattle.nl_base.specs.declared.fault.TextFault.{TextFault}
 use Rattle.nl_base.specs.declared.rule.Refusal.{Refusal}
 use Rattle.flat_classes.specs.FlatSums.{flat_limit}
 use Rattle.net_hier.specs.Valid.{unit_limit}
+use Rattle.readers.specs.Sources.{Supply}
 use Rattle.netlist_cli.specs.declared.status.Status.{Status}
 use Rattle.netlist_cli.specs.declared.tools.ToolRefusal.{ToolRefusal}
 use Rattle.netlist_cli.specs.declared.status.Status.TheVariants as statuses
 
 -- ---- files and what is said of them
 
--- A language of files: which bytes read as a file, have a first fault, or go on past the limit of an input without one.
+-- A language of files: which bytes read as a file, have a first fault, or go on past the limit of an input without one; what is left of an
+-- input of which a file was read; and when an input has failed.
 pub record FileLanguage : Type 1 where
   pub File : Type 0
   pub reads : List ℕ → File → Type 0
   pub fault : List ℕ → TextFault → Type 0
   pub cut : List ℕ → Type 0
+  pub IsRead : Supply → Supply → Type 0
+  pub HasFailed : Supply → Supply → Type 0
 
 -- What is said of a file: nothing is wrong with it; it breaks a rule, of which this is the first object; it breaks a rule of a tool, of
 -- which this is the first object; its design has so many units, which are more than a design may have; or its flat count is this one, which

@@ -1,14 +1,13 @@
 -- What a run has done, by the status with which it ends.
 use Rattle.std.specs.Prelude.{◌≡◌, ◌⊎◌, ℕ, ◌+◌, ◌≤◌, List, Option, Some, None, Result, Ok, Err, IfSome, ⊤}
-use Rattle.std.specs.Io.KnownBytes.{IsAtEnd}
 use Rattle.nl_base.specs.declared.fault.TextFault.{TextFault}
-use Rattle.nl_io.specs.Causes.{Rose}
 use Rattle.nl_io.specs.declared.source.Failed.{Failed}
 use Rattle.nl_bytes.specs.declared.bytes.TheConstants.{LIMIT}
 use Rattle.nl_output.specs.Writing.{Writes}
 use Rattle.readers.specs.Sources.{Supply, skip}
 use Rattle.netlist_words.specs.Commands.{IfCommand, IsAsked, IsNoCommand}
 use Rattle.netlist_words.specs.declared.command.Command.{Command}
+use Rattle.netlist_words.specs.declared.command.Command.TheVariants as commands
 use Rattle.netlist_cli.specs.declared.failure.Failure.{Failure}
 use Rattle.netlist_cli.specs.declared.failure.Failure.TheVariants as failures
 use Rattle.netlist_cli.specs.declared.status.Status.{Status}
@@ -18,18 +17,18 @@ use Rattle.netlist_cli.specs.Lines.{line}
 use Rattle.netlist_cli.specs.Outcomes.{Meaning, Question, Verdict, breaks, breaks_of_tool, exceeds, exceeds_flat, Outcome, faulty, too_long, status_due, IsWriting, Says, Gives, IsTextFrom}
 use Rattle.netlist_cli.specs.Meanings.{meaning_of}
 
--- The input was read to its end, and this is how the writing of a text that may be written went.
+-- The input was read to its end, where the command reads, and this is how the writing of a text that may be written went.
 pub record PutsText {O : Type 0} (taken : O → List ℕ → Type 0) (accepts : O → ℕ → Type 0) (faults : O → ℕ) (m : Meaning) (i j : Supply) (old new : O) (result : Result (Unit {0}) Failed) : Type 0 where
   pub text : List ℕ
   pub is_text : IsTextFrom m i.left text
-  pub ended : IsAtEnd j.left
+  pub ended : m.question.language.IsRead i j
   pub put : Writes taken accepts faults old new text result
 
--- The input was read to its end, and a text that may be written was put whole.
+-- The input was read to its end, where the command reads, and a text that may be written was put whole.
 abbrev pub WroteText : {O : Type 0} → (O → List ℕ → Type 0) → (O → ℕ → Type 0) → (O → ℕ) → Meaning → Supply → Supply → O → O → Type 0
 WroteText taken accepts faults m i j old new = PutsText taken accepts faults m i j old new (Ok tt)
 
--- The input was read to its end, and a put failed before the whole text was put.
+-- The input was read to its end, where the command reads, and a put failed before the whole text was put.
 abbrev pub BrokeOff : {O : Type 0} → (O → List ℕ → Type 0) → (O → ℕ → Type 0) → (O → ℕ) → Meaning → Supply → Supply → O → O → Type 0
 BrokeOff taken accepts faults m i j old new = (e : Failed) × PutsText taken accepts faults m i j old new (Err e)
 
@@ -56,7 +55,7 @@ IsTold taken accepts faults old new text = (answer : Result (Unit {0}) Failed) �
 -- When each failure comes of what a command asks of its input.
 abbrev pub IsCause : Question → Supply → Supply → Failure → Type 0
 IsCause q i j (failures.Text f) = HasFault q i j f
-IsCause q i j failures.ReadFault = Rose i.faults j.faults
+IsCause q i j failures.ReadFault = q.language.HasFailed i j
 IsCause q i j failures.WriteFault = ⊤
 IsCause q i j failures.Usage = ⊥
 IsCause q i j failures.NoMemory = ⊤
@@ -90,6 +89,30 @@ FitsBytes m bs status = (o : Outcome) → Gives m.question bs o → FitsOutcome 
 abbrev pub IsDecided : Meaning → List ℕ → Type 0 → Status → Type 0
 IsDecided m bs output_failed status = (o : Outcome) → Gives m.question bs o → (IsWriting o → ¬ output_failed) → (status ≡ status_due o) ⊎ (status ≡ statuses.NoMemory)
 
+-- ---- commands that read nothing
+
+-- the command reads nothing
+abbrev pub ReadsNothing : Command → Type 0
+ReadsNothing (commands.Generate seed cells) = ⊤
+ReadsNothing c = ⊥
+
+-- what is generated has 2 to 100,000 cells
+abbrev pub HasFewCells : Command → Type 0
+HasFewCells (commands.Generate seed cells) = (2 ≤ cells) × (cells ≤ 100000)
+HasFewCells c = ⊤
+
+-- the work was done, the output failed or memory ran out
+abbrev pub EndsUnread : Result (Unit {0}) Failure → Type 0
+EndsUnread (Ok done) = ⊤
+EndsUnread (Err failures.WriteFault) = ⊤
+EndsUnread (Err failures.NoMemory) = ⊤
+EndsUnread (Err f) = ⊥
+
+-- The input is as before, and the work was done, the output failed or memory ran out.
+pub record LeavesInput {S : Type 0} (old new : S) (status : Status) : Type 0 where
+  pub unread : new ≡ old
+  pub ends : (status ≡ statuses.Done) ⊎ (status ≡ statuses.WriteFault) ⊎ (status ≡ statuses.NoMemory)
+
 -- ---- the parts of a run
 
 -- What is done with the input and the output for what a command makes of its input. Until the whole text is read nothing is put.
@@ -110,7 +133,7 @@ IsFailureOf IsSaid f = ⊥
 -- What is done for a command, if there is one.
 abbrev pub Performs : {S O : Type 0} → (O → List ℕ → Type 0) → (O → ℕ → Type 0) → (O → ℕ) → (S → Supply) → Option Command → S → S → O → O → Result (Unit {0}) Failure → Type 0
 Performs taken accepts faults supply None a b old new result = (result ≡ Err failures.Usage) × (b ≡ a) × (new ≡ old)
-Performs taken accepts faults supply (Some c) a b old new result = Does taken accepts faults (meaning_of c) (supply a) (supply b) old new result
+Performs taken accepts faults supply (Some c) a b old new result = Does taken accepts faults (meaning_of c) (supply a) (supply b) old new result × (ReadsNothing c → (b ≡ a) × EndsUnread result)
 
 -- What is done for the command that the words ask for, if any.
 pub record DoesAsked {S O : Type 0} (taken : O → List ℕ → Type 0) (accepts : O → ℕ → Type 0) (faults : O → ℕ) (supply : S → Supply) (words : List (List ℕ)) (a b : S) (old new : O) (result : Result (Unit {0}) Failure) : Type 0 where

@@ -16,6 +16,9 @@
 // order of the design, which reads as these subcircuits; the design that they say has the same cells without instances and the same port bits
 // of these and of the top, and connects the same of them.
 //
+// `generate SEED CELLS` reads nothing, and ends with its work done, by a failure of the output or for want of memory. What is written is the
+// line of the file that is generated of these numbers (crate `vectors_line`).
+//
 // `run` does what the words ask for: it reads the input to its end or to its first fault, and writes nothing before all is known. Its contract
 // says for each status when it comes and what was written then:
 //
@@ -33,6 +36,7 @@ pub mod designs;
 pub mod failure;
 pub mod flattening;
 pub mod formatting;
+pub mod generating;
 pub mod laws;
 pub mod line;
 pub mod linting;

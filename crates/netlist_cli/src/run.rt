@@ -3,12 +3,13 @@ ghost use Rattle.nl_io.specs.Causes.{Rose};
 ghost use Rattle.readers.specs.Sources.{supply};
 ghost use Rattle.netlist_words.specs.Commands.{IfCommand, IsNoCommand};
 ghost use Rattle.netlist_cli.specs.Meanings.{meaning_of};
-ghost use Rattle.netlist_cli.specs.Runs.{BrokeOff, Does, DoesAsked, FitsBytes, IsDecided, Performs, TakesFrom, TellsFailure, WroteText};
+ghost use Rattle.netlist_cli.specs.Runs.{BrokeOff, Does, DoesAsked, EndsUnread, FitsBytes, HasFewCells, IsDecided, LeavesInput, Performs, ReadsNothing, TakesFrom, TellsFailure, WroteText};
 
 use crate::checking::check;
 use crate::failure::Failure;
 use crate::flattening::write_flattened;
 use crate::formatting::{format, vformat};
+use crate::generating::write_generated;
 use crate::line::report;
 use crate::linting::write_findings;
 use crate::reporting::write_report;
@@ -28,9 +29,12 @@ fn carry_out<S: Source, O: Sink>(
     input: &mut S,
     output: &mut O,
 ) -> Result<(), Failure>
+    requires { HasFewCells command.now }
     ensures does { Does O.taken O.accepts O.faults (meaning_of command.now)
         (supply S.left S.faults input.old) (supply S.left S.faults input.new)
         output.old output.new result }
+    ensures unread { ReadsNothing command.now
+        → (input.new ≡ input.old) × EndsUnread result }
     ensures taken { TakesFrom
         (supply S.left S.faults input.old) (supply S.left S.faults input.new) }
 {
@@ -44,6 +48,7 @@ fn carry_out<S: Source, O: Sink>(
         Command::ToEdif(top, constants) => translate_back(alloc, top, constants, input, output),
         Command::Flatten(top, constants) => write_flattened(alloc, top, constants, input, output),
         Command::ToSpice(top) => write_subcircuits(alloc, top, input, output),
+        Command::Generate(seed, cells) => write_generated(alloc, *seed, *cells, output),
     }
 }
 
@@ -54,6 +59,7 @@ fn carry_out_asked<S: Source, O: Sink>(
     input: &mut S,
     output: &mut O,
 ) -> Result<(), Failure>
+    requires { IfSome asked.now HasFewCells }
     ensures performs { Performs O.taken O.accepts O.faults (supply S.left S.faults)
         asked.now input.old input.new output.old output.new result }
     ensures taken { TakesFrom
@@ -114,6 +120,8 @@ pub fn run<S: Source, O: Sink, E: Sink>(
     ensures taken { TakesFrom
         (supply S.left S.faults input.old) (supply S.left S.faults input.new) }
     ensures unread { result ≡ Status.Usage → input.new ≡ input.old }
+    ensures leaves_input { IfCommand words.now
+        (λ c. ReadsNothing c → LeavesInput input.old input.new result) }
     ensures unwritten { result ≢ Status.Done → result ≢ Status.WriteFault
         → output.new ≡ output.old }
     ensures silent { result ≡ Status.Done → errors.new ≡ errors.old }

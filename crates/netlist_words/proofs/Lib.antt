@@ -1,4 +1,5 @@
 pub mod Taken
 pub mod Dots
 pub mod Choices
+pub mod Decimals
 pub mod OneCommand

@@ -1,17 +1,19 @@
 -- Words ask for the command that is found by taking them apart, and for no other.
-use Rattle.std.proofs.Common.{◌≡◌, ℕ, List, [], ◌∷◌, ◌++◌, append-nil, Bool, true, false, if◌then◌else◌, Option, Some, None, IfSome, option_and_then, option_map, refl, sym, ap, subst, ◌∙◌, Result, Ok, Err}
-use Rattle.std.specs.Prelude.{IsSome, MatchResult, codes}
+use Rattle.std.proofs.Common.{◌≡◌, ℕ, ◌<◌, ◌≤◌, ◌^◌, List, [], ◌∷◌, ◌++◌, append-nil, Bool, true, false, ◌&&◌, if◌then◌else◌, Option, Some, None, IfSome, option_and_then, option_map, refl, sym, ap, subst, ◌∙◌, Result, Ok, Err, arith}
+use Rattle.std.specs.Prelude.{IsSome, MatchResult, codes, nat_le}
+use Rattle.std.specs.Fmt.{decimal}
 use Rattle.nl_base.specs.Case.{same_bytes}
 use Rattle.nl_base.specs.declared.memory.NoMemory.{NoMemory}
 use Rattle.net_hier.specs.Constants.{ConstantNames, usual_names}
 use Rattle.net_hier.specs.declared.constants.ConstName.{ConstName}
 use Rattle.netlist_words.specs.Commands.{IsAsked, IsChosen, IsCommand, IsName, NamesDesign, NamesTop, option_words}
-use Rattle.netlist_words.specs.Parsing.{Wanted, are_options, behind_option, check_of, command, constants_behind, constants_of, flatten_of, if_none_left, lint_of, option_value, report_of, to_edif_for, to_edif_of, to_spice_of, to_verilog_of, values_of, wanted_of}
+use Rattle.netlist_words.specs.Parsing.{Wanted, are_options, behind_option, check_of, command, constants_behind, constants_of, flatten_of, generate_for, generate_of, if_none_left, lint_of, option_value, report_of, spelled_number, to_edif_for, to_edif_of, to_spice_of, to_verilog_of, values_of, wanted_of}
 use Rattle.netlist_words.specs.declared.command.Command.{Command}
 use Rattle.netlist_words.specs.declared.command.Command.TheVariants as commands
 use Rattle.netlist_words.proofs.Taken.{same_text, not_empty, option_taken, option_named, none_left, options_taken, repeated_are, repeated_values, taken, passes_option, passes_words}
 use Rattle.netlist_words.proofs.Dots.{cell_port_named}
 use Rattle.netlist_words.proofs.Choices.{Chooses, chooses, chosen}
+use Rattle.netlist_words.proofs.Decimals.{number_is, number_spelled}
 
 -- the words behind `[--top NAME]`
 abbrev behind_top : List (List ℕ) → List (List ℕ)
@@ -128,6 +130,38 @@ to_spice_is words c e =
     let left = none_left (behind_top words) (Some (commands.ToSpice (option_value (codes "--top") words))) c e in
     subst (λ (d : Command). IsCommand (codes "to-spice" ∷ words) d) (same_command _ _ left.1) (top_is (codes "to-spice") words left.0)
 
+cells_between : (cells : ℕ) → (nat_le 2 cells && nat_le cells 100000) ≡ true → (2 ≤ cells) × (cells ≤ 100000)
+cells_between cells e = (grind (arith, e), grind (arith, e))
+
+generate_is : (words : List (List ℕ)) (c : Command) → generate_of words ≡ Some c → IsCommand (codes "generate" ∷ words) c
+generate_is [] c e = absurd cc
+generate_is (seed ∷ []) c e = absurd cc
+generate_is (seed ∷ cells ∷ []) c e = seeds (spelled_number seed) refl e
+  where
+    those : (s n : ℕ) → spelled_number seed ≡ Some s → spelled_number cells ≡ Some n → (t : Bool) → (nat_le 2 n && nat_le n 100000) ≡ t → (if t then Some (commands.Generate s n) else None) ≡ Some c
+        → IsCommand (codes "generate" ∷ seed ∷ cells ∷ []) c
+    those s n es en true t e =
+        let same : commands.Generate s n ≡ c = cc in
+        let is_seed = number_is seed s es in
+        let is_cells = number_is cells n en in
+        let between = cells_between n t in
+        subst (λ (d : Command). IsCommand (codes "generate" ∷ seed ∷ cells ∷ []) d) same (record {
+          are = ap (λ (w : List ℕ). codes "generate" ∷ w ∷ cells ∷ []) is_seed.1 ∙ ap (λ (w : List ℕ). codes "generate" ∷ decimal s ∷ w ∷ []) is_cells.1;
+          seed_fits = is_seed.0;
+          some = between.0;
+          few = between.1;
+        })
+    those s n es en false t e = absurd cc
+
+    counts : (s : ℕ) → spelled_number seed ≡ Some s → (found : Option ℕ) → spelled_number cells ≡ found → option_and_then (generate_for s) found ≡ Some c → IsCommand (codes "generate" ∷ seed ∷ cells ∷ []) c
+    counts s es None f e = absurd cc
+    counts s es (Some n) f e = those s n es f (nat_le 2 n && nat_le n 100000) refl e
+
+    seeds : (found : Option ℕ) → spelled_number seed ≡ found → option_and_then (λ s. option_and_then (generate_for s) (spelled_number cells)) found ≡ Some c → IsCommand (codes "generate" ∷ seed ∷ cells ∷ []) c
+    seeds None f e = absurd cc
+    seeds (Some s) f e = counts s f (spelled_number cells) refl e
+generate_is (seed ∷ cells ∷ word ∷ words) c e = absurd cc
+
 format_is : (words : List (List ℕ)) (c : Command) → if_none_left words (Some commands.Format) ≡ Some c → IsCommand (codes "format" ∷ words) c
 format_is words c e =
     let left = none_left words (Some commands.Format) c e in
@@ -158,7 +192,8 @@ command_is (word ∷ words) c e =
     (either word (codes "to-verilog") words c _ _ (to_verilog_is words c)
     (either word (codes "to-edif") words c _ _ (to_edif_is words c)
     (either word (codes "flatten") words c _ _ (flatten_is words c)
-    (either word (codes "to-spice") words c _ None (to_spice_is words c) (λ h. absurd cc))))))))) e
+    (either word (codes "to-spice") words c _ _ (to_spice_is words c)
+    (either word (codes "generate") words c _ None (generate_is words c) (λ h. absurd cc)))))))))) e
 
 -- ---- what is asked for is found
 
@@ -179,6 +214,13 @@ wanted_found word words top names h =
     let those : constants_behind (option_words (codes "--zero") h.zero ++ option_words (codes "--one") h.one) ≡ Some names = rw (zero.value, zero.behind, one.value, one.behind, found) refl in
     rw (first.value, first.behind, those) refl
 
+generate_found : (seed cells : ℕ) → seed < 2 ^ 64 → 2 ≤ cells → cells ≤ 100000 → generate_of (decimal seed ∷ decimal cells ∷ []) ≡ Some (commands.Generate seed cells)
+generate_found seed cells fits some few =
+    let small : cells < 2 ^ 64 = omega (arith, few) in
+    let least : nat_le 2 cells ≡ true = grind (arith, some) in
+    let most : nat_le cells 100000 ≡ true = grind (arith, few) in
+    rw (number_spelled seed fits, number_spelled cells small) (rw (least, most) refl)
+
 pub is_found : (words : List (List ℕ)) (c : Command) → IsCommand words c → command words ≡ Some c
 is_found words commands.Format h = rw h refl
 is_found words commands.Vformat h = rw h refl
@@ -191,6 +233,7 @@ is_found words (commands.ToVerilog names) h = rw h.are (rw (repeated_are (codes 
 is_found words (commands.ToEdif top names) h = rw h.are (ap (option_and_then to_edif_for) (wanted_found (codes "to-edif") words (Some top) names h))
 is_found words (commands.ToSpice None) h = rw h.are refl
 is_found words (commands.ToSpice (Some top)) h = rw h.are (rw (not_empty top h.named) refl)
+is_found words (commands.Generate seed cells) h = rw h.are (generate_found seed cells h.seed_fits h.some h.few)
 
 -- words ask for one command at most
 pub one_command : (words : List (List ℕ)) (c d : Command) → IsCommand words c → IsCommand words d → c ≡ d

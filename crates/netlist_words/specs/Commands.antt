@@ -1,6 +1,7 @@
 -- Which words behind the program's name ask for which command. Options stand behind the command's word in the order of its form, and each at most once but
 -- `--parameter`.
-use Rattle.std.specs.Prelude.{◌≡◌, ◌≢◌, ℕ, List, [], ◌∷◌, ◌++◌, Option, Some, None, IfSome, codes}
+use Rattle.std.specs.Prelude.{◌≡◌, ◌≢◌, ℕ, ◌<◌, ◌≤◌, ◌^◌, List, [], ◌∷◌, ◌++◌, Option, Some, None, IfSome, codes}
+use Rattle.std.specs.Fmt.{decimal}
 use Rattle.std.specs.List.{AllByRecursion}
 use Rattle.nl_base.specs.RangeForm.{IsFreeOf}
 use Rattle.net_hier.specs.Constants.{AreConstantNames, ConstantNames, usual_names}
@@ -56,6 +57,13 @@ pub record NamesParameters (word : List ℕ) (words names : List (List ℕ)) : T
   pub are : words ≡ word ∷ repeated_words (codes "--parameter") names
   pub named : AllByRecursion IsName names
 
+-- `generate SEED CELLS`, with these numbers: decimals without sign and without leading zeros
+pub record NamesFile (words : List (List ℕ)) (seed cells : ℕ) : Type 0 where
+  pub are : words ≡ codes "generate" ∷ decimal seed ∷ decimal cells ∷ []
+  pub seed_fits : seed < 2 ^ 64
+  pub some : 2 ≤ cells
+  pub few : cells ≤ 100000
+
 -- the table of the commands: the words ask for this one
 abbrev pub IsCommand : List (List ℕ) → Command → Type 0
 IsCommand words commands.Format = words ≡ codes "format" ∷ []
@@ -67,6 +75,7 @@ IsCommand words (commands.ToVerilog names) = NamesParameters (codes "to-verilog"
 IsCommand words (commands.ToEdif top names) = NamesDesign (codes "to-edif") words (Some top) names
 IsCommand words (commands.Flatten top names) = NamesDesign (codes "flatten") words top names
 IsCommand words (commands.ToSpice top) = NamesTop (codes "to-spice") words top
+IsCommand words (commands.Generate seed cells) = NamesFile words seed cells
 
 -- what is so of the command for which the words ask, if they ask for one
 abbrev pub IfCommand : List (List ℕ) → (Command → Type 0) → Type 0

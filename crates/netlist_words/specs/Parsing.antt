@@ -1,6 +1,8 @@
 -- How the words of a command are taken apart, from the front.
-use Rattle.std.specs.Prelude.{ℕ, List, [], ◌∷◌, length, Bool, true, false, Option, Some, None, option_map, codes, if◌then◌else◌, ◌&&◌, ◌==◌, not, nat_le}
+use Rattle.std.specs.Prelude.{ℕ, ◌^◌, List, [], ◌∷◌, length, Bool, true, false, Option, Some, None, option_map, codes, if◌then◌else◌, ◌&&◌, ◌==◌, not, nat_le, nat_lt}
+use Rattle.std.specs.Fmt.{decimal}
 use Rattle.std.specs.Option.{option_and_then}
+use Rattle.std.specs.Str.Parse.{digits_value}
 use Rattle.nl_base.specs.Case.{same_bytes}
 use Rattle.nl_base.specs.RangeForm.{cut_at_last}
 use Rattle.net_hier.specs.Constants.{ConstantNames}
@@ -122,6 +124,21 @@ flatten_of words = option_map (λ wanted. commands.Flatten wanted.top wanted.nam
 abbrev pub to_spice_of : List (List ℕ) → Option Command
 to_spice_of words = if_none_left (behind_option (codes "--top") words) (Some (commands.ToSpice (option_value (codes "--top") words)))
 
+-- the number below 2^64 that a word is the decimal text of
+abbrev pub spelled_number : List ℕ → Option ℕ
+spelled_number word = if nat_lt (digits_value 10 word) (2 ^ 64) && same_bytes (decimal (digits_value 10 word)) word then Some (digits_value 10 word) else None
+
+-- `generate` with this seed and so many cells, where they are 2 to 100,000
+abbrev pub generate_for : ℕ → ℕ → Option Command
+generate_for seed cells = if nat_le 2 cells && nat_le cells 100000 then Some (commands.Generate seed cells) else None
+
+-- `generate SEED CELLS`, by the words behind `generate`
+abbrev pub generate_of : List (List ℕ) → Option Command
+generate_of [] = None
+generate_of (seed ∷ []) = None
+generate_of (seed ∷ cells ∷ []) = option_and_then (λ s. option_and_then (generate_for s) (spelled_number cells)) (spelled_number seed)
+generate_of (seed ∷ cells ∷ word ∷ words) = None
+
 -- the command whose form the words have, if any
 abbrev pub command : List (List ℕ) → Option Command
 command [] = None
@@ -134,4 +151,5 @@ command (word ∷ words) =
     else (if same_bytes word (codes "to-verilog") then to_verilog_of words
     else (if same_bytes word (codes "to-edif") then to_edif_of words
     else (if same_bytes word (codes "flatten") then flatten_of words
-    else (if same_bytes word (codes "to-spice") then to_spice_of words else None))))))))
+    else (if same_bytes word (codes "to-spice") then to_spice_of words
+    else (if same_bytes word (codes "generate") then generate_of words else None)))))))))

@@ -1,10 +1,11 @@
 ghost use Rattle.std.specs.Prelude.{◌≡◌, IfSome, IsSome, IsTrue, MatchOption, MatchResult, None, Some};
 ghost use Rattle.netlist_words.specs.Commands.{IsAsked, IsCommand};
 ghost use Rattle.netlist_words.specs.Lent.{lent_names, lent_wanted};
-ghost use Rattle.netlist_words.specs.Parsing.{are_constants, check_of, command, constants_behind, flatten_of, if_none_left, lint_of, report_of, to_edif_of, to_spice_of, to_verilog_of, wanted_of};
+ghost use Rattle.netlist_words.specs.Parsing.{are_constants, check_of, command, constants_behind, flatten_of, generate_for, generate_of, if_none_left, lint_of, report_of, to_edif_of, to_spice_of, to_verilog_of, wanted_of};
 ghost use Rattle.netlist_words.specs.declared.command.Command.{Command as CommandValue};
 
 use crate::constants::{Names, constants_of, copied_constants};
+use crate::numbers::number_of;
 use crate::options::{are_options, copied, take_option, values_of};
 use net_hier::Constants;
 use nl_base::{NoMemory, Seq, Text};
@@ -32,6 +33,8 @@ pub enum Command {
     Flatten(Option<Text>, Constants),
     /// Writes a design as SPICE subcircuits.
     ToSpice(Option<Text>),
+    /// Writes the line of the generated file of this seed and so many cells; it reads nothing.
+    Generate(u64, u32),
 }
 
 /// A design that is asked for: the name of its top module, if any, and the names of the constants.
@@ -180,6 +183,28 @@ fn to_spice_of(alloc: Global, words: &[Text]) -> Result<Option<Command>, NoMemor
     Ok(Some(Command::ToSpice(top)))
 }
 
+/// `generate` with these numbers, where so many cells can be generated.
+fn generate_for(seed: u64, cells: u64) -> Option<Command>
+    ensures { result ≡ generate_for seed cells }
+{
+    if 2 <= cells && cells <= 100_000 {
+        return Some(Command::Generate(seed, cells as u32));
+    }
+    None
+}
+
+/// `generate`, with these words behind it.
+fn generate_of(words: &[Text]) -> Option<Command>
+    ensures { result ≡ generate_of words.now }
+{
+    let [seed, cells] = words else {
+        return None;
+    };
+    let seed = number_of(seed.bytes())?;
+    let cells = number_of(cells.bytes())?;
+    generate_for(seed, cells)
+}
+
 /// The command of which this is the word and these are the words behind it.
 fn parsed(alloc: Global, words: &Seq<Text>) -> Result<Option<Command>, NoMemory>
     ensures { MatchResult result (λ found. found ≡ command words.now)
@@ -221,6 +246,9 @@ fn parsed(alloc: Global, words: &Seq<Text>) -> Result<Option<Command>, NoMemory>
     if word.bytes() == b"to-spice".as_slice() {
         let found = to_spice_of(alloc, options)?;
         return Ok(found);
+    }
+    if word.bytes() == b"generate".as_slice() {
+        return Ok(generate_of(options));
     }
     Ok(None)
 }

@@ -1,6 +1,6 @@
 use Rattle.std.proofs.Common.{refl, Some}
 use Rattle.readers.specs.Sources.{supply}
-use Rattle.netlist_cli.proofs.Ends.{takes_none}
+use Rattle.netlist_cli.proofs.Ends.{asked_fits, takes_none}
 use Rattle.netlist_cli.proofs.run.perform.Goals as goal
 
 pub returns-in-Ok-clause-performs : goal.returns-in-Ok-clause-performs
@@ -10,6 +10,9 @@ pub returns-in-Err : goal.returns-in-Err
 returns-in-Err g c =
     let asked = rw c.in-Err.is at c.of.ensures in
     record {
-      performs = record { asked = Some asked.0; is_asked = asked.1; performed = (tt, refl) };
+      performs = record { asked = Some asked.0; is_asked = asked.1; performed = ((tt, refl), λ unread. (refl, tt)) };
       taken = takes_none (supply g.S.Source.left g.S.Source.faults c.args.input.now);
     }
+
+pub carry_out_asked-result-requires : goal.carry_out_asked-result-requires
+carry_out_asked-result-requires g c = asked_fits c.args.words.now c.in-Ok.asked (rw c.in-Ok.is at c.of.ensures)
