@@ -12,7 +12,9 @@
 // as the design of the EDIF file, cell by cell, and so as a whole, whichever cells stand for the constants. `to-edif --top NAME` asks
 // nothing of a design; what is written is the text of an EDIF file that breaks no rule; whatever its length it spells this file, and each
 // design that says what the file says is the same as the design of the modules, cell by cell, and so as a whole, where the cells of the
-// words stand for the constants. `to-spice` asks for the rules of SPICE; what is written is the text of subcircuits, one for each cell in the
+// words stand for the constants. `flatten` asks for a flat count of at most 2,000,000 and for the rules of flattened designs, and for Verilog
+// for those of the target; what is written is, in the language that was read, the text of a file that breaks no rule, and each design that
+// says what that file says is the design as one cell of leaf instances. `to-spice` asks for the rules of SPICE; what is written is the text of subcircuits, one for each cell in the
 // order of the design, which reads as these subcircuits; the design that they say has the same cells without instances and the same port bits
 // of these and of the top, and connects the same of them.
 //
@@ -26,8 +28,8 @@
 // tells it. 2 refused: the file breaks a rule, of its language or of what is asked for, and the line `refused RULE CELL` with further names
 // tells the first object that breaks the lowest broken rule. 3 read fault and 4 write fault: the input or the output failed. 5 usage: the
 // words ask for no command (crate `netlist_words`), and nothing is read. 6 no memory: it may come at any time before the first byte is
-// written; `to-verilog` also answers it where the values of a design are not within their limits, which is asked for sources that do not
-// tell their bytes. 7 limit: the input is longer than 268,435,456 bytes and has no fault within them, the design has too many units, or its
+// written; `to-verilog` and `flatten` also answer it where the names or values of a design are not within their limits, which is asked for
+// sources that do not tell their bytes. 7 limit: the input is longer than 268,435,456 bytes and has no fault within them, the design has too many units, or its
 // flat count is too large.
 #![tactic(auto)]
 

@@ -12,7 +12,7 @@ use nl_base::{Reason, Refusal, Seq, Text, TextFault};
 use nl_io::{Failed, Sink};
 use nl_output::Output;
 
-/// The forms of all commands, those that are still to come among them.
+/// The forms of all commands.
 const USAGE: &[u8] =
     b"usage: netlist format or vformat or check [--top NAME] or report [--top NAME] [--zero CELL.PORT] [--one CELL.PORT] or to-verilog {--parameter NAME} or to-edif --top NAME [--zero CELL.PORT] [--one CELL.PORT] or generate SEED CELLS or lint [--top NAME] [--zero CELL.PORT] [--one CELL.PORT] or flatten [--top NAME] [--zero CELL.PORT] [--one CELL.PORT] or to-spice [--top NAME]";
 
