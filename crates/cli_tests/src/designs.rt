@@ -1,5 +1,5 @@
 // Files of a few cells, of which `top` is the top of the design.
-use crate::given::text_of;
+use crate::given::{answers, text_of};
 use std::alloc::Global;
 use std::test::Fail;
 
@@ -43,4 +43,32 @@ pub fn design_of(
             BEHIND_CONTENTS,
         ],
     )
+}
+
+/// A run on such a file: its words, the cells, the interface and the contents of `top`, the status, and what output and errors take.
+pub type DesignRow<'a> = (
+    &'a [&'a [u8]],
+    &'a [&'a [u8]],
+    &'a [u8],
+    &'a [u8],
+    u8,
+    &'a [u8],
+    &'a [u8],
+);
+
+fn is_answered(alloc: Global, row: DesignRow<'_>) -> Result<bool, Fail> {
+    let (words, cells, interface, contents, status, output, errors) = row;
+    let cells = text_of(alloc, cells)?;
+    let text = design_of(alloc, cells.as_slice(), interface, contents)?;
+    answers(alloc, words, text.as_slice(), status, output, errors)
+}
+
+/// The place of the first row whose run ends in another way, if there is one.
+pub fn first_wrong_design(alloc: Global, rows: &[DesignRow<'_>]) -> Result<Option<usize>, Fail> {
+    for place in 0..rows.len() {
+        if !is_answered(alloc, rows[place])? {
+            return Ok(Some(place));
+        }
+    }
+    Ok(None)
 }

@@ -1,5 +1,5 @@
 // The tests of `to-edif`.
-use crate::given::{USAGE, answers, text_of};
+use crate::given::{Row, USAGE, answers, first_wrong, text_of};
 use crate::texts::{CHAINED, ESCAPED, LITERALS};
 use std::alloc::Global;
 use std::test::Fail;
@@ -293,45 +293,57 @@ fn modules_are_translated(rt: HostRuntime) -> Result<(), Fail> {
 const NARROW: &[u8] =
     b"module s (input [1:0] A); endmodule module t (input x); s u (.A(x)); endmodule";
 
+/// Modules that break a rule, texts that are none, and words that are no command.
+const REFUSED: &[Row<'static>] = &[
+    (
+        &[TO_EDIF, TOP, b"r"],
+        b"module r (); r u (); endmodule",
+        2,
+        b"",
+        b"refused G16 \"r\" \"u\"\n",
+    ),
+    (
+        &[TO_EDIF, TOP, b"t"],
+        NARROW,
+        2,
+        b"",
+        b"refused G8 \"t\" \"u\" \"A\"\n",
+    ),
+    (
+        &[TO_EDIF, TOP, b"t"],
+        b"module s (input [1:0] A); endmodule module t (input x); s u (.A('b1)); endmodule",
+        2,
+        b"",
+        b"refused G13 \"t\" \"u\" \"A\"\n",
+    ),
+    (
+        &[TO_EDIF, TOP, b"q"],
+        NARROW,
+        2,
+        b"",
+        b"refused G1 \"\" \"q\"\n",
+    ),
+    (
+        &[TO_EDIF, TOP, b"m"],
+        b"module L (); endmodule module m (); L #(.A(1)) u (); defparam w.A = 2; endmodule",
+        2,
+        b"",
+        b"refused G17 \"m\" \"w\" \"A\"\n",
+    ),
+    (
+        &[TO_EDIF, TOP, b"m"],
+        b"module m (",
+        1,
+        b"",
+        b"fault 1:11 EndOfInput\n",
+    ),
+    (&[TO_EDIF, TOP], NARROW, 5, b"", USAGE),
+    (&[TO_EDIF, ZERO, b"A.B"], NARROW, 5, b"", USAGE),
+    (&[TO_EDIF, TOP, b"t", ZERO, b"VCC.P"], NARROW, 5, b"", USAGE),
+];
+
 #[test]
 fn rules_of_modules_come_first(rt: HostRuntime) -> Result<(), Fail> {
-    for (words, text, status, line) in [
-        (
-            [TO_EDIF, TOP, b"r"].as_slice(),
-            b"module r (); r u (); endmodule".as_slice(),
-            2,
-            b"refused G16 \"r\" \"u\"\n".as_slice(),
-        ),
-        (
-            &[TO_EDIF, TOP, b"t"],
-            NARROW,
-            2,
-            b"refused G8 \"t\" \"u\" \"A\"\n",
-        ),
-        (
-            &[TO_EDIF, TOP, b"t"],
-            b"module s (input [1:0] A); endmodule module t (input x); s u (.A('b1)); endmodule",
-            2,
-            b"refused G13 \"t\" \"u\" \"A\"\n",
-        ),
-        (&[TO_EDIF, TOP, b"q"], NARROW, 2, b"refused G1 \"\" \"q\"\n"),
-        (
-            &[TO_EDIF, TOP, b"m"],
-            b"module L (); endmodule module m (); L #(.A(1)) u (); defparam w.A = 2; endmodule",
-            2,
-            b"refused G17 \"m\" \"w\" \"A\"\n",
-        ),
-        (
-            &[TO_EDIF, TOP, b"m"],
-            b"module m (",
-            1,
-            b"fault 1:11 EndOfInput\n",
-        ),
-        (&[TO_EDIF, TOP], NARROW, 5, USAGE),
-        (&[TO_EDIF, ZERO, b"A.B"], NARROW, 5, USAGE),
-        (&[TO_EDIF, TOP, b"t", ZERO, b"VCC.P"], NARROW, 5, USAGE),
-    ] {
-        assert_eq!(rt; answers(rt.alloc(), words, text, status, b"", line)?, true);
-    }
+    assert_eq!(rt; first_wrong(rt.alloc(), REFUSED)?, None);
     Ok(())
 }

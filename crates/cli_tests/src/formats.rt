@@ -1,6 +1,7 @@
 // The tests of `format` and `vformat`.
 use crate::given::{
-    Given, answers, ends_so, given_plainly, is_refused_early, text_around, wanted_of,
+    Given, Row, answers, ends_so, first_wrong, given_plainly, is_refused_early, text_around,
+    wanted_of,
 };
 use crate::texts::{
     ALIASED, BLINKER, BLINKER_MODULES, BLINKER_WRITTEN, CHAINED, CHAINED_WRITTEN, ESCAPED,
@@ -74,62 +75,6 @@ fn little_is_taken_behind_a_fault(rt: HostRuntime) -> Result<(), Fail> {
     Ok(())
 }
 
-#[test]
-fn fault_is_told(rt: HostRuntime) -> Result<(), Fail> {
-    for (text, line) in [
-        (b"".as_slice(), b"fault 1:1 EndOfInput\n".as_slice()),
-        (b"(edi", b"fault 1:2 UnknownWord edi\n"),
-        (b"(edif blinker", b"fault 1:14 EndOfInput\n"),
-        (
-            b"(edif a(edifVersion 2 0 0)(edifLevel 0)(keywordMap(keywordLevel 2)(keywordDefine x)))",
-            b"fault 1:65 KeywordLevel\n",
-        ),
-        (b"(edif a(edifVersion 2 1 0)", b"fault 1:23 Version\n"),
-        (
-            b"(edif a\n(edifVersion 2 0 0)(edifLevel 0)(keywordMap(keywordLevel 0))(netBundle",
-            b"fault 2:62 NotInProfile netBundle\n",
-        ),
-        (
-            b"(edif a(edifVersion 2 0 0)(edifLevel 0)(keywordMap(keywordLevel 1)(keywordAlias view cell)))",
-            b"fault 1:81 AliasClash\n",
-        ),
-        (
-            b"(edif a(edifVersion 2 0 0)(edifLevel 0)(keywordMap(keywordLevel 1)(keywordAlias kc sell)))",
-            b"fault 1:84 AliasUnknown\n",
-        ),
-        (
-            b"(edif a(edifVersion 2 0 0)(edifLevel 0)(keywordMap(keywordLevel 0))(comment \"50%\"))",
-            b"fault 1:80 BadEscape\n",
-        ),
-        (
-            b"(edif a(edifVersion 2 0 0)(edifLevel 0)(keywordMap(keywordLevel 0))",
-            b"fault 1:68 EndOfInput\n",
-        ),
-        (
-            b"(edif a(edifVersion 2 0 0)(edifLevel 0)(keywordMap(keywordLevel 0))(netBundle",
-            b"fault 1:69 NotInProfile netBundle\n",
-        ),
-        (
-            b"(edif a(edifVersion 2 0 0)(edifLevel 0)(keywordMap(keywordLevel 0))(foo",
-            b"fault 1:69 UnknownWord foo\n",
-        ),
-        (
-            b"(edif a(edifVersion 2 0 0)(edifLevel 0)(keywordMap(keywordLevel 0)))x",
-            b"fault 1:69 Trailing\n",
-        ),
-        (
-            b"(edif a(edifVersion 2 0 0)(edifLevel 0)(keywordMap(keywordLevel 0))(library w(edifLevel 0)(technology(numberDefinition))(cell c(cellType GENERIC)(view v(viewType SCHEMATIC",
-            b"fault 1:163 ViewType SCHEMATIC\n",
-        ),
-    ] {
-        assert_eq!(rt;
-            answers(rt.alloc(), &[b"format"], text, 1, b"", line)?,
-            true
-        );
-    }
-    Ok(())
-}
-
 /// A module by ports of a header of names, and as it is written.
 const MODULE: &[u8] =
     b"module m(a,y);input [1:0]a;output y;(*k=2*)wire w;BUF #(.N(4'HA)) u1(.I(a[0]),.O(w)),u2({1{w}},);assign y=w;endmodule";
@@ -137,45 +82,145 @@ const MODULE: &[u8] =
 const MODULE_WRITTEN: &[u8] =
     b"module m (a, y);\n  input [1:0] a;\n  output y;\n  (* k = 2 *) wire w;\n  BUF #(.N(4'hA)) u1 (.I(a[0]), .O(w)), u2 ({1{w}}, );\n  assign y = w;\nendmodule\n";
 
+/// Faults of EDIF texts.
+const FAULTS: &[Row<'static>] = &[
+    (&[b"format"], b"", 1, b"", b"fault 1:1 EndOfInput\n"),
+    (
+        &[b"format"],
+        b"(edi",
+        1,
+        b"",
+        b"fault 1:2 UnknownWord edi\n",
+    ),
+    (
+        &[b"format"],
+        b"(edif blinker",
+        1,
+        b"",
+        b"fault 1:14 EndOfInput\n",
+    ),
+    (
+        &[b"format"],
+        b"(edif a(edifVersion 2 0 0)(edifLevel 0)(keywordMap(keywordLevel 2)(keywordDefine x)))",
+        1,
+        b"",
+        b"fault 1:65 KeywordLevel\n",
+    ),
+    (
+        &[b"format"],
+        b"(edif a(edifVersion 2 1 0)",
+        1,
+        b"",
+        b"fault 1:23 Version\n",
+    ),
+    (
+        &[b"format"],
+        b"(edif a\n(edifVersion 2 0 0)(edifLevel 0)(keywordMap(keywordLevel 0))(netBundle",
+        1,
+        b"",
+        b"fault 2:62 NotInProfile netBundle\n",
+    ),
+    (
+        &[b"format"],
+        b"(edif a(edifVersion 2 0 0)(edifLevel 0)(keywordMap(keywordLevel 1)(keywordAlias view cell)))",
+        1,
+        b"",
+        b"fault 1:81 AliasClash\n",
+    ),
+    (
+        &[b"format"],
+        b"(edif a(edifVersion 2 0 0)(edifLevel 0)(keywordMap(keywordLevel 1)(keywordAlias kc sell)))",
+        1,
+        b"",
+        b"fault 1:84 AliasUnknown\n",
+    ),
+    (
+        &[b"format"],
+        b"(edif a(edifVersion 2 0 0)(edifLevel 0)(keywordMap(keywordLevel 0))(comment \"50%\"))",
+        1,
+        b"",
+        b"fault 1:80 BadEscape\n",
+    ),
+    (
+        &[b"format"],
+        b"(edif a(edifVersion 2 0 0)(edifLevel 0)(keywordMap(keywordLevel 0))",
+        1,
+        b"",
+        b"fault 1:68 EndOfInput\n",
+    ),
+    (
+        &[b"format"],
+        b"(edif a(edifVersion 2 0 0)(edifLevel 0)(keywordMap(keywordLevel 0))(netBundle",
+        1,
+        b"",
+        b"fault 1:69 NotInProfile netBundle\n",
+    ),
+    (
+        &[b"format"],
+        b"(edif a(edifVersion 2 0 0)(edifLevel 0)(keywordMap(keywordLevel 0))(foo",
+        1,
+        b"",
+        b"fault 1:69 UnknownWord foo\n",
+    ),
+    (
+        &[b"format"],
+        b"(edif a(edifVersion 2 0 0)(edifLevel 0)(keywordMap(keywordLevel 0)))x",
+        1,
+        b"",
+        b"fault 1:69 Trailing\n",
+    ),
+    (
+        &[b"format"],
+        b"(edif a(edifVersion 2 0 0)(edifLevel 0)(keywordMap(keywordLevel 0))(library w(edifLevel 0)(technology(numberDefinition))(cell c(cellType GENERIC)(view v(viewType SCHEMATIC",
+        1,
+        b"",
+        b"fault 1:163 ViewType SCHEMATIC\n",
+    ),
+];
+
 #[test]
-fn modules_are_written(rt: HostRuntime) -> Result<(), Fail> {
-    for (text, written) in [
-        (MODULE, MODULE_WRITTEN),
-        (MODULE_WRITTEN, MODULE_WRITTEN),
-        (BLINKER_MODULES, BLINKER_MODULES),
-        (LITERALS, LITERALS_WRITTEN),
-        (LITERALS_WRITTEN, LITERALS_WRITTEN),
-        (CHAINED, CHAINED_WRITTEN),
-        (CHAINED_WRITTEN, CHAINED_WRITTEN),
-        (ESCAPED, ESCAPED_WRITTEN),
-        (ESCAPED_WRITTEN, ESCAPED_WRITTEN),
-        (b"".as_slice(), b"".as_slice()),
-    ] {
-        assert_eq!(rt;
-            answers(rt.alloc(), &[b"vformat"], text, 0, written, b"")?,
-            true
-        );
-    }
+fn faults_are_told(rt: HostRuntime) -> Result<(), Fail> {
+    assert_eq!(rt; first_wrong(rt.alloc(), FAULTS)?, None);
     Ok(())
 }
 
+/// Files of modules as they are written, and faults of Verilog texts.
+const MODULES: &[Row<'static>] = &[
+    (&[b"vformat"], MODULE, 0, MODULE_WRITTEN, b""),
+    (&[b"vformat"], MODULE_WRITTEN, 0, MODULE_WRITTEN, b""),
+    (&[b"vformat"], BLINKER_MODULES, 0, BLINKER_MODULES, b""),
+    (&[b"vformat"], LITERALS, 0, LITERALS_WRITTEN, b""),
+    (&[b"vformat"], LITERALS_WRITTEN, 0, LITERALS_WRITTEN, b""),
+    (&[b"vformat"], CHAINED, 0, CHAINED_WRITTEN, b""),
+    (&[b"vformat"], CHAINED_WRITTEN, 0, CHAINED_WRITTEN, b""),
+    (&[b"vformat"], ESCAPED, 0, ESCAPED_WRITTEN, b""),
+    (&[b"vformat"], ESCAPED_WRITTEN, 0, ESCAPED_WRITTEN, b""),
+    (&[b"vformat"], b"", 0, b"", b""),
+    (
+        &[b"vformat"],
+        b"module m (input a, output y); assign y = a & a; endmodule",
+        1,
+        b"",
+        b"fault 1:44 NotInProfile &\n",
+    ),
+    (
+        &[b"vformat"],
+        b"module m (input a);\n  always",
+        1,
+        b"",
+        b"fault 2:3 NotInProfile always\n",
+    ),
+    (
+        &[b"vformat"],
+        b"module m ((",
+        1,
+        b"",
+        b"fault 1:11 Unexpected\n",
+    ),
+];
+
 #[test]
-fn faults_of_modules_are_told(rt: HostRuntime) -> Result<(), Fail> {
-    for (text, line) in [
-        (
-            b"module m (input a, output y); assign y = a &".as_slice(),
-            b"fault 1:44 NotInProfile &\n".as_slice(),
-        ),
-        (
-            b"module m (input a);\n  always",
-            b"fault 2:3 NotInProfile always\n",
-        ),
-        (b"module m ((", b"fault 1:11 Unexpected\n"),
-    ] {
-        assert_eq!(rt;
-            answers(rt.alloc(), &[b"vformat"], text, 1, b"", line)?,
-            true
-        );
-    }
+fn modules_are_written(rt: HostRuntime) -> Result<(), Fail> {
+    assert_eq!(rt; first_wrong(rt.alloc(), MODULES)?, None);
     Ok(())
 }

@@ -137,6 +137,23 @@ pub fn answers(
     ends_so(alloc, &given, &wanted_of(&given, status, output, errors))
 }
 
+/// The words of `check` under the module m.
+pub const CHECK_M: &[&[u8]] = &[b"check", b"--top", b"m"];
+
+/// A run on a text in one piece, with room enough and no failure: its words, the text, the status, and what output and errors take.
+pub type Row<'a> = (&'a [&'a [u8]], &'a [u8], u8, &'a [u8], &'a [u8]);
+
+/// The place of the first row whose run ends in another way, if there is one.
+pub fn first_wrong(alloc: Global, rows: &[Row<'_>]) -> Result<Option<usize>, Fail> {
+    for place in 0..rows.len() {
+        let (words, text, status, output, errors) = rows[place];
+        if !answers(alloc, words, text, status, output, errors)? {
+            return Ok(Some(place));
+        }
+    }
+    Ok(None)
+}
+
 /// Whether these words on a text end with a text fault told by this line, after at most so many bytes.
 pub fn is_refused_early(
     alloc: Global,

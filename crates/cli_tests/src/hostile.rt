@@ -1,12 +1,11 @@
-// The tests of hostile texts and of ends that fail.
+// The tests of hostile texts: that break off, that are deep, long or wide.
 use crate::designs::{INV, design_of};
 use crate::given::{
-    Given, Wanted, add_number, answers, ends_so, given_plainly, is_refused_early, sink_of,
-    source_of, text_around, text_of, wanted_of, words_of,
+    Given, add_number, answers, ends_so, given_plainly, is_refused_early, sink_of, source_of,
+    text_around, text_of, wanted_of, words_of,
 };
-use crate::texts::{BLINKER, BLINKER_MODULES, RECURSIVE, SMALL, WRITTEN};
+use crate::texts::{BLINKER, WRITTEN};
 use netlist_cli::run::run;
-use nl_io::MemSink;
 use std::alloc::Global;
 use std::test::Fail;
 
@@ -29,8 +28,8 @@ fn before_last(text: &[u8]) -> &[u8] {
     front
 }
 
-/// Adds a line and a column, and what stands between the word of the line and the reason.
-fn add_place(line: &mut Vec<u8>, front: &[u8]) -> Result<(), Fail> {
+/// The begin of the line of a fault that is placed behind this front of a text.
+fn fault_behind(alloc: Global, front: &[u8]) -> Result<Vec<u8>, Fail> {
     let mut row: u64 = 1;
     let mut column: u64 = 1;
     for byte in front {
@@ -41,40 +40,30 @@ fn add_place(line: &mut Vec<u8>, front: &[u8]) -> Result<(), Fail> {
             column = column.saturating_add(1);
         }
     }
-    line.extend_from_slice(b"fault ")?;
-    add_number(line, row)?;
+    let mut line = text_of(alloc, &[b"fault "])?;
+    add_number(&mut line, row)?;
     line.extend_from_slice(b":")?;
-    add_number(line, column)?;
+    add_number(&mut line, column)?;
     line.extend_from_slice(b" ")?;
-    Ok(())
-}
-
-/// The line of a text that ends too soon.
-fn end_line(alloc: Global, text: &[u8]) -> Result<Vec<u8>, Fail> {
-    let mut line = Vec::new(alloc);
-    add_place(&mut line, text)?;
-    line.extend_from_slice(b"EndOfInput\n")?;
     Ok(line)
 }
 
-/// Whether a line begins with the place behind this front.
-fn is_placed(alloc: Global, line: &[u8], front: &[u8]) -> Result<bool, Fail> {
-    let mut place = Vec::new(alloc);
-    add_place(&mut place, front)?;
-    Ok(line.starts_with(place.as_slice()))
+/// Whether a line tells that a text ends too soon, or that something is wrong with the word with which it ends.
+fn is_told(alloc: Global, line: &[u8], text: &[u8]) -> Result<bool, Fail> {
+    let at_end = fault_behind(alloc, text)?;
+    let end_line = text_of(alloc, &[at_end.as_slice(), b"EndOfInput\n"])?;
+    let at_word = fault_behind(alloc, before_last(text))?;
+    Ok(line == end_line.as_slice() || line.starts_with(at_word.as_slice()))
 }
 
-/// Whether a text that breaks off is refused at its end, or at the word with which it ends.
+/// Whether a text that breaks off is refused so.
 fn is_broken_off(alloc: Global, text: &[u8]) -> Result<bool, Fail> {
     let words = words_of(alloc, &[b"to-verilog"])?;
     let mut input = source_of(alloc, &given_plainly(&[], text))?;
     let mut output = sink_of(alloc, 10, 0)?;
     let mut errors = sink_of(alloc, 200, 0)?;
     let status = run(alloc, &words, &mut input, &mut output, &mut errors).number();
-    let line = end_line(alloc, text)?;
-    let is_told = errors.taken() == line.as_slice()
-        || is_placed(alloc, errors.taken(), before_last(text))?;
-    Ok(status == 1 && output.taken().is_empty() && is_told)
+    Ok(status == 1 && output.taken().is_empty() && is_told(alloc, errors.taken(), text)?)
 }
 
 #[test]
@@ -83,103 +72,6 @@ fn texts_that_break_off_are_refused(rt: HostRuntime) -> Result<(), Fail> {
         let (text, _) = BLINKER.split_at(len);
         assert_eq!(rt; is_broken_off(rt.alloc(), text)?, true);
     }
-    Ok(())
-}
-
-// ---- ends that fail
-
-#[test]
-fn each_take_may_fail(rt: HostRuntime) -> Result<(), Fail> {
-    for taken in 0..BLINKER.len() as u64 {
-        let given = Given {
-            whole: false,
-            failing_take: taken + 1,
-            ..given_plainly(&[b"to-verilog"], BLINKER)
-        };
-        let wanted = Wanted {
-            status: 3,
-            output: b"",
-            errors: b"read fault\n",
-            taken,
-        };
-        assert_eq!(rt; ends_so(rt.alloc(), &given, &wanted)?, true);
-    }
-    Ok(())
-}
-
-/// The status of `to-verilog` on the text of a synthesis program, where the output has this room and its put of this number fails, and what
-/// it took.
-fn status_over(alloc: Global, room: usize, failing_put: u64) -> Result<(u8, MemSink), Fail> {
-    let words = words_of(alloc, &[b"to-verilog"])?;
-    let mut input = source_of(alloc, &given_plainly(&[], BLINKER))?;
-    let mut output = sink_of(alloc, room, failing_put)?;
-    let mut errors = sink_of(alloc, 200, 0)?;
-    let status = run(alloc, &words, &mut input, &mut output, &mut errors).number();
-    Ok((status, output))
-}
-
-/// Whether a put that fails ends the run with the front of its text that was put before, or all puts were made before it.
-fn is_front(alloc: Global, room: usize, failing_put: u64) -> Result<bool, Fail> {
-    let ended = status_over(alloc, room, failing_put)?;
-    let taken = ended.1.taken();
-    let is_whole = ended.0 == 0 && taken == BLINKER_MODULES;
-    let is_front = ended.0 == 4 && BLINKER_MODULES.starts_with(taken);
-    Ok(is_whole || is_front)
-}
-
-#[test]
-fn each_put_may_fail(rt: HostRuntime) -> Result<(), Fail> {
-    for failing_put in 1..10 {
-        assert_eq!(rt; is_front(rt.alloc(), 4000, failing_put)?, true);
-    }
-    for room in 0..BLINKER_MODULES.len() {
-        assert_eq!(rt; is_front(rt.alloc(), room, 0)?, true);
-    }
-    let ended = status_over(rt.alloc(), 4000, 1)?;
-    assert_eq!(rt; ended.0, 4);
-    Ok(())
-}
-
-#[test]
-fn failing_ends(rt: HostRuntime) -> Result<(), Fail> {
-    let given_small = given_plainly(&[b"format"], SMALL);
-    let failing_take = Given {
-        whole: false,
-        failing_take: 3,
-        ..given_small
-    };
-    let read_fault = Wanted {
-        status: 3,
-        output: b"",
-        errors: b"read fault\n",
-        taken: 2,
-    };
-    assert_eq!(rt; ends_so(rt.alloc(), &failing_take, &read_fault)?, true);
-    let small_room = Given {
-        room: 10,
-        ..given_small
-    };
-    let (front, _) = WRITTEN.split_at(10);
-    let write_fault = wanted_of(&small_room, 4, front, b"write fault\n");
-    assert_eq!(rt; ends_so(rt.alloc(), &small_room, &write_fault)?, true);
-    Ok(())
-}
-
-/// Whether these words on a text end with this status, where the first put to errors fails.
-fn ends_quietly(alloc: Global, words: &[&[u8]], text: &[u8], status: u8) -> Result<bool, Fail> {
-    let given = Given {
-        errors_fail: true,
-        ..given_plainly(words, text)
-    };
-    ends_so(alloc, &given, &wanted_of(&given, status, b"", b""))
-}
-
-#[test]
-fn failing_errors_change_no_status(rt: HostRuntime) -> Result<(), Fail> {
-    let alloc = rt.alloc();
-    assert_eq!(rt; ends_quietly(alloc, &[b"format"], b"", 1)?, true);
-    assert_eq!(rt; ends_quietly(alloc, &[b"check"], RECURSIVE, 2)?, true);
-    assert_eq!(rt; ends_quietly(alloc, &[b"to-edif"], b"", 5)?, true);
     Ok(())
 }
 

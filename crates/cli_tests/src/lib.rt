@@ -4,13 +4,15 @@
 #![tactic(auto)]
 
 #[cfg(test)]
+mod blanks;
+#[cfg(test)]
 mod checks;
 #[cfg(test)]
 mod designs;
 #[cfg(test)]
 mod edif;
 #[cfg(test)]
-mod flattened;
+mod ends;
 #[cfg(test)]
 mod formats;
 #[cfg(test)]
@@ -18,7 +20,13 @@ mod given;
 #[cfg(test)]
 mod hostile;
 #[cfg(test)]
+mod limits;
+#[cfg(test)]
 mod reports;
+#[cfg(test)]
+mod round_trips;
+#[cfg(test)]
+mod spent;
 #[cfg(test)]
 mod spice;
 #[cfg(test)]

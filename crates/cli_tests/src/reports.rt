@@ -1,11 +1,13 @@
 // The tests of `report` and `lint`.
-use crate::designs::{ENDS, INPUTS, INV, UP_TO_CELLS, design_of};
-use crate::given::{Given, add_number, answers, ends_so, given_plainly, text_of, wanted_of};
+use crate::designs::{DesignRow, ENDS, INPUTS, INV, UP_TO_CELLS, design_of, first_wrong_design};
+use crate::given::{
+    Given, Row, add_number, answers, ends_so, first_wrong, given_plainly, text_of, wanted_of,
+};
 use std::alloc::Global;
 use std::test::Fail;
 
 /// A cell that joins its two ports, and one with an instance of INV behind ports of its own.
-pub const FEED_AND_BOX: &[u8] =
+const FEED_AND_BOX: &[u8] =
     b"(cell feed(cellType GENERIC)(view v(viewType NETLIST)(interface(port a(direction INPUT))(port y(direction OUTPUT)))(contents(net n(joined(portRef a)(portRef y))))))(cell box(cellType GENERIC)(view v(viewType NETLIST)(interface(port I(direction INPUT))(port O(direction OUTPUT)))(contents(instance i(viewRef v(cellRef INV)))(net I(joined(portRef I)(portRef I(instanceRef i))))(net O(joined(portRef O)(portRef O(instanceRef i)))))))";
 
 /// Cells that may stand for the constants, and one that is joined to both.
@@ -17,89 +19,88 @@ const TIES: &[u8] =
     b"(instance l(viewRef v(cellRef LO)))(instance h(viewRef v(cellRef VCC)))(instance(rename b \"b c\")(viewRef v(cellRef B)))(net n(joined(portRef Z(instanceRef l))(portRef(member D 0)(instanceRef b))))(net m(joined(portRef P(instanceRef h))(portRef(member D 1)(instanceRef b))))";
 
 /// Instances of these, one behind the other.
-pub const LEVELS: &[u8] =
+const LEVELS: &[u8] =
     b"(instance f(viewRef v(cellRef feed)))(instance b(viewRef v(cellRef box)))(net n1(joined(portRef a)(portRef a(instanceRef f))))(net n2(joined(portRef y(instanceRef f))(portRef I(instanceRef b))))(net n3(joined(portRef O(instanceRef b))(portRef y)))";
 
-#[test]
-fn reports_of_designs(rt: HostRuntime) -> Result<(), Fail> {
-    let report = b"report".as_slice();
-    for (words, cells, interface, contents, output) in [
-        (
-            [report].as_slice(),
-            b"".as_slice(),
-            INPUTS,
-            b"(net n(joined(portRef a)(portRef b)))".as_slice(),
-            b"design \"top\"\nleaves 0\nnets 1\nnet\n  port \"a\"\n  port \"b\"\n".as_slice(),
-        ),
-        (
-            &[report],
-            b"",
-            INPUTS,
-            b"(net n(joined))",
-            b"design \"top\"\nleaves 1\nleaf . \"top\"\nnets 0\n",
-        ),
-        (
-            &[report],
-            FEED_AND_BOX,
-            ENDS,
-            LEVELS,
-            b"design \"top\"\nleaves 1\nleaf \"b\"/\"i\" \"INV\"\nnets 2\nnet\n  port \"a\"\n  pin \"b\"/\"i\" \"I\"\nnet\n  port \"y\"\n  pin \"b\"/\"i\" \"O\"\n",
-        ),
-        (
-            &[report],
-            TIED,
-            b"",
-            TIES,
-            b"design \"top\"\nleaves 2\nleaf \"l\" \"LO\"\nleaf \"b c\" \"B\"\nnets 2\nnet\n  pin \"l\" \"Z\"\n  pin \"b c\" \"D\" 1\nnet\n  pin \"b c\" \"D\" 0\n  one\n",
-        ),
-        (
-            &[report, b"--zero", b"LO.Z"],
-            TIED,
-            b"",
-            TIES,
-            b"design \"top\"\nleaves 1\nleaf \"b c\" \"B\"\nnets 2\nnet\n  pin \"b c\" \"D\" 1\n  zero\nnet\n  pin \"b c\" \"D\" 0\n  one\n",
-        ),
-        (
-            &[report, b"--zero", b"VCC.P", b"--one", b"LO.Z"],
-            TIED,
-            b"",
-            TIES,
-            b"design \"top\"\nleaves 1\nleaf \"b c\" \"B\"\nnets 2\nnet\n  pin \"b c\" \"D\" 1\n  one\nnet\n  pin \"b c\" \"D\" 0\n  zero\n",
-        ),
-    ] {
-        let cells = text_of(rt.alloc(), &[INV, cells])?;
-        let text = design_of(rt.alloc(), cells.as_slice(), interface, contents)?;
-        assert_eq!(rt;
-            answers(rt.alloc(), words, text.as_slice(), 0, output, b"")?,
-            true
-        );
-    }
-    Ok(())
-}
+/// Reports and findings of designs.
+const DESIGNS: &[DesignRow<'static>] = &[
+    (
+        &[b"report"],
+        &[INV],
+        INPUTS,
+        b"(net n(joined(portRef a)(portRef b)))",
+        0,
+        b"design \"top\"\nleaves 0\nnets 1\nnet\n  port \"a\"\n  port \"b\"\n",
+        b"",
+    ),
+    (
+        &[b"report"],
+        &[INV],
+        INPUTS,
+        b"(net n(joined))",
+        0,
+        b"design \"top\"\nleaves 1\nleaf . \"top\"\nnets 0\n",
+        b"",
+    ),
+    (
+        &[b"report"],
+        &[INV, FEED_AND_BOX],
+        ENDS,
+        LEVELS,
+        0,
+        b"design \"top\"\nleaves 1\nleaf \"b\"/\"i\" \"INV\"\nnets 2\nnet\n  port \"a\"\n  pin \"b\"/\"i\" \"I\"\nnet\n  port \"y\"\n  pin \"b\"/\"i\" \"O\"\n",
+        b"",
+    ),
+    (
+        &[b"report"],
+        &[INV, TIED],
+        b"",
+        TIES,
+        0,
+        b"design \"top\"\nleaves 2\nleaf \"l\" \"LO\"\nleaf \"b c\" \"B\"\nnets 2\nnet\n  pin \"l\" \"Z\"\n  pin \"b c\" \"D\" 1\nnet\n  pin \"b c\" \"D\" 0\n  one\n",
+        b"",
+    ),
+    (
+        &[b"report", b"--zero", b"LO.Z"],
+        &[INV, TIED],
+        b"",
+        TIES,
+        0,
+        b"design \"top\"\nleaves 1\nleaf \"b c\" \"B\"\nnets 2\nnet\n  pin \"b c\" \"D\" 1\n  zero\nnet\n  pin \"b c\" \"D\" 0\n  one\n",
+        b"",
+    ),
+    (
+        &[b"report", b"--zero", b"VCC.P", b"--one", b"LO.Z"],
+        &[INV, TIED],
+        b"",
+        TIES,
+        0,
+        b"design \"top\"\nleaves 1\nleaf \"b c\" \"B\"\nnets 2\nnet\n  pin \"b c\" \"D\" 1\n  one\nnet\n  pin \"b c\" \"D\" 0\n  zero\n",
+        b"",
+    ),
+    (
+        &[b"lint"],
+        &[INV],
+        b"(port a(direction INPUT))(port y(direction OUTPUT))(port z(direction OUTPUT))",
+        b"(instance u(viewRef v(cellRef INV)))(instance v(viewRef v(cellRef INV)))(net n1(joined(portRef a)(portRef O(instanceRef u))))(net n2(joined(portRef y)(portRef I(instanceRef v))))",
+        0,
+        b"design \"top\"\nundriven 2\n  port \"y\"\n  pin \"v\" \"I\"\nfloating 2\n  port \"z\"\n  pin \"u\" \"I\"\nseveral 1\nnet\n  port \"a\"\n  pin \"u\" \"O\"\n",
+        b"",
+    ),
+    (
+        &[b"lint"],
+        &[INV, FEED_AND_BOX],
+        ENDS,
+        LEVELS,
+        0,
+        b"design \"top\"\nundriven 0\nfloating 0\nseveral 0\n",
+        b"",
+    ),
+];
 
 #[test]
-fn findings_of_designs(rt: HostRuntime) -> Result<(), Fail> {
-    for (cells, interface, contents, output) in [
-        (
-            b"".as_slice(),
-            b"(port a(direction INPUT))(port y(direction OUTPUT))(port z(direction OUTPUT))".as_slice(),
-            b"(instance u(viewRef v(cellRef INV)))(instance v(viewRef v(cellRef INV)))(net n1(joined(portRef a)(portRef O(instanceRef u))))(net n2(joined(portRef y)(portRef I(instanceRef v))))".as_slice(),
-            b"design \"top\"\nundriven 2\n  port \"y\"\n  pin \"v\" \"I\"\nfloating 2\n  port \"z\"\n  pin \"u\" \"I\"\nseveral 1\nnet\n  port \"a\"\n  pin \"u\" \"O\"\n".as_slice(),
-        ),
-        (
-            FEED_AND_BOX,
-            ENDS,
-            LEVELS,
-            b"design \"top\"\nundriven 0\nfloating 0\nseveral 0\n",
-        ),
-    ] {
-        let cells = text_of(rt.alloc(), &[INV, cells])?;
-        let text = design_of(rt.alloc(), cells.as_slice(), interface, contents)?;
-        assert_eq!(rt;
-            answers(rt.alloc(), &[b"lint"], text.as_slice(), 0, output, b"")?,
-            true
-        );
-    }
+fn designs_are_told(rt: HostRuntime) -> Result<(), Fail> {
+    assert_eq!(rt; first_wrong_design(rt.alloc(), DESIGNS)?, None);
     Ok(())
 }
 
@@ -107,34 +108,35 @@ fn findings_of_designs(rt: HostRuntime) -> Result<(), Fail> {
 const MODULES: &[u8] =
     b"module B (input [1:0] D, output O); endmodule module m (input a, output y); wire n; B u (.D({a, 1'b0}), .O(n)); assign y = n; endmodule";
 
+/// Reports of these.
+const FILES: &[Row<'static>] = &[
+    (
+        &[b"report", b"--top", b"m"],
+        MODULES,
+        0,
+        b"design \"m\"\nleaves 1\nleaf \"u\" \"B\"\nnets 3\nnet\n  port \"a\"\n  pin \"u\" \"D\" 1\nnet\n  port \"y\"\n  pin \"u\" \"O\"\nnet\n  pin \"u\" \"D\" 0\n  zero\n",
+        b"",
+    ),
+    (
+        &[b"report", b"--top", b"B"],
+        MODULES,
+        0,
+        b"design \"B\"\nleaves 1\nleaf . \"B\"\nnets 0\n",
+        b"",
+    ),
+    (
+        &[b"report", b"--top", b"n"],
+        MODULES,
+        2,
+        b"",
+        b"refused G1 \"\" \"n\"\n",
+    ),
+    (&[b"report"], MODULES, 1, b"", b"fault 1:1 Unexpected\n"),
+];
+
 #[test]
-fn reports_of_modules(rt: HostRuntime) -> Result<(), Fail> {
-    for (words, status, output, line) in [
-        (
-            [b"report".as_slice(), b"--top", b"m"].as_slice(),
-            0,
-            b"design \"m\"\nleaves 1\nleaf \"u\" \"B\"\nnets 3\nnet\n  port \"a\"\n  pin \"u\" \"D\" 1\nnet\n  port \"y\"\n  pin \"u\" \"O\"\nnet\n  pin \"u\" \"D\" 0\n  zero\n".as_slice(),
-            b"".as_slice(),
-        ),
-        (
-            &[b"report", b"--top", b"B"],
-            0,
-            b"design \"B\"\nleaves 1\nleaf . \"B\"\nnets 0\n",
-            b"",
-        ),
-        (
-            &[b"report", b"--top", b"n"],
-            2,
-            b"",
-            b"refused G1 \"\" \"n\"\n",
-        ),
-        (&[b"report"], 1, b"", b"fault 1:1 Unexpected\n"),
-    ] {
-        assert_eq!(rt;
-            answers(rt.alloc(), words, MODULES, status, output, line)?,
-            true
-        );
-    }
+fn modules_are_told(rt: HostRuntime) -> Result<(), Fail> {
+    assert_eq!(rt; first_wrong(rt.alloc(), FILES)?, None);
     Ok(())
 }
 
