@@ -14,7 +14,11 @@ mod edif;
 #[cfg(test)]
 mod ends;
 #[cfg(test)]
+mod flattened;
+#[cfg(test)]
 mod formats;
+#[cfg(test)]
+mod generated;
 #[cfg(test)]
 mod given;
 #[cfg(test)]

@@ -7,7 +7,7 @@ use std::alloc::Global;
 use std::test::Fail;
 
 /// A cell that joins its two ports, and one with an instance of INV behind ports of its own.
-const FEED_AND_BOX: &[u8] =
+pub const FEED_AND_BOX: &[u8] =
     b"(cell feed(cellType GENERIC)(view v(viewType NETLIST)(interface(port a(direction INPUT))(port y(direction OUTPUT)))(contents(net n(joined(portRef a)(portRef y))))))(cell box(cellType GENERIC)(view v(viewType NETLIST)(interface(port I(direction INPUT))(port O(direction OUTPUT)))(contents(instance i(viewRef v(cellRef INV)))(net I(joined(portRef I)(portRef I(instanceRef i))))(net O(joined(portRef O)(portRef O(instanceRef i)))))))";
 
 /// Cells that may stand for the constants, and one that is joined to both.
@@ -19,7 +19,7 @@ const TIES: &[u8] =
     b"(instance l(viewRef v(cellRef LO)))(instance h(viewRef v(cellRef VCC)))(instance(rename b \"b c\")(viewRef v(cellRef B)))(net n(joined(portRef Z(instanceRef l))(portRef(member D 0)(instanceRef b))))(net m(joined(portRef P(instanceRef h))(portRef(member D 1)(instanceRef b))))";
 
 /// Instances of these, one behind the other.
-const LEVELS: &[u8] =
+pub const LEVELS: &[u8] =
     b"(instance f(viewRef v(cellRef feed)))(instance b(viewRef v(cellRef box)))(net n1(joined(portRef a)(portRef a(instanceRef f))))(net n2(joined(portRef y(instanceRef f))(portRef I(instanceRef b))))(net n3(joined(portRef O(instanceRef b))(portRef y)))";
 
 /// Reports and findings of designs.
