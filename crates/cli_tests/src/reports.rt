@@ -185,6 +185,10 @@ fn flat_designs_have_a_limit(rt: HostRuntime) -> Result<(), Fail> {
             answers(rt.alloc(), &[b"report"], text.as_slice(), 7, b"", line)?,
             true
         );
+        assert_eq!(rt;
+            answers(rt.alloc(), &[b"flatten"], text.as_slice(), 7, b"", line)?,
+            true
+        );
     }
     Ok(())
 }
