@@ -1,4 +1,4 @@
-# make                    proves and builds the program, from nothing for an hour or two
+# make                    proves and builds the program, from nothing in two hours of one processor
 # make gate               proves everything, tries the wrong bodies and runs all tests, as .ci/run
 # make examples           compares what the program writes with what README.md and examples/README.md show
 # make install            puts the program, its manual and its completion under PREFIX, /usr/local if not given, behind DESTDIR
