@@ -1,0 +1,4 @@
+pub mod Strings
+pub mod Lexemes
+pub mod Faults
+pub mod Texts

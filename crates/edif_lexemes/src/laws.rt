@@ -1,0 +1,27 @@
+ghost use Rattle.std.specs.Prelude.{◌≡◌, ◌↔◌, ℕ, List, ◌∷◌, IsFalse};
+ghost use Rattle.nl_base.specs.declared.place.Place.{Place};
+ghost use Rattle.nl_bytes.specs.Classes.{is_space};
+ghost use Rattle.edif_tokens.specs.declared.token.Found.{Found};
+ghost use Rattle.edif_tokens.specs.Streams.{Finish, Stream};
+ghost use Rattle.edif_tokens.specs.Stream.{tokens_from, stream_from};
+ghost use Rattle.edif_lexemes.specs.Texts.{AreLexemes, AreTold, Stands, IsFaulty};
+
+/// The tokens of a text are its lexemes, with their places and stops, and it ends as they do.
+pub fn tokens_are_lexemes()
+    ensures { (p : Place) (text : List ℕ) (found : List Found) (finish : Finish)
+        → (tokens_from 0 p text ≡ record { tokens = found; finish = finish })
+        ↔ AreLexemes p text found finish }
+{}
+
+/// What a reader tells of the tokens are the lexemes within the limit of an input.
+pub fn told_tokens_are_lexemes()
+    ensures { (p : Place) (text : List ℕ) (s : Stream Found)
+        → (stream_from p text ≡ s) ↔ AreTold p text s }
+{}
+
+/// Bytes of which the first is no white space have a lexical fault exactly where no token stands at
+/// their front.
+pub fn faults_are_where_no_token_stands()
+    ensures { (b : ℕ) (bs : List ℕ) → IsFalse (is_space b)
+        → IsFaulty (b ∷ bs) ↔ (Stands (b ∷ bs) → ⊥) }
+{}
