@@ -1,0 +1,14 @@
+pub mod Tracking
+pub mod Worked
+pub mod Standing
+pub mod Forms
+pub mod Items
+pub mod Trees
+pub mod Header
+pub mod Maps
+pub mod Names
+pub mod Status
+pub mod Nets
+pub mod Library
+pub mod File
+pub mod Law
