@@ -31,7 +31,7 @@ use Rattle.edif_limits.proofs.Law.{faults}
 use Rattle.edif_limits.proofs.Looked.{end_is_last}
 use Rattle.edif_reasons.specs.Context.{Tokens, at_start, behind_all}
 use Rattle.edif_reasons.specs.Rows.{reason_at, reason_row}
-use Rattle.edif_reasons.specs.FirstFault.{GoesOn, FailsByTable, FailsByTableWithin, of_token, of_no_token}
+use Rattle.edif_reasons.specs.FirstFault.{GoesOn, FailsByTable, FailsEarlyByTable, of_token, of_no_token}
 use Rattle.edif_reasons.proofs.Tracking.{Says}
 use Rattle.edif_reasons.proofs.File.{tracks_whole}
 
@@ -127,5 +127,5 @@ from_table bs f (of_no_token h e) = at_bad h e
 pub fit : (bs : List ℕ) (f : TextFault) → EdifFails bs f ↔ FailsByTable bs f
 fit bs f = (to_table bs f, from_table bs f)
 
-pub fit_within : (bs : List ℕ) (f : TextFault) → EdifFault bs f ↔ FailsByTableWithin bs f
+pub fit_within : (bs : List ℕ) (f : TextFault) → EdifFault bs f ↔ FailsEarlyByTable bs f
 fit_within bs f = (λ h. let w = (faults bs f).0 h in (to_table bs f w.0, w.1), λ h. (faults bs f).1 (from_table bs f h.0, h.1))

@@ -69,9 +69,10 @@ ends_number_value = ends_then stays_scaled (λ x. ends_with (values.Scaled x))
 ends_boolean_value : Ends boolean_value
 unfolding boolean_value
 ends_boolean_value =
-    ends_item (k.True ∷ k.False ∷ []) _
-    (read_then k.True (reads_plainly k.True refl ends_closing) (λ _. ends_with (values.Flag (same_keyword k.True k.True))),
-    (read_then k.False (reads_plainly k.False refl ends_closing) (λ _. ends_with (values.Flag (same_keyword k.False k.True))), tt))
+    ends_item (k.True ∷ k.False ∷ []) _ (
+      read_then k.True (reads_plainly k.True refl ends_closing) (λ _. ends_with (values.Flag (same_keyword k.True k.True))),
+      (read_then k.False (reads_plainly k.False refl ends_closing) (λ _. ends_with (values.Flag (same_keyword k.False k.True))), tt),
+    )
 
 each_value : Each (k.String ∷ k.Integer ∷ k.Number ∷ k.Boolean ∷ []) (λ q. Reads q (value_form q))
 unfolding value_form

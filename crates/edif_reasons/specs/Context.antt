@@ -1,5 +1,5 @@
--- What stands before a token of an EDIF text: the forms that are open, what of each has been read, and what the header has said of
--- words (EDIF 2 0 0, basic syntax and the forms keywordLevel, keywordAlias and userData).
+-- What stands before a token of an EDIF text: the forms that are open, what of each has been read,
+-- and what the header has said of words (EDIF 2 0 0, keywordLevel, keywordAlias and userData).
 use Rattle.std.specs.Prelude.{ℕ, ℤ, ◌+◌, Bool, true, false, ◌&&◌, ◌==◌, if◌then◌else◌, List, [], ◌∷◌, ◌++◌, length, Option, Some, None, is_none, option_map}
 use Rattle.grammar.specs.Whole.{Terminal, proper, end}
 use Rattle.nl_base.specs.declared.place.Place.{Place}
@@ -30,10 +30,14 @@ pub record Said : Type 0 where
   pub level : Option ℤ
   pub aliases : List Alias
 
--- where a token stands: what the header has said, and the open forms from the innermost one out, of which the last is the text itself
+-- where a token stands: what the header has said, and the open forms from the innermost one out; the
+-- last of them is no form but the text itself
 pub record Context : Type 0 where
   pub said : Said
   pub forms : List Form
+
+abbrev pub placed : Said → List Form → Context
+placed said forms = record { said = said; forms = forms }
 
 -- nothing of the form has been read
 abbrev pub untouched : Form
@@ -41,24 +45,25 @@ untouched = record { keyword = None; elements = [] }
 
 -- the form with one more element
 abbrev pub with_element : Form → Element → Form
-with_element f p = record { keyword = f.keyword; elements = f.elements ++ p ∷ [] }
+with_element f e = record { keyword = f.keyword; elements = f.elements ++ e ∷ [] }
 
 -- whether a form that has this keyword, or none, is one of the given keyword
 abbrev pub is_keyword : Option Keyword → Keyword → Bool
 is_keyword None given = false
 is_keyword (Some q) given = same_keyword q given
 
--- where user data are open: how many lists are open in them, one in another
+-- how many lists of user data are open, one in another; None outside user data
 unfoldable pub open_lists : List Form → Option ℕ
 open_lists [] = None
-open_lists (f ∷ around) = if is_keyword f.keyword k.UserData then Some 0 else option_map (λ n. n + 1) (open_lists around)
+open_lists (f ∷ around) =
+    if is_keyword f.keyword k.UserData then Some 0 else option_map (λ n. n + 1) (open_lists around)
 
 -- whether nothing of a form has been read
 abbrev pub is_untouched : Form → Bool
 is_untouched f = is_none f.keyword && length f.elements == 0
 
--- whether the next token stands directly after a `(` at which a form may begin: nothing of the innermost form has been read, and it
--- is no list of user data
+-- whether the next token stands directly after the `(` of a form: nothing of the innermost one has
+-- been read, and it is no list of user data
 unfoldable pub at_keyword : List Form → Bool
 at_keyword [] = false
 at_keyword (text ∷ []) = false
@@ -68,8 +73,8 @@ at_keyword (f ∷ g ∷ around) = is_untouched f && is_none (open_lists (g ∷ a
 
 -- an element of the innermost form
 abbrev pub add : Element → List Form → List Form
-add p [] = []
-add p (f ∷ around) = with_element f p ∷ around
+add e [] = []
+add e (f ∷ around) = with_element f e ∷ around
 
 -- a word where a keyword stands gives the form that keyword; any other word is an element
 abbrev pub add_word : Bool → Option Keyword → List ℕ → List Form → List Form
@@ -95,21 +100,23 @@ alias_said said elements = said
 
 -- what a form has said at its end
 abbrev pub said_by : Said → Form → Said
-said_by said f = if is_keyword f.keyword k.KeywordLevel then level_said said f.elements else (if is_keyword f.keyword k.KeywordAlias then alias_said said f.elements else said)
+said_by said f =
+    if is_keyword f.keyword k.KeywordLevel then level_said said f.elements
+    else (if is_keyword f.keyword k.KeywordAlias then alias_said said f.elements else said)
 
 -- the innermost form ends, and is an element of the one around it
 abbrev pub close : Said → List Form → Context
-close said [] = record { said = said; forms = [] }
-close said (text ∷ []) = record { said = said; forms = text ∷ [] }
-close said (f ∷ g ∷ around) = record { said = said_by said f; forms = with_element g Group ∷ around }
+close said [] = placed said []
+close said (text ∷ []) = placed said (text ∷ [])
+close said (f ∷ g ∷ around) = placed (said_by said f) (with_element g Group ∷ around)
 
 -- behind one more token
 abbrev pub after : Context → Token → Context
-after c LeftParen = record { said = c.said; forms = untouched ∷ c.forms }
+after c LeftParen = placed c.said (untouched ∷ c.forms)
 after c RightParen = close c.said c.forms
-after c (Word w) = record { said = c.said; forms = add_word (at_keyword c.forms) (means c.said.aliases w) w c.forms }
-after c (Number n) = record { said = c.said; forms = add (Single (Number n)) c.forms }
-after c (Str s) = record { said = c.said; forms = add (Single (Str s)) c.forms }
+after c (Word w) = placed c.said (add_word (at_keyword c.forms) (means c.said.aliases w) w c.forms)
+after c (Number n) = placed c.said (add (Single (Number n)) c.forms)
+after c (Str s) = placed c.said (add (Single (Str s)) c.forms)
 
 -- the same, where the end of the input changes nothing
 abbrev pub behind : Context → Terminal Found Place → Context
@@ -123,4 +130,4 @@ behind_all c (x ∷ xs) = behind_all (behind c x) xs
 
 -- nothing has been read
 abbrev pub at_start : Context
-at_start = record { said = record { level = None; aliases = [] }; forms = untouched ∷ [] }
+at_start = placed (record { level = None; aliases = [] }) (untouched ∷ [])

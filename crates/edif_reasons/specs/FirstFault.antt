@@ -1,4 +1,4 @@
--- The first fault of an EDIF text: where it is and, by the table of reasons, why (EDIF 2 0 0, edif).
+-- The first fault of an EDIF text: where it is and, by the table of reasons, why (EDIF 2 0 0).
 use Rattle.std.specs.Prelude.{◌≡◌, ◌≤◌, ℕ, List, [], ◌∷◌, ◌++◌}
 use Rattle.grammar.specs.Texts.{Begins}
 use Rattle.grammar.specs.Whole.{Terminal, whole, Finish, Bad}
@@ -28,12 +28,14 @@ GoesOn ts = Begins [] (whole say.trailing (file [])) ts
 
 -- The bytes have this first fault by the table of reasons.
 pub data FailsByTable (bytes : List ℕ) (fault : TextFault) : Type 0 where
-  -- at the first token, or at the end of the bytes, that no text of a file has there after the tokens before it, for the reason
-  -- that the table gives after these tokens
-  of_token : (before after : Tokens) (x : Terminal Found Place) → tokens bytes ≡ before ++ x ∷ after → GoesOn before → ¬ GoesOn (before ++ x ∷ []) → fault ≡ fault_at edif x (reason_row before x) → FailsByTable bytes fault
-  -- at bytes that are no token, behind tokens that a text of a file begins with, for the reason that those bytes have
+  -- at the first token, or at the end of the bytes, that no text of a file has there after the tokens
+  -- before it, for the reason that the table gives it after these
+  of_token : (before after : Tokens) (x : Terminal Found Place) → tokens bytes ≡ before ++ x ∷ after
+      → GoesOn before → ¬ GoesOn (before ++ x ∷ [])
+      → fault ≡ fault_at edif x (reason_row before x) → FailsByTable bytes fault
+  -- at bytes that are no token, behind tokens that a text of a file begins with, for their reason
   of_no_token : GoesOn (tokens bytes) → rest bytes ≡ Bad fault → FailsByTable bytes fault
 
 -- The same, with its stop within the limit of an input.
-abbrev pub FailsByTableWithin : List ℕ → TextFault → Type 0
-FailsByTableWithin bytes fault = FailsByTable bytes fault × (fault.stop ≤ LIMIT)
+abbrev pub FailsEarlyByTable : List ℕ → TextFault → Type 0
+FailsEarlyByTable bytes fault = FailsByTable bytes fault × (fault.stop ≤ LIMIT)

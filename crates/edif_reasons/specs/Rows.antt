@@ -1,5 +1,6 @@
--- The table of the reasons of first faults in EDIF texts: its rows from top to bottom, of which the first that fits says the reason. What
--- fits is said by what stands before a token and by the token itself (EDIF 2 0 0, the forms that each row names).
+-- The table of the reasons of first faults in EDIF texts: its rows from top to bottom, of which the
+-- first that fits says the reason. Whether a row fits is said by what stands before a token and by the
+-- token itself (EDIF 2 0 0, the forms that the rows name).
 use Rattle.std.specs.Prelude.{ℕ, ℤ, pos, ◌==◌, Bool, true, false, not, ◌&&◌, ◌||◌, List, [], ◌∷◌, length, Option, Some, None, is_some, is_none, codes}
 use Rattle.std.specs.Ordering.{int_eq}
 use Rattle.grammar.specs.Whole.{Terminal, proper, end}
@@ -47,6 +48,10 @@ is_over [] = false
 is_over (text ∷ []) = not (length text.elements == 0)
 is_over (f ∷ g ∷ around) = false
 
+-- the keyword that a word means under the aliases in force
+abbrev pub meaning : Context → List ℕ → Option Keyword
+meaning c w = means c.said.aliases w
+
 -- ---- the rows
 
 -- TooDeep: a `(` in user data where 64 lists are open
@@ -73,36 +78,48 @@ abbrev pub level : Context → Token → Row
 level c (Number n) = when (is_at k.EdifLevel 0 c.forms && not (int_eq n (pos 0))) reasons.Level
 level c t = None
 
--- KeywordLevel: an integer other than 0 and 1 in keywordLevel; the word keywordAlias directly after a `(` in a keywordMap whose level
--- is 0
+-- KeywordLevel: an integer other than 0 and 1 in keywordLevel; the word keywordAlias directly after a
+-- `(` in a keywordMap whose level is 0
 abbrev pub keyword_level : Context → Token → Row
-keyword_level c (Number n) = when (is_at k.KeywordLevel 0 c.forms && not (int_eq n (pos 0)) && not (int_eq n (pos 1))) reasons.KeywordLevel
-keyword_level c (Word w) = when (at_keyword c.forms && in_plain_map c.said c.forms && is_keyword (means c.said.aliases w) k.KeywordAlias) reasons.KeywordLevel
+keyword_level c (Number n) =
+    when (is_at k.KeywordLevel 0 c.forms && not (int_eq n (pos 0)) && not (int_eq n (pos 1)))
+    reasons.KeywordLevel
+keyword_level c (Word w) =
+    when
+    (at_keyword c.forms && in_plain_map c.said c.forms && is_keyword (meaning c w) k.KeywordAlias)
+    reasons.KeywordLevel
 keyword_level c t = None
 
 -- ViewType: a word other than NETLIST in viewType
 abbrev pub view_type : Context → Token → Row
-view_type c (Word w) = when (is_at k.ViewType 0 c.forms && not (same_up_to_case w (codes "NETLIST"))) (reasons.ViewType w)
+view_type c (Word w) =
+    when (is_at k.ViewType 0 c.forms && not (same_up_to_case w (codes "NETLIST")))
+    (reasons.ViewType w)
 view_type c t = None
 
 -- AliasClash: the first word of an alias, where it means a keyword already
 abbrev pub alias_clash : Context → Token → Row
-alias_clash c (Word w) = when (is_at k.KeywordAlias 0 c.forms && is_some (means c.said.aliases w)) reasons.AliasClash
+alias_clash c (Word w) =
+    when (is_at k.KeywordAlias 0 c.forms && is_some (meaning c w)) reasons.AliasClash
 alias_clash c t = None
 
 -- AliasUnknown: the second word of an alias, where it means no keyword
 abbrev pub alias_unknown : Context → Token → Row
-alias_unknown c (Word w) = when (is_at k.KeywordAlias 1 c.forms && is_none (means c.said.aliases w)) reasons.AliasUnknown
+alias_unknown c (Word w) =
+    when (is_at k.KeywordAlias 1 c.forms && is_none (meaning c w)) reasons.AliasUnknown
 alias_unknown c t = None
 
--- NotInProfile: directly after a `(` at which a form may begin, a word that means a keyword, which may not stand there
+-- NotInProfile: directly after a `(` at which a form may begin, a word that means a keyword, which may
+-- not stand there. Where the tokens before go on to a file, a form may begin at each `(` of theirs that
+-- opens no list of user data.
 abbrev pub not_in_profile : Context → Token → Row
-not_in_profile c (Word w) = when (at_keyword c.forms && is_some (means c.said.aliases w)) (reasons.NotInProfile w)
+not_in_profile c (Word w) =
+    when (at_keyword c.forms && is_some (meaning c w)) (reasons.NotInProfile w)
 not_in_profile c t = None
 
 -- UnknownWord: directly after a `(` at which a form may begin, a word that means no keyword
 abbrev pub unknown_word : Context → Token → Row
-unknown_word c (Word w) = when (at_keyword c.forms && is_none (means c.said.aliases w)) (reasons.UnknownWord w)
+unknown_word c (Word w) = when (at_keyword c.forms && is_none (meaning c w)) (reasons.UnknownWord w)
 unknown_word c t = None
 
 -- Trailing: a token after the file's last `)`
@@ -116,7 +133,8 @@ unexpected c t = Some reasons.Unexpected
 -- the rows for a token, from top to bottom
 abbrev pub rows : List (Context → Token → Row)
 rows =
-    too_deep ∷ version ∷ level ∷ keyword_level ∷ view_type ∷ alias_clash ∷ alias_unknown ∷ not_in_profile ∷ unknown_word ∷ trailing ∷ unexpected ∷ []
+    too_deep ∷ version ∷ level ∷ keyword_level ∷ view_type ∷ alias_clash ∷ alias_unknown ∷
+    not_in_profile ∷ unknown_word ∷ trailing ∷ unexpected ∷ []
 
 -- the reason of the first row that fits; the last one always does
 abbrev pub or_next : Row → Reason → Reason
@@ -127,8 +145,8 @@ abbrev pub first_that_fits : List (Context → Token → Row) → Context → To
 first_that_fits [] c t = reasons.Unexpected
 first_that_fits (row ∷ below) c t = or_next (row c t) (first_that_fits below c t)
 
--- The reason that the table gives a token, or the end of the input, where it stands. The first row is EndOfInput, of the end; the next
--- four are those of bytes that are no token.
+-- The reason that the table gives a token, or the end of the input, where it stands. Above these rows
+-- stand EndOfInput, of the end, and those of bytes that are no token, which say their reason themselves.
 unfoldable pub reason_at : Context → Terminal Found Place → Reason
 reason_at c (proper x) = first_that_fits rows c x.token
 reason_at c (end p) = reasons.EndOfInput
