@@ -1,0 +1,12 @@
+pub mod OneToken
+pub mod Combining
+pub mod Alike
+pub mod Repeating
+pub mod Choices
+pub mod HeaderTexts
+pub mod MapTexts
+pub mod NameTexts
+pub mod NoteTexts
+pub mod NetTexts
+pub mod LibraryTexts
+pub mod FileTexts
