@@ -1,9 +1,8 @@
 -- What a whole file reads, from its first token to the end of the input.
-use Rattle.std.proofs.Common.{◌≡◌, ◌∙◌, refl, sym, subst, ℕ, false, List, [], ◌∷◌, None, Ok, Err, Result}
+use Rattle.std.proofs.Common.{◌≡◌, refl, sym, subst, false, List, [], ◌∷◌, None}
 use Rattle.grammar.specs.Part.{gives, sequence, under}
 use Rattle.grammar.specs.Whole.{Terminal, proper, end, end_of, the_end, whole}
 use Rattle.nl_base.specs.declared.place.Place.{Place}
-use Rattle.nl_base.specs.declared.fault.Reason.{Reason}
 use Rattle.nl_base.specs.declared.fault.Reason.TheVariants as reasons
 use Rattle.edif_tokens.specs.declared.token.Found.{Found}
 use Rattle.edif_tokens.specs.declared.token.Token.{Token}
@@ -17,10 +16,10 @@ use Rattle.edif_names.specs.declared.name.NameDef.{NameDef}
 use Rattle.edif_names.specs.Grammar.{name}
 use Rattle.edif_library.specs.declared.file.EdifFile.{EdifFile}
 use Rattle.edif_library.specs.Grammar.{file, file_body}
-use Rattle.edif_reasons.specs.Context.{Group, Form, Said, Context, untouched, with_element, open_lists, at_keyword, at_start}
-use Rattle.edif_reasons.specs.Rows.{is_at, is_over, reason_at}
-use Rattle.edif_reasons.proofs.Tracking.{Tracks, tracks_gives, tracks_token, tracks_then, tracks_under, tracks_less}
-use Rattle.edif_reasons.proofs.Standing.{form, at, plain_by, IsCalm, reason_of}
+use Rattle.edif_reasons.specs.Context.{Group, Said, Context, placed, untouched, with_element, open_lists, at_keyword, at_start}
+use Rattle.edif_reasons.specs.Rows.{is_at, is_over, reason_of, reason_at}
+use Rattle.edif_reasons.proofs.Tracking.{JudgedAt, Tracks, tracks_gives, tracks_token, tracks_then, tracks_under, tracks_less}
+use Rattle.edif_reasons.proofs.Standing.{plain_by, IsCalm, calm_by}
 use Rattle.edif_reasons.proofs.Forms.{Frame, inside, In, past, from_in}
 use Rattle.edif_reasons.proofs.Items.{tracks_form}
 use Rattle.edif_reasons.proofs.Maps.{saying, HeaderBehind, tracks_header}
@@ -37,18 +36,7 @@ no_keyword = refl
 
 calm_start : IsCalm (untouched ∷ [])
 unfolding is_at is_over
-calm_start = record {
-  lists = no_lists;
-  version_0 = refl;
-  version_1 = refl;
-  version_2 = refl;
-  level = refl;
-  keyword_level = refl;
-  view_type = refl;
-  alias_0 = refl;
-  alias_1 = refl;
-  over = refl;
-}
+calm_start = calm_by (untouched ∷ []) no_lists (refl, (refl, (refl, (refl, (refl, (refl, (refl, (refl, (refl, tt)))))))))
 
 -- in the form of the file
 abbrev in_file : Said → Frame
@@ -56,7 +44,7 @@ in_file said = record { said = said; keyword = k.Edif; holder = untouched; aroun
 
 -- behind the form of the file
 abbrev over : Said → Context
-over said = at said (with_element untouched Group ∷ [])
+over said = placed said (with_element untouched Group ∷ [])
 
 abbrev FileBehind : EdifFile → Context → Type 0
 FileBehind v d = (said : Said) × (d ≡ over said)
@@ -86,7 +74,7 @@ tracks_file =
 
 -- ---- the end of the input
 
-trailing_row : (said : Said) (t : Token) → reason_of (over said) t ≡ reasons.Trailing
+trailing_row : (said : Said) (t : Token) → reasons.Trailing ≡ reason_of (over said) t
 unfolding open_lists at_keyword is_at is_over
 trailing_row said LeftParen = refl
 trailing_row said RightParen = refl
@@ -94,10 +82,10 @@ trailing_row said (Word w) = refl
 trailing_row said (Number n) = refl
 trailing_row said (Str s) = refl
 
-end_err : (said : Said) (x : Terminal Found Place) (r : Reason) → end_of say.trailing x ≡ Err r → r ≡ reason_at (over said) x
+judged_end : (said : Said) (x : Terminal Found Place) → JudgedAt (over said) (λ (_ : Unit {0}) _. Unit {0}) x (end_of say.trailing x)
 unfolding reason_at
-end_err said (proper x) r e = let same : r ≡ reasons.Trailing = cc in same ∙ sym (trailing_row said x.token)
-end_err said (end p) r e = absurd cc
+judged_end said (proper x) = trailing_row said x.token
+judged_end said (end p) = tt
 
 abbrev Any : EdifFile → Context → Type 0
 Any v d = Unit {0}
@@ -108,7 +96,7 @@ ending v = sequence (the_end say.trailing) (λ _. gives v)
 end_in : (v : EdifFile) (said : Said) → Tracks [] (ending v) (over said) Any
 unfolding the_end
 end_in v said =
-    tracks_then [] (the_end say.trailing) (λ _. gives v) (over said) (λ _ _. Unit {0}) Any (tracks_token [] (λ _ x. end_of say.trailing x) (over said) (λ _ _. Unit {0}) (λ x u e. tt) (end_err said))
+    tracks_then [] (the_end say.trailing) (λ _. gives v) (over said) (λ _ _. Unit {0}) Any (tracks_token [] (λ _ x. end_of say.trailing x) (over said) (λ _ _. Unit {0}) (judged_end said))
     (λ u d i. tracks_gives [] v d Any tt)
 
 -- every reading of a text as a file gives the reasons of the table

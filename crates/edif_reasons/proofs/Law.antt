@@ -1,5 +1,5 @@
 -- The first fault of a text has the reason of the first row that fits, and each first token that no file has there is a first fault.
-use Rattle.std.proofs.Common.{◌≡◌, ◌∙◌, refl, sym, ap, subst, ℕ, List, [], ◌∷◌, ◌++◌, length, length-append, Ok, Err, arith, append_assoc}
+use Rattle.std.proofs.Common.{◌≡◌, ◌∙◌, refl, sym, ap, subst, ℕ, List, [], ◌∷◌, ◌++◌, length, length-append, Err, arith, append_assoc}
 use Rattle.std.specs.Prelude.{◌↔◌}
 use Rattle.grammar.specs.Clear.{IsLive, IsClear, IsClosed}
 use Rattle.grammar.specs.Faults.{Faults}
@@ -29,8 +29,8 @@ use Rattle.edif_library.proofs.Live.{live_file, closed_file}
 use Rattle.edif_laws.specs.AnyLength.{EdifFails}
 use Rattle.edif_limits.proofs.Law.{faults}
 use Rattle.edif_limits.proofs.Looked.{end_is_last}
-use Rattle.edif_reasons.specs.Context.{Tokens, at_start, behind_all}
-use Rattle.edif_reasons.specs.Rows.{reason_at, reason_row}
+use Rattle.edif_reasons.specs.Context.{Tokens, at_start}
+use Rattle.edif_reasons.specs.Rows.{reason_row}
 use Rattle.edif_reasons.specs.FirstFault.{GoesOn, FailsByTable, FailsEarlyByTable, of_token, of_no_token}
 use Rattle.edif_reasons.proofs.Tracking.{Says}
 use Rattle.edif_reasons.proofs.File.{tracks_whole}

@@ -22,8 +22,8 @@ use Rattle.edif_library.specs.declared.file.DesignItem.TheVariants as design_ite
 use Rattle.edif_library.specs.declared.file.FileItem.{FileItem}
 use Rattle.edif_library.specs.declared.file.FileItem.TheVariants as file_items
 use Rattle.edif_library.specs.Grammar.{interface_port, interface_property, interface_designator, interface_note, interface_item, interface_keywords, interface_rest, interface, contents_instance, contents_net, contents_note, contents_item, contents_keywords, contents_rest, view_contents, view_property, view_status, view_note, view_item, has_contents, view_keywords, view_rest, netlist, view, kind_words, cell_type, cell_view, cell_property, cell_status, cell_note, cell_item, has_view, cell_keywords, cell_rest, cell, unit, scale, scales_rest, notes_rest, number_definition, technology, library_cell, library_status, library_note, library_item, library_keywords, library_rest, library, library_ref, cell_ref, design_property, design_status, design_note, design_item, design_keywords, design_rest, design, file_library, file_design, file_status, file_note, file_item, file_keywords, file_rest, file_body}
-use Rattle.edif_reasons.proofs.Forms.{Stays, Ends, Reads, stays_then, ends_then, ends_as, reads_as, reads_plainly, stays_word, stays_choice}
-use Rattle.edif_reasons.proofs.Items.{Each, ends_closing, ends_with, stays_item, ends_items}
+use Rattle.edif_reasons.proofs.Forms.{Stays, Ends, Reads, ends_then, ends_as, reads_as, reads_plainly, stays_word, stays_choice, ends_with}
+use Rattle.edif_reasons.proofs.Items.{Each, stays_item, ends_items}
 use Rattle.edif_reasons.proofs.Trees.{reads_comment_note, reads_user_note, reads_notes}
 use Rattle.edif_reasons.proofs.Header.{stays_level, reads_view_type}
 use Rattle.edif_reasons.proofs.Names.{stays_name, stays_scaled, reads_property}

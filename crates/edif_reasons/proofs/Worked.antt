@@ -6,7 +6,7 @@ use Rattle.nl_base.specs.declared.place.Place.{Place}
 use Rattle.nl_base.specs.declared.fault.Reason.TheVariants as reasons
 use Rattle.edif_tokens.specs.declared.token.Found.{Found}
 use Rattle.edif_tokens.specs.declared.token.Token.{Token}
-use Rattle.edif_tokens.specs.declared.token.Token.TheVariants.{LeftParen, RightParen, Word, Number, Str}
+use Rattle.edif_tokens.specs.declared.token.Token.TheVariants.{LeftParen, RightParen, Word, Number}
 use Rattle.edif_keywords.specs.Keywords.{keyword_of}
 use Rattle.edif_keywords.specs.Aliases.{alias_of, means}
 use Rattle.edif_reasons.specs.Context.{Tokens, open_lists, at_keyword}
@@ -106,7 +106,7 @@ pub alias_means : reason_row (aliased ++ seen LeftParen ∷ []) (word (codes "KC
 unfolding means keyword_of alias_of reason_at is_at at_keyword open_lists in_plain_map is_over
 alias_means = refl
 
--- (userData u and 64 lists in one another, and one more; (userData u(kc and no word more of it is a keyword
+-- (userData u and 64 lists in one another, and one more
 pub deep : reason_row (aliased ++ opens (codes "userData") ++ word (codes "u") ∷ replicate 64 (seen LeftParen)) (seen LeftParen) ≡ reasons.TooDeep
 unfolding means keyword_of alias_of reason_at is_at at_keyword open_lists in_plain_map is_over
 deep = refl
@@ -118,3 +118,17 @@ trailing = refl
 pub view_type : reason_row (aliased ++ opens (codes "viewType")) (word (codes "SCHEMATIC")) ≡ reasons.ViewType (codes "SCHEMATIC")
 unfolding means keyword_of alias_of reason_at is_at at_keyword open_lists in_plain_map is_over
 view_type = refl
+
+-- (edif a(); (userData(
+pub no_word : reason_row (named ++ seen LeftParen ∷ []) (seen RightParen) ≡ reasons.Unexpected
+unfolding means keyword_of alias_of reason_at is_at at_keyword open_lists in_plain_map is_over
+no_word = refl
+
+pub no_user_data_yet : reason_row (aliased ++ opens (codes "userData")) (seen LeftParen) ≡ reasons.Unexpected
+unfolding means keyword_of alias_of reason_at is_at at_keyword open_lists in_plain_map is_over
+no_user_data_yet = refl
+
+-- (keywordAlias ka keywordAlias)(ka view: an alias of keywordAlias begins one
+pub by_an_alias : reason_row (levelled 1 ++ opens (codes "keywordAlias") ++ word (codes "ka") ∷ word (codes "keywordAlias") ∷ seen RightParen ∷ opens (codes "ka")) (word (codes "view")) ≡ reasons.AliasClash
+unfolding means keyword_of alias_of reason_at is_at at_keyword open_lists in_plain_map is_over
+by_an_alias = refl

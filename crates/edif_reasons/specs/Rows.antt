@@ -10,7 +10,7 @@ use Rattle.nl_base.specs.declared.fault.Reason.{Reason}
 use Rattle.nl_base.specs.declared.fault.Reason.TheVariants as reasons
 use Rattle.edif_tokens.specs.declared.token.Found.{Found}
 use Rattle.edif_tokens.specs.declared.token.Token.{Token}
-use Rattle.edif_tokens.specs.declared.token.Token.TheVariants.{LeftParen, RightParen, Word, Number, Str}
+use Rattle.edif_tokens.specs.declared.token.Token.TheVariants.{LeftParen, Word, Number}
 use Rattle.edif_keywords.specs.declared.keyword.Keyword.{Keyword}
 use Rattle.edif_keywords.specs.declared.keyword.Keyword.TheVariants as k
 use Rattle.edif_keywords.specs.Aliases.{means}
@@ -145,10 +145,14 @@ abbrev pub first_that_fits : List (Context → Token → Row) → Context → To
 first_that_fits [] c t = reasons.Unexpected
 first_that_fits (row ∷ below) c t = or_next (row c t) (first_that_fits below c t)
 
+-- the reason that these rows give a token where it stands
+abbrev pub reason_of : Context → Token → Reason
+reason_of c t = first_that_fits rows c t
+
 -- The reason that the table gives a token, or the end of the input, where it stands. Above these rows
 -- stand EndOfInput, of the end, and those of bytes that are no token, which say their reason themselves.
 unfoldable pub reason_at : Context → Terminal Found Place → Reason
-reason_at c (proper x) = first_that_fits rows c x.token
+reason_at c (proper x) = reason_of c x.token
 reason_at c (end p) = reasons.EndOfInput
 
 -- The reason that the table gives a token, or the end of the input, after some tokens.
