@@ -1,13 +1,14 @@
 -- One more identifier in a name space.
-use Rattle.std.proofs.Common.{◌≡◌, ℕ, ◌+◌, length, length-append, Bool, true, false, cond, List, [], ◌∷◌, ◌++◌, refl, sym, ap, ◌∙◌, subst}
+use Rattle.std.proofs.Common.{◌≡◌, ℕ, ◌+◌, ◌<◌, get_or, length, Bool, true, false, cond, List, [], ◌∷◌, ◌++◌, refl, sym, ap, ◌∙◌, subst}
 use Rattle.std.specs.Prelude.{◌||◌, IsTrue}
+use Rattle.std.specs.Borrow.{Bor}
 use Rattle.std.specs.List.{list_any}
 use Rattle.std.proofs.lemmas.Bool.{false≢true}
 use Rattle.std.proofs.lemmas.List.Folds.{list_any-append}
-use Rattle.net_bits.specs.Names.{AreUsed, NameSet, alike, has_name, numbered, with_name}
-use Rattle.edif_meanings.specs.Apart.{AreApart, is_alike_any}
-use Rattle.edif_meanings.proofs.ApartLaws.{apart_more}
-use Rattle.edif_spaces.specs.Spaces.{IsSpace, stem}
+use Rattle.net_bits.specs.Names.{AreUsed, IsFresh, NameSet, alike, has_name, numbered, with_name}
+use Rattle.edif_meanings.specs.Apart.{is_alike_any}
+use Rattle.edif_spaces.specs.Spaces.{IsIdentFor, IsMade, IsSpace, stem}
+use Rattle.edif_spaces.proofs.IdentLaws.{AreFirst, first_more}
 
 -- a set up to case has a name where one is alike
 pub has_alike : (set : NameSet) (name : List ℕ) → set.up_to_case ≡ true → has_name set name ≡ is_alike_any name set.names
@@ -23,7 +24,7 @@ names_with set name h = by (has_name set name) h
 pub added_names : (set new : NameSet) (name : List ℕ) → new ≡ with_name set name → set.up_to_case ≡ true → is_alike_any name set.names ≡ false → new.names ≡ set.names ++ name ∷ []
 added_names set new name is_new e h = ap (λ s. s.names) is_new ∙ names_with set name (has_alike set name e ∙ h)
 
-or_true : (a b : Bool) → a ≡ true → (a || b) ≡ true
+pub or_true : (a b : Bool) → a ≡ true → (a || b) ≡ true
 or_true true b h = refl
 or_true false b h = absurd (false≢true h)
 
@@ -40,11 +41,21 @@ space_more set new name from is_new e used = record {
   are_used = λ lesser below. subst (λ s. IsTrue (has_name s (numbered stem lesser))) (sym is_new) (still_has set name (numbered stem lesser) (used lesser below));
 }
 
--- one more identifier of a list
-pub idents_turn : (idents new space more : List (List ℕ)) (ident : List ℕ) (i : ℕ) → AreApart idents → space ≡ idents → length idents ≡ i → is_alike_any ident space ≡ false → more ≡ space ++ ident ∷ [] → new ≡ idents ++ ident ∷ []
-    → AreApart new × (more ≡ new) × (length new ≡ i + 1)
-idents_turn idents new space more ident i apart same len fresh added pushed = (
-  subst AreApart (sym pushed) (apart_more idents ident apart (subst (λ names. is_alike_any ident names ≡ false) same fresh)),
-  added ∙ (ap (λ names. names ++ ident ∷ []) same ∙ sym pushed),
-  ap length pushed ∙ (length-append idents (ident ∷ []) ∙ ap (λ n. n + 1) len),
+-- an identifier that is made in a name space of these identifiers
+pub space_made : (used : NameSet) (names : List (List ℕ)) (name ident : List ℕ) (number : ℕ) → used.up_to_case ≡ true → used.names ≡ names → IsFresh used stem name number → ident ≡ name → IsMade names ident
+space_made used names name ident number exact shown fresh is = (
+  number,
+  record {
+    is_name = is ∙ fresh.is_name;
+    is_new = ap (is_alike_any ident) (sym shown) ∙ (ap (λ n. is_alike_any n used.names) is ∙ (sym (has_alike used name exact) ∙ fresh.is_new));
+    is_least = λ lesser below. ap (is_alike_any (numbered stem lesser)) (sym shown) ∙ (sym (has_alike used (numbered stem lesser) exact) ∙ fresh.is_least lesser below);
+  },
+)
+
+-- a turn of the loop over the names
+pub space_turn : (names : List (Bor (List ℕ))) (count : ℕ) (d x : Bor (List ℕ)) (space more idents new : List (List ℕ)) (ident : List ℕ) → count < length names → x ≡ get_or names count d → AreFirst names count idents → space ≡ idents
+    → IsIdentFor space x.now ident → is_alike_any ident space ≡ false → more ≡ space ++ ident ∷ [] → new ≡ idents ++ ident ∷ [] → AreFirst names (count + 1) new × (more ≡ new)
+space_turn names count d x space more idents new ident within is before same fits fresh added pushed = (
+  first_more names count d x idents new ident within is before (subst (λ l. IsIdentFor l x.now ident) same fits) (subst (λ l. is_alike_any ident l ≡ false) same fresh) pushed,
+  added ∙ (ap (λ l. l ++ ident ∷ []) same ∙ sym pushed),
 )

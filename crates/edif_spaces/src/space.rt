@@ -1,11 +1,11 @@
 // Name spaces.
-ghost use Rattle.std.specs.Prelude.{◌≡◌, ◌≤◌, ◌++◌, ◌∷◌, [], false, true, length, map, IfOk, OnErr};
+ghost use Rattle.std.specs.Prelude.{◌≡◌, ◌≤◌, ◌++◌, ◌∷◌, [], false, true, length, IfOk, OnErr};
 ghost use Rattle.nl_base.specs.Identifiers.{is_identifier as is_identifier_text};
 ghost use Rattle.edif_meanings.specs.Apart.{is_alike_any};
-ghost use Rattle.edif_spaces.specs.Spaces.{AreIdents, can_be_own as can_be_own_text};
+ghost use Rattle.edif_spaces.specs.Spaces.{IsIdentFor, IsMade, can_be_own as can_be_own_text};
 
 use net_bits::{Names, fresh_name};
-use nl_base::{Ident, NoMemory, Seq, Text, is_identifier};
+use nl_base::{Ident, NoMemory, Text, is_identifier};
 use std::alloc::Global;
 use std::marker::Model;
 
@@ -47,6 +47,7 @@ impl Space {
         ensures new { IfOk result (λ ident. is_alike_any ident self.old ≡ false) }
         ensures added { IfOk result (λ ident. self.new ≡ self.old ++ ident ∷ []) }
         ensures kept { OnErr result (self.new ≡ self.old) }
+        ensures fits { IfOk result (IsIdentFor self.old name.now) }
     {
         if can_be_own(name) && !self.used.has(name) {
             let ident = self.own(alloc, name)?;
@@ -63,6 +64,7 @@ impl Space {
         ensures ident { IfOk result (λ ident. ident ≡ name.now) }
         ensures added { IfOk result (λ ident. self.new ≡ self.old ++ ident ∷ []) }
         ensures kept { OnErr result (self.new ≡ self.old) }
+        ensures fits { IfOk result (IsIdentFor self.old name.now) }
     {
         let text = Text::copy(alloc, name)?;
         self.used.add(alloc, name)?;
@@ -74,6 +76,7 @@ impl Space {
         ensures new { IfOk result (λ ident. is_alike_any ident self.old ≡ false) }
         ensures added { IfOk result (λ ident. self.new ≡ self.old ++ ident ∷ []) }
         ensures kept { OnErr result (self.new ≡ self.old) }
+        ensures made { IfOk result (IsMade self.old) }
     {
         let (text, number) = fresh_name(alloc, &self.used, b"id", self.from)?;
         self.used.add(alloc, text.bytes())?;
@@ -83,22 +86,8 @@ impl Space {
 }
 
 /// Whether the name is an identifier of at most 255 bytes.
-fn can_be_own(name: &[u8]) -> bool
+pub(crate) fn can_be_own(name: &[u8]) -> bool
     ensures { result ≡ can_be_own_text name.now }
 {
     name.len() <= OWN_LIMIT && is_identifier(name)
-}
-
-/// Identifiers for names of one name space, of which no two are alike up to case.
-#[tactic(auto, using(edif_meanings::proofs::ApartLaws::apart_none))]
-pub fn idents_of(alloc: Global, names: &[&[u8]]) -> Result<Seq<Ident>, NoMemory>
-    ensures { IfOk result (λ idents. AreIdents (map (λ name. name.now) names.now) idents) }
-{
-    let mut space = Space::new(alloc);
-    let mut idents = Seq::empty(alloc);
-    for name in names {
-        let ident = space.ident(alloc, name)?;
-        idents.push(ident)?;
-    }
-    Ok(idents)
 }

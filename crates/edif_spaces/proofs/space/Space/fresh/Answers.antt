@@ -1,7 +1,7 @@
 use Rattle.std.proofs.Common.{◌≡◌, true, sym, subst, rules, length, ◌≤◌}
 use Rattle.nl_base.specs.Identifiers.{is_identifier}
 use Rattle.edif_spaces.proofs.Numbered.{made_ident, made_short}
-use Rattle.edif_spaces.proofs.SpaceLaws.{space_more}
+use Rattle.edif_spaces.proofs.SpaceLaws.{space_made, space_more}
 use Rattle.edif_spaces.proofs.space.Space.fresh.Goals as goal
 
 pub of-requires-clause-spelled : goal.of-requires-clause-spelled
@@ -12,3 +12,6 @@ of-requires-clause-short c = subst (λ t. length t ≤ 1024) (sym c.in_ok-text.e
 
 pub invariant_of-self-2 : goal.invariant_of-self-2
 invariant_of-self-2 c = space_more _ _ _ _ c.in_ok-add.ensures.added c.self.invariant.up_to_case c.in_ok-text.ensures.is_least
+
+pub returns-clause-made : goal.returns-clause-made
+returns-clause-made c = space_made _ _ _ _ _ c.self.invariant.up_to_case c.self.view_is c.in_ok-text.ensures c.of.ensures

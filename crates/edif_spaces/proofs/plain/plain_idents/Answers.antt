@@ -1,0 +1,28 @@
+use Rattle.std.proofs.Common.{arith, refl, sym, subst}
+use Rattle.edif_spaces.specs.Plain.{IsPlain}
+use Rattle.edif_spaces.proofs.IdentLaws.{AreFirst, first_all, first_more}
+use Rattle.edif_spaces.proofs.PlainLaws.{first_none, none_stemmed, plain_none}
+use Rattle.edif_spaces.proofs.plain.plain_idents.Goals as goal
+
+pub loop-name-init : goal.loop-name-init
+loop-name-init c = record {
+  first = subst (AreFirst c.args.names.now 0) (sym c.in_ok-idents.ensures) (first_none c.args.names.now);
+  plain = subst (λ l. IsPlain l 0) (sym c.in_ok-idents.ensures) plain_none;
+  few = omega arith;
+}
+
+pub plain_ident-requires-clause-stem : goal.plain_ident-requires-clause-stem
+plain_ident-requires-clause-stem c = none_stemmed c.args.names.now c.loop-name.name-index _ _ c.requires.stem c.loop-name-test.true refl
+
+pub plain_ident-requires-clause-few : goal.plain_ident-requires-clause-few
+plain_ident-requires-clause-few c = let within = c.loop-name-test.true in let step = c.loop-name.invariant.few in omega (arith, c.requires.few, within, step)
+
+pub loop-name-preserved : goal.loop-name-preserved
+loop-name-preserved c = let found = c.in_ok-ident.ensures in let pushed = c.in_ok-push.ensures.added in record {
+  first = first_more c.args.names.now c.loop-name.name-index _ _ _ _ _ c.loop-name-test.true refl c.loop-name.invariant.first found.fits found.new pushed;
+  plain = subst (λ l. IsPlain l c.in_ok-ident.next) (sym pushed) found.plain;
+  few = let before = c.loop-name.invariant.few in let step = found.step in omega (arith, before, step);
+}
+
+pub returns : goal.returns
+returns c = first_all c.args.names.now c.loop-name.name-index _ c.loop-name-test.false c.loop-name.invariant.first

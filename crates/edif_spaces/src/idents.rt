@@ -1,0 +1,34 @@
+// Identifiers for the names of one name space.
+ghost use Rattle.std.specs.Prelude.{map, IfOk};
+ghost use Rattle.edif_spaces.specs.Spaces.{AreIdents};
+
+use crate::plain::{have_stem, plain_idents};
+use crate::space::Space;
+use nl_base::{Ident, NoMemory, Seq};
+use std::alloc::Global;
+
+/// The identifiers of up to so many names are looked through one by one, and those of more of them by a table.
+const FEW: usize = 64;
+
+/// Identifiers for names of one name space, of which no two are alike up to case, by a table of those that were given.
+fn many_idents(alloc: Global, names: &[&[u8]]) -> Result<Seq<Ident>, NoMemory>
+    ensures { IfOk result (λ idents. AreIdents (map (λ name. name.now) names.now) idents) }
+{
+    let mut space = Space::new(alloc);
+    let mut idents = Seq::empty(alloc);
+    for name in names {
+        let ident = space.ident(alloc, name)?;
+        idents.push(ident)?;
+    }
+    Ok(idents)
+}
+
+/// Identifiers for names of one name space, of which no two are alike up to case.
+pub fn idents_of(alloc: Global, names: &[&[u8]]) -> Result<Seq<Ident>, NoMemory>
+    ensures { IfOk result (λ idents. AreIdents (map (λ name. name.now) names.now) idents) }
+{
+    if names.len() <= FEW && !have_stem(names) {
+        return plain_idents(alloc, names);
+    }
+    many_idents(alloc, names)
+}
