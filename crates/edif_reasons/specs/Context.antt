@@ -30,8 +30,8 @@ pub record Said : Type 0 where
   pub level : Option ℤ
   pub aliases : List Alias
 
--- where a token stands: what the header has said, and the open forms from the innermost one out; the
--- last of them is no form but the text itself
+-- where a token stands: what the header has said, and the open forms from the innermost one out, of
+-- which the last is no form but the text itself
 pub record Context : Type 0 where
   pub said : Said
   pub forms : List Form

@@ -28,8 +28,8 @@ GoesOn ts = Begins [] (whole say.trailing (file [])) ts
 
 -- The bytes have this first fault by the table of reasons.
 pub data FailsByTable (bytes : List ℕ) (fault : TextFault) : Type 0 where
-  -- at the first token, or at the end of the bytes, that no text of a file has there after the tokens
-  -- before it, for the reason that the table gives it after these
+  -- at the first token, or at the end of the bytes, that no text of a file has there after the
+  -- tokens before it, for the reason that the table gives it after these
   of_token : (before after : Tokens) (x : Terminal Found Place) → tokens bytes ≡ before ++ x ∷ after
       → GoesOn before → ¬ GoesOn (before ++ x ∷ [])
       → fault ≡ fault_at edif x (reason_row before x) → FailsByTable bytes fault

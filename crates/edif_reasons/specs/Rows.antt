@@ -1,6 +1,6 @@
 -- The table of the reasons of first faults in EDIF texts: its rows from top to bottom, of which the
--- first that fits says the reason. Whether a row fits is said by what stands before a token and by the
--- token itself (EDIF 2 0 0, the forms that the rows name).
+-- first that fits says the reason. Whether a row fits is said by what stands before a token and by
+-- the token itself (EDIF 2 0 0, the forms that the rows name).
 use Rattle.std.specs.Prelude.{ℕ, ℤ, pos, ◌==◌, Bool, true, false, not, ◌&&◌, ◌||◌, List, [], ◌∷◌, length, Option, Some, None, is_some, is_none, codes}
 use Rattle.std.specs.Ordering.{int_eq}
 use Rattle.grammar.specs.Whole.{Terminal, proper, end}
@@ -78,8 +78,8 @@ abbrev pub level : Context → Token → Row
 level c (Number n) = when (is_at k.EdifLevel 0 c.forms && not (int_eq n (pos 0))) reasons.Level
 level c t = None
 
--- KeywordLevel: an integer other than 0 and 1 in keywordLevel; the word keywordAlias directly after a
--- `(` in a keywordMap whose level is 0
+-- KeywordLevel: an integer other than 0 and 1 in keywordLevel; the word keywordAlias directly after
+-- a `(` in a keywordMap whose level is 0
 abbrev pub keyword_level : Context → Token → Row
 keyword_level c (Number n) =
     when (is_at k.KeywordLevel 0 c.forms && not (int_eq n (pos 0)) && not (int_eq n (pos 1)))
@@ -109,9 +109,9 @@ alias_unknown c (Word w) =
     when (is_at k.KeywordAlias 1 c.forms && is_none (meaning c w)) reasons.AliasUnknown
 alias_unknown c t = None
 
--- NotInProfile: directly after a `(` at which a form may begin, a word that means a keyword, which may
--- not stand there. Where the tokens before go on to a file, a form may begin at each `(` of theirs that
--- opens no list of user data.
+-- NotInProfile: directly after a `(` at which a form may begin, a word that means a keyword, which
+-- may not stand there. Where the tokens before go on to a file, a form may begin at each `(` of
+-- theirs that opens no list of user data.
 abbrev pub not_in_profile : Context → Token → Row
 not_in_profile c (Word w) =
     when (at_keyword c.forms && is_some (meaning c w)) (reasons.NotInProfile w)
@@ -149,8 +149,8 @@ first_that_fits (row ∷ below) c t = or_next (row c t) (first_that_fits below c
 abbrev pub reason_of : Context → Token → Reason
 reason_of c t = first_that_fits rows c t
 
--- The reason that the table gives a token, or the end of the input, where it stands. Above these rows
--- stand EndOfInput, of the end, and those of bytes that are no token, which say their reason themselves.
+-- The reason that the table gives a token, or the end of the input, where it stands. Above these
+-- rows stand EndOfInput, of the end, and those of bytes that are no token, which have their own.
 unfoldable pub reason_at : Context → Terminal Found Place → Reason
 reason_at c (proper x) = reason_of c x.token
 reason_at c (end p) = reasons.EndOfInput
