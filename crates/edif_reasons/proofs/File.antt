@@ -55,22 +55,26 @@ body_under n aliases = under aliases (file_body n)
 abbrev after_name : NameDef → Edif EdifFile
 after_name n = sequence (header []) (body_under n)
 
-body_in : (n : NameDef) (aliases : List Alias) (d : Context) → HeaderBehind (in_file at_start.said) aliases d → Tracks [] (body_under n aliases) d FileBehind
+body_in : (n : NameDef) (aliases : List Alias) (d : Context) → HeaderBehind (in_file at_start.said) aliases d
+    → Tracks [] (body_under n aliases) d FileBehind
 body_in n aliases d i =
     subst (λ z. Tracks [] (body_under n aliases) z FileBehind) (sym i.2)
     (tracks_under [] aliases (file_body n) (inside (in_file (saying i.0 aliases)) i.1) FileBehind
-    (tracks_less aliases (file_body n) (inside (in_file (saying i.0 aliases)) i.1) (λ _ d. d ≡ past (in_file (saying i.0 aliases))) FileBehind (λ v d e. (saying i.0 aliases, e)) (ends_file_body n (in_file (saying i.0 aliases)) i.1)))
+    (tracks_less aliases (file_body n) (inside (in_file (saying i.0 aliases)) i.1) (λ _ d. d ≡ past (in_file (saying i.0 aliases))) FileBehind
+    (λ v d e. (saying i.0 aliases, e)) (ends_file_body n (in_file (saying i.0 aliases)) i.1)))
 
 named_in : (n : NameDef) (d : Context) → In (in_file at_start.said) d → Tracks [] (after_name n) d FileBehind
 named_in n d i =
     from_in (in_file at_start.said) (after_name n) FileBehind
-    (λ ps. tracks_then [] (header []) (body_under n) (inside (in_file at_start.said) ps) (HeaderBehind (in_file at_start.said)) FileBehind (tracks_header (in_file at_start.said) refl ps) (body_in n)) d i
+    (λ ps. tracks_then [] (header []) (body_under n) (inside (in_file at_start.said) ps) (HeaderBehind (in_file at_start.said)) FileBehind
+    (tracks_header (in_file at_start.said) refl ps) (body_in n)) d i
 
 tracks_file : Tracks [] (file []) at_start FileBehind
 unfolding file
 tracks_file =
     tracks_form at_start.said untouched [] no_lists refl calm_start no_keyword k.Edif (sequence name after_name) FileBehind
-    (tracks_then [] name after_name (inside (in_file at_start.said) []) (λ _ d. In (in_file at_start.said) d) FileBehind (stays_name (in_file at_start.said) []) named_in)
+    (tracks_then [] name after_name (inside (in_file at_start.said) []) (λ _ d. In (in_file at_start.said) d) FileBehind
+    (stays_name (in_file at_start.said) []) named_in)
 
 -- ---- the end of the input
 
@@ -96,10 +100,12 @@ ending v = sequence (the_end say.trailing) (λ _. gives v)
 end_in : (v : EdifFile) (said : Said) → Tracks [] (ending v) (over said) Any
 unfolding the_end
 end_in v said =
-    tracks_then [] (the_end say.trailing) (λ _. gives v) (over said) (λ _ _. Unit {0}) Any (tracks_token [] (λ _ x. end_of say.trailing x) (over said) (λ _ _. Unit {0}) (judged_end said))
+    tracks_then [] (the_end say.trailing) (λ _. gives v) (over said) (λ _ _. Unit {0}) Any
+    (tracks_token [] (λ _ x. end_of say.trailing x) (over said) (λ _ _. Unit {0}) (judged_end said))
     (λ u d i. tracks_gives [] v d Any tt)
 
 -- every reading of a text as a file gives the reasons of the table
 pub tracks_whole : Tracks [] (whole say.trailing (file [])) at_start (λ _ _. Unit {0})
 unfolding whole
-tracks_whole = tracks_then [] (file []) ending at_start FileBehind Any tracks_file (λ v d i. subst (λ z. Tracks [] (ending v) z Any) (sym i.1) (end_in v i.0))
+tracks_whole = tracks_then [] (file []) ending at_start FileBehind Any tracks_file
+    (λ v d i. subst (λ z. Tracks [] (ending v) z Any) (sym i.1) (end_in v i.0))

@@ -51,7 +51,14 @@ outside_in fr es = lists_in (form fr.keyword es) (fr.holder ∷ fr.around) fr.pl
 
 -- a form in the form
 abbrev pub child : Frame → List Element → (q : Keyword) → IsPlain q → Frame
-child fr es q plain = record { said = fr.said; keyword = q; holder = form fr.keyword es; around = fr.holder ∷ fr.around; plain = plain; outside = outside_in fr es }
+child fr es q plain = record {
+  said = fr.said;
+  keyword = q;
+  holder = form fr.keyword es;
+  around = fr.holder ∷ fr.around;
+  plain = plain;
+  outside = outside_in fr es;
+}
 
 -- the part stays in the form
 abbrev pub Stays : {A : Type 0} → Edif A → Type 0
@@ -69,7 +76,8 @@ Reads q p = (fr : Frame) (es : List Element) → Tracks fr.said.aliases p (opene
 abbrev pub ReadsLast : {A : Type 0} → Keyword → Edif A → Type 0
 ReadsLast q p = (fr : Frame) (es : List Element) → Tracks fr.said.aliases p (opened fr es q) (λ _ d. d ≡ past fr)
 
-pub from_in : {A : Type 0} (fr : Frame) (q : Edif A) (P : A → Context → Type 0) → ((es : List Element) → Tracks fr.said.aliases q (inside fr es) P) → (d : Context) → In fr d → Tracks fr.said.aliases q d P
+pub from_in : {A : Type 0} (fr : Frame) (q : Edif A) (P : A → Context → Type 0) → ((es : List Element) → Tracks fr.said.aliases q (inside fr es) P)
+    → (d : Context) → In fr d → Tracks fr.said.aliases q d P
 from_in fr q P h d i = subst (λ z. Tracks fr.said.aliases q z P) (sym i.1) (h i.0)
 
 pub stays_gives : {A : Type 0} (v : A) → Stays (gives v)
@@ -77,25 +85,32 @@ stays_gives v fr es = tracks_gives fr.said.aliases v (inside fr es) (λ _ d. In 
 
 module _ {A B : Type 0} {p : Edif A} {q : A → Edif B} where
   pub stays_then : Stays p → ((u : A) → Stays (q u)) → Stays (sequence p q)
-  stays_then h l fr es = tracks_then fr.said.aliases p q (inside fr es) (λ _ d. In fr d) (λ _ d. In fr d) (h fr es) (λ u d i. from_in fr (q u) (λ _ d. In fr d) (l u fr) d i)
+  stays_then h l fr es = tracks_then fr.said.aliases p q (inside fr es) (λ _ d. In fr d) (λ _ d. In fr d) (h fr es)
+      (λ u d i. from_in fr (q u) (λ _ d. In fr d) (l u fr) d i)
 
   pub ends_then : Stays p → ((u : A) → Ends (q u)) → Ends (sequence p q)
-  ends_then h l fr es = tracks_then fr.said.aliases p q (inside fr es) (λ _ d. In fr d) (λ _ d. d ≡ past fr) (h fr es) (λ u d i. from_in fr (q u) (λ _ d. d ≡ past fr) (l u fr) d i)
+  ends_then h l fr es = tracks_then fr.said.aliases p q (inside fr es) (λ _ d. In fr d) (λ _ d. d ≡ past fr) (h fr es)
+      (λ u d i. from_in fr (q u) (λ _ d. d ≡ past fr) (l u fr) d i)
 
   -- a form that is read in the form, and what follows it
   pub read_then : (w : Keyword) → Reads w p → ((u : A) → Ends (q u)) → ReadsLast w (sequence p q)
-  read_then w h l fr es = tracks_then fr.said.aliases p q (opened fr es w) (λ _ d. In fr d) (λ _ d. d ≡ past fr) (h fr es) (λ u d i. from_in fr (q u) (λ _ d. d ≡ past fr) (l u fr) d i)
+  read_then w h l fr es = tracks_then fr.said.aliases p q (opened fr es w) (λ _ d. In fr d) (λ _ d. d ≡ past fr) (h fr es)
+      (λ u d i. from_in fr (q u) (λ _ d. d ≡ past fr) (l u fr) d i)
 
 module _ {A B : Type 0} {p : Edif A} (f : A → B) where
   pub ends_as : Ends p → Ends (sequence p (λ u. gives (f u)))
-  ends_as h fr es = tracks_then fr.said.aliases p (λ u. gives (f u)) (inside fr es) (λ _ d. d ≡ past fr) (λ _ d. d ≡ past fr) (h fr es) (λ u d e. tracks_gives fr.said.aliases (f u) d (λ _ d. d ≡ past fr) e)
+  ends_as h fr es = tracks_then fr.said.aliases p (λ u. gives (f u)) (inside fr es) (λ _ d. d ≡ past fr) (λ _ d. d ≡ past fr) (h fr es)
+      (λ u d e. tracks_gives fr.said.aliases (f u) d (λ _ d. d ≡ past fr) e)
 
   pub reads_as : (w : Keyword) → Reads w p → Reads w (sequence p (λ u. gives (f u)))
-  reads_as w h fr es = tracks_then fr.said.aliases p (λ u. gives (f u)) (opened fr es w) (λ _ d. In fr d) (λ _ d. In fr d) (h fr es) (λ u d i. tracks_gives fr.said.aliases (f u) d (λ _ d. In fr d) i)
+  reads_as w h fr es = tracks_then fr.said.aliases p (λ u. gives (f u)) (opened fr es w) (λ _ d. In fr d) (λ _ d. In fr d) (h fr es)
+      (λ u d i. tracks_gives fr.said.aliases (f u) d (λ _ d. In fr d) i)
 
 -- a form behind which one more element stands in the form around it
-pub reads_by : {A : Type 0} (q : Keyword) (p : Edif A) → ((fr : Frame) (es : List Element) → Tracks fr.said.aliases p (opened fr es q) (λ _ d. d ≡ inside fr (es ++ Group ∷ []))) → Reads q p
-reads_by q p h fr es = tracks_less fr.said.aliases p (opened fr es q) (λ _ d. d ≡ inside fr (es ++ Group ∷ [])) (λ _ d. In fr d) (λ v d e. (es ++ Group ∷ [], e)) (h fr es)
+pub reads_by : {A : Type 0} (q : Keyword) (p : Edif A) → ((fr : Frame) (es : List Element)
+    → Tracks fr.said.aliases p (opened fr es q) (λ _ d. d ≡ inside fr (es ++ Group ∷ []))) → Reads q p
+reads_by q p h fr es = tracks_less fr.said.aliases p (opened fr es q) (λ _ d. d ≡ inside fr (es ++ Group ∷ [])) (λ _ d. In fr d)
+    (λ v d e. (es ++ Group ∷ [], e)) (h fr es)
 
 -- a form without a row of its own that stands in one
 pub reads_plainly : {A : Type 0} {p : Edif A} (q : Keyword) → no_test (plain_tests q) ≡ true → Ends p → Reads q p
@@ -124,7 +139,8 @@ added fr es (Str s) is = (es ++ Single (Str s) ∷ [], refl)
 pub unexpected_in : (fr : Frame) (es : List Element) (t : Token) → reasons.Unexpected ≡ reason_of (inside fr es) t
 unexpected_in fr es t = unexpected (inside fr es) (calm fr es) (begun_in fr es) t
 
-judged_in : {A : Type 0} (fr : Frame) (es : List Element) (t : Token) (r : Result A Reason) → TakesElements t r → Judged (inside fr es) (λ _ d. In fr d) t r
+judged_in : {A : Type 0} (fr : Frame) (es : List Element) (t : Token) (r : Result A Reason) → TakesElements t r
+    → Judged (inside fr es) (λ _ d. In fr d) t r
 judged_in fr es t (Ok v) h = added fr es t h
 judged_in fr es t (Err r) h = rw h (unexpected_in fr es t)
 
@@ -201,7 +217,8 @@ module _ (κ : List Alias) (c : Context) (P : Unit {0} → Context → Type 0) (
   tracks_closing h = tracks_one κ (λ _ t. say.closing_of t) c P (closes h)
 
 pub ends_closing : Ends closing
-ends_closing fr es = tracks_closing fr.said.aliases (inside fr es) (λ _ d. d ≡ past fr) (calm fr es) (begun_in fr es) (rw (says_nothing fr.said fr.keyword es fr.plain) refl)
+ends_closing fr es = tracks_closing fr.said.aliases (inside fr es) (λ _ d. d ≡ past fr) (calm fr es) (begun_in fr es)
+    (rw (says_nothing fr.said fr.keyword es fr.plain) refl)
 
 -- `)`, and then a value
 pub ends_with : {A : Type 0} (v : A) → Ends (sequence closing (λ _. gives v))
@@ -212,12 +229,17 @@ module _ {A B : Type 0} {p : Edif A} (f : A → B) (q : Keyword) (plain : no_tes
   abbrev in_it : Frame → List Element → Frame
   in_it fr es = child fr es q (plain_by q plain)
 
-  both_close : (fr : Frame) (es qs : List Element) (u : A) → Tracks fr.said.aliases (sequence closing (λ _. sequence closing (λ _. gives (f u)))) (inside (in_it fr es) qs) (λ _ d. d ≡ past fr)
+  both_close : (fr : Frame) (es qs : List Element) (u : A)
+      → Tracks fr.said.aliases (sequence closing (λ _. sequence closing (λ _. gives (f u)))) (inside (in_it fr es) qs) (λ _ d. d ≡ past fr)
   both_close fr es qs u =
-      tracks_then fr.said.aliases closing (λ _. sequence closing (λ _. gives (f u))) (inside (in_it fr es) qs) (λ _ d. d ≡ past (in_it fr es)) (λ _ d. d ≡ past fr) (ends_closing (in_it fr es) qs)
-      (λ v d e. subst (λ z. Tracks fr.said.aliases (sequence closing (λ _. gives (f u))) z (λ _ d. d ≡ past fr)) (sym e) (ends_with (f u) fr (es ++ Group ∷ [])))
+      tracks_then fr.said.aliases closing (λ _. sequence closing (λ _. gives (f u))) (inside (in_it fr es) qs) (λ _ d. d ≡ past (in_it fr es))
+      (λ _ d. d ≡ past fr) (ends_closing (in_it fr es) qs)
+      (λ v d e. subst (λ z. Tracks fr.said.aliases (sequence closing (λ _. gives (f u))) z (λ _ d. d ≡ past fr)) (sym e)
+      (ends_with (f u) fr (es ++ Group ∷ [])))
 
   pub reads_last : ReadsLast q (sequence p (λ u. sequence closing (λ _. sequence closing (λ _. gives (f u)))))
   reads_last fr es =
-      tracks_then fr.said.aliases p (λ u. sequence closing (λ _. sequence closing (λ _. gives (f u)))) (opened fr es q) (λ _ d. In (in_it fr es) d) (λ _ d. d ≡ past fr) (h (in_it fr es) [])
-      (λ u d i. from_in (in_it fr es) (sequence closing (λ _. sequence closing (λ _. gives (f u)))) (λ _ d. d ≡ past fr) (λ qs. both_close fr es qs u) d i)
+      tracks_then fr.said.aliases p (λ u. sequence closing (λ _. sequence closing (λ _. gives (f u)))) (opened fr es q) (λ _ d. In (in_it fr es) d)
+      (λ _ d. d ≡ past fr) (h (in_it fr es) [])
+      (λ u d i. from_in (in_it fr es) (sequence closing (λ _. sequence closing (λ _. gives (f u)))) (λ _ d. d ≡ past fr)
+      (λ qs. both_close fr es qs u) d i)

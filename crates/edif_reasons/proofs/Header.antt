@@ -25,7 +25,8 @@ use Rattle.edif_reasons.proofs.Items.{stays_item}
 -- one part, behind which the text stands in a place of some kind, and then another
 pub then_from : {A B X : Type 0} (κ : List Alias) (p : Edif A) (q : Edif B) (c : Context) (place : X → Context) (Q : B → Context → Type 0)
     → Tracks κ p c (λ _ d. (x : X) × (d ≡ place x)) → ((x : X) → Tracks κ q (place x) Q) → Tracks κ (sequence p (λ _. q)) c Q
-then_from {X = X} κ p q c place Q h l = tracks_then κ p (λ _. q) c (λ _ d. (x : X) × (d ≡ place x)) Q h (λ u d i. subst (λ z. Tracks κ q z Q) (sym i.1) (l i.0))
+then_from {X = X} κ p q c place Q h l = tracks_then κ p (λ _. q) c (λ _ d. (x : X) × (d ≡ place x)) Q h
+    (λ u d i. subst (λ z. Tracks κ q z Q) (sym i.1) (l i.0))
 
 -- the text stands in a form, and this in another form
 module _ (said : Said) (g : Form) (around : List Form) (outside : open_lists (g ∷ around) ≡ None) where
@@ -43,15 +44,19 @@ module _ (said : Said) (g : Form) (around : List Form) (outside : open_lists (g 
   OneMore q es v d = (a : Element) × (d ≡ spot q (es ++ a ∷ []))
 
   -- what a `)` leaves, where no row speaks of the place
-  pub closed : (κ : List Alias) (q : Keyword) (es : List Element) → same_keyword q k.UserData ≡ false → NoneHolds (place_tests (form q es ∷ g ∷ around)) → (s : Said) → after (spot q es) RightParen ≡ left_at s → Tracks κ closing (spot q es) (λ _ d. d ≡ left_at s)
-  closed κ q es user quiet s e = tracks_closing κ (spot q es) (λ _ d. d ≡ left_at s) (calm_by (form q es ∷ g ∷ around) (no_lists q es user) quiet) (begun q es g around) e
+  pub closed : (κ : List Alias) (q : Keyword) (es : List Element) → same_keyword q k.UserData ≡ false
+      → NoneHolds (place_tests (form q es ∷ g ∷ around)) → (s : Said) → after (spot q es) RightParen ≡ left_at s
+      → Tracks κ closing (spot q es) (λ _ d. d ≡ left_at s)
+  closed κ q es user quiet s e = tracks_closing κ (spot q es) (λ _ d. d ≡ left_at s) (calm_by (form q es ∷ g ∷ around) (no_lists q es user) quiet)
+      (begun q es g around) e
 
   -- where a number is due, each other token is unexpected
   abbrev IsNumber : Token → Type 0
   IsNumber (Number n) = Unit {0}
   IsNumber t = ⊥
 
-  no_number : (q : Keyword) (es : List Element) → same_keyword q k.UserData ≡ false → same_keyword q k.ViewType ≡ false → same_keyword q k.KeywordAlias ≡ false → (t : Token) → (IsNumber t → ⊥) → reasons.Unexpected ≡ reason_of (spot q es) t
+  no_number : (q : Keyword) (es : List Element) → same_keyword q k.UserData ≡ false → same_keyword q k.ViewType ≡ false
+      → same_keyword q k.KeywordAlias ≡ false → (t : Token) → (IsNumber t → ⊥) → reasons.Unexpected ≡ reason_of (spot q es) t
   unfolding is_at at_keyword is_over
   no_number q es user view alias LeftParen isnt = rw (no_lists q es user) refl
   no_number q es user view alias RightParen isnt = refl
@@ -79,7 +84,9 @@ module _ (said : Said) (g : Form) (around : List Form) (outside : open_lists (g 
   unfolding is_at
   version_2 a b n e = rw e refl
 
-  judged_version : (es : List Element) (due : ℤ) → ((n : ℤ) → int_eq n due ≡ false → reasons.Version ≡ reason_of (spot k.EdifVersion es) (Number n)) → (t : Token) → Judged (spot k.EdifVersion es) (OneMore k.EdifVersion es) t (say.version_of due t)
+  judged_version : (es : List Element) (due : ℤ) → ((n : ℤ) → int_eq n due ≡ false
+      → reasons.Version ≡ reason_of (spot k.EdifVersion es) (Number n)) → (t : Token)
+      → Judged (spot k.EdifVersion es) (OneMore k.EdifVersion es) t (say.version_of due t)
   judged_version es due row LeftParen = no_number k.EdifVersion es refl refl refl LeftParen (λ h. h)
   judged_version es due row RightParen = no_number k.EdifVersion es refl refl refl RightParen (λ h. h)
   judged_version es due row (Word w) = no_number k.EdifVersion es refl refl refl (Word w) (λ h. h)
@@ -88,16 +95,27 @@ module _ (said : Said) (g : Form) (around : List Form) (outside : open_lists (g 
 
   version_closed : (κ : List Alias) (a b d : Element) → Tracks κ closing (spot k.EdifVersion (a ∷ b ∷ d ∷ [])) (λ _ d. d ≡ left_at said)
   unfolding is_at is_over
-  version_closed κ a b d = closed κ k.EdifVersion (a ∷ b ∷ d ∷ []) refl (refl, (refl, (refl, (refl, (refl, (refl, (refl, (refl, (refl, tt))))))))) said refl
+  version_closed κ a b d = closed κ k.EdifVersion (a ∷ b ∷ d ∷ []) refl (
+    refl,
+    (refl, (refl, (refl, (refl, (refl, (refl, (refl, (refl, tt)))))))),
+  ) said refl
 
-  tracks_version_number : (κ : List Alias) (es : List Element) (due : ℤ) → ((n : ℤ) → int_eq n due ≡ false → reasons.Version ≡ reason_of (spot k.EdifVersion es) (Number n)) → Tracks κ (version_number due) (spot k.EdifVersion es) (OneMore k.EdifVersion es)
-  tracks_version_number κ es due row = tracks_one κ (λ _ t. say.version_of due t) (spot k.EdifVersion es) (OneMore k.EdifVersion es) (judged_version es due row)
+  tracks_version_number : (κ : List Alias) (es : List Element) (due : ℤ) → ((n : ℤ) → int_eq n due ≡ false
+      → reasons.Version ≡ reason_of (spot k.EdifVersion es) (Number n))
+      → Tracks κ (version_number due) (spot k.EdifVersion es) (OneMore k.EdifVersion es)
+  tracks_version_number κ es due row = tracks_one κ (λ _ t. say.version_of due t) (spot k.EdifVersion es) (OneMore k.EdifVersion es)
+      (judged_version es due row)
 
-  pub tracks_version : (κ : List Alias) → Tracks κ (sequence (version_number (pos 2)) (λ _. sequence (version_number (pos 0)) (λ _. sequence (version_number (pos 0)) (λ _. closing)))) (spot k.EdifVersion []) (λ _ d. d ≡ left_at said)
+  pub tracks_version : (κ : List Alias)
+      → Tracks κ (sequence (version_number (pos 2)) (λ _. sequence (version_number (pos 0))
+      (λ _. sequence (version_number (pos 0)) (λ _. closing)))) (spot k.EdifVersion []) (λ _ d. d ≡ left_at said)
   tracks_version κ =
-      then_from κ (version_number (pos 2)) (sequence (version_number (pos 0)) (λ _. sequence (version_number (pos 0)) (λ _. closing))) (spot k.EdifVersion []) (λ a. spot k.EdifVersion (a ∷ [])) (λ _ d. d ≡ left_at said) (tracks_version_number κ [] (pos 2) version_0)
-      (λ a. then_from κ (version_number (pos 0)) (sequence (version_number (pos 0)) (λ _. closing)) (spot k.EdifVersion (a ∷ [])) (λ b. spot k.EdifVersion (a ∷ b ∷ [])) (λ _ d. d ≡ left_at said) (tracks_version_number κ (a ∷ []) (pos 0) (version_1 a))
-      (λ b. then_from κ (version_number (pos 0)) closing (spot k.EdifVersion (a ∷ b ∷ [])) (λ d. spot k.EdifVersion (a ∷ b ∷ d ∷ [])) (λ _ d. d ≡ left_at said) (tracks_version_number κ (a ∷ b ∷ []) (pos 0) (version_2 a b)) (version_closed κ a b)))
+      then_from κ (version_number (pos 2)) (sequence (version_number (pos 0)) (λ _. sequence (version_number (pos 0)) (λ _. closing)))
+      (spot k.EdifVersion []) (λ a. spot k.EdifVersion (a ∷ [])) (λ _ d. d ≡ left_at said) (tracks_version_number κ [] (pos 2) version_0)
+      (λ a. then_from κ (version_number (pos 0)) (sequence (version_number (pos 0)) (λ _. closing)) (spot k.EdifVersion (a ∷ []))
+      (λ b. spot k.EdifVersion (a ∷ b ∷ [])) (λ _ d. d ≡ left_at said) (tracks_version_number κ (a ∷ []) (pos 0) (version_1 a))
+      (λ b. then_from κ (version_number (pos 0)) closing (spot k.EdifVersion (a ∷ b ∷ [])) (λ d. spot k.EdifVersion (a ∷ b ∷ d ∷ []))
+      (λ _ d. d ≡ left_at said) (tracks_version_number κ (a ∷ b ∷ []) (pos 0) (version_2 a b)) (version_closed κ a b)))
 
   -- ---- edifLevel
 
@@ -118,7 +136,8 @@ module _ (said : Said) (g : Form) (around : List Form) (outside : open_lists (g 
 
   pub tracks_level : (κ : List Alias) → Tracks κ (sequence level_number (λ _. closing)) (spot k.EdifLevel []) (λ _ d. d ≡ left_at said)
   tracks_level κ =
-      then_from κ level_number closing (spot k.EdifLevel []) (λ a. spot k.EdifLevel (a ∷ [])) (λ _ d. d ≡ left_at said) (tracks_one κ (λ _ t. say.level_of t) (spot k.EdifLevel []) (OneMore k.EdifLevel []) judged_level) (level_closed κ)
+      then_from κ level_number closing (spot k.EdifLevel []) (λ a. spot k.EdifLevel (a ∷ [])) (λ _ d. d ≡ left_at said)
+      (tracks_one κ (λ _ t. say.level_of t) (spot k.EdifLevel []) (OneMore k.EdifLevel []) judged_level) (level_closed κ)
 
   -- ---- viewType
 
@@ -126,7 +145,8 @@ module _ (said : Said) (g : Form) (around : List Form) (outside : open_lists (g 
   unfolding is_at at_keyword
   view_0 w e = rw e refl
 
-  judged_netlist : (w : List ℕ) (b : Bool) → same_up_to_case w (codes "NETLIST") ≡ b → Judged (spot k.ViewType []) (OneMore k.ViewType []) (Word w) (say.view_type_by w b)
+  judged_netlist : (w : List ℕ) (b : Bool) → same_up_to_case w (codes "NETLIST") ≡ b
+      → Judged (spot k.ViewType []) (OneMore k.ViewType []) (Word w) (say.view_type_by w b)
   judged_netlist w true i = (Single (Word w), rw (begun k.ViewType [] g around) refl)
   judged_netlist w false i = view_0 w i
 
@@ -144,7 +164,8 @@ module _ (said : Said) (g : Form) (around : List Form) (outside : open_lists (g 
 
   pub tracks_view : (κ : List Alias) → Tracks κ (sequence view_type (λ _. closing)) (spot k.ViewType []) (λ _ d. d ≡ left_at said)
   tracks_view κ =
-      then_from κ view_type closing (spot k.ViewType []) (λ a. spot k.ViewType (a ∷ [])) (λ _ d. d ≡ left_at said) (tracks_one κ (λ _ t. say.view_type_of t) (spot k.ViewType []) (OneMore k.ViewType []) judged_view) (view_closed κ)
+      then_from κ view_type closing (spot k.ViewType []) (λ a. spot k.ViewType (a ∷ [])) (λ _ d. d ≡ left_at said)
+      (tracks_one κ (λ _ t. say.view_type_of t) (spot k.ViewType []) (OneMore k.ViewType []) judged_view) (view_closed κ)
 
   -- ---- keywordLevel
 
@@ -154,7 +175,8 @@ module _ (said : Said) (g : Form) (around : List Form) (outside : open_lists (g 
   abbrev NumberRead : Bool → Context → Type 0
   NumberRead b d = (n : ℤ) × (int_eq n (pos 0) ≡ not b) × (d ≡ spot k.KeywordLevel (Single (Number n) ∷ []))
 
-  keyword_level_0 : (n : ℤ) → int_eq n (pos 0) ≡ false → int_eq n (pos 1) ≡ false → reasons.KeywordLevel ≡ reason_of (spot k.KeywordLevel []) (Number n)
+  keyword_level_0 : (n : ℤ) → int_eq n (pos 0) ≡ false → int_eq n (pos 1) ≡ false
+      → reasons.KeywordLevel ≡ reason_of (spot k.KeywordLevel []) (Number n)
   unfolding is_at
   keyword_level_0 n e f = rw (e, f) refl
 
@@ -175,28 +197,42 @@ module _ (said : Said) (g : Form) (around : List Form) (outside : open_lists (g 
   abbrev pub LevelSaid : Bool → Context → Type 0
   LevelSaid b d = (n : ℤ) × (int_eq n (pos 0) ≡ not b) × (d ≡ left_at (with_level n))
 
-  keyword_level_closed : (κ : List Alias) (n : ℤ) → Tracks κ closing (spot k.KeywordLevel (Single (Number n) ∷ [])) (λ _ d. d ≡ left_at (with_level n))
+  keyword_level_closed : (κ : List Alias) (n : ℤ)
+      → Tracks κ closing (spot k.KeywordLevel (Single (Number n) ∷ [])) (λ _ d. d ≡ left_at (with_level n))
   unfolding is_at is_over
-  keyword_level_closed κ n = closed κ k.KeywordLevel (Single (Number n) ∷ []) refl (refl, (refl, (refl, (refl, (refl, (refl, (refl, (refl, (refl, tt))))))))) (with_level n) refl
+  keyword_level_closed κ n = closed κ k.KeywordLevel (Single (Number n) ∷ []) refl
+      (refl, (refl, (refl, (refl, (refl, (refl, (refl, (refl, (refl, tt))))))))) (with_level n) refl
 
-  level_given : (κ : List Alias) (b : Bool) (n : ℤ) → int_eq n (pos 0) ≡ not b → Tracks κ (sequence closing (λ _. gives b)) (spot k.KeywordLevel (Single (Number n) ∷ [])) LevelSaid
+  level_given : (κ : List Alias) (b : Bool) (n : ℤ) → int_eq n (pos 0) ≡ not b
+      → Tracks κ (sequence closing (λ _. gives b)) (spot k.KeywordLevel (Single (Number n) ∷ [])) LevelSaid
   level_given κ b n i =
-      tracks_then κ closing (λ _. gives b) (spot k.KeywordLevel (Single (Number n) ∷ [])) (λ _ d. d ≡ left_at (with_level n)) LevelSaid (keyword_level_closed κ n) (λ u d e. tracks_gives κ b d LevelSaid (n, i, e))
+      tracks_then κ closing (λ _. gives b) (spot k.KeywordLevel (Single (Number n) ∷ [])) (λ _ d. d ≡ left_at (with_level n)) LevelSaid
+      (keyword_level_closed κ n) (λ u d e. tracks_gives κ b d LevelSaid (n, i, e))
 
-  pub tracks_keyword_level : (κ : List Alias) → Tracks κ (sequence keyword_level_number (λ b. sequence closing (λ _. gives b))) (spot k.KeywordLevel []) LevelSaid
+  pub tracks_keyword_level : (κ : List Alias)
+      → Tracks κ (sequence keyword_level_number (λ b. sequence closing (λ _. gives b))) (spot k.KeywordLevel []) LevelSaid
   tracks_keyword_level κ =
-      tracks_then κ keyword_level_number (λ b. sequence closing (λ _. gives b)) (spot k.KeywordLevel []) NumberRead LevelSaid (tracks_one κ (λ _ t. say.keyword_level_of t) (spot k.KeywordLevel []) NumberRead judged_keyword_level)
+      tracks_then κ keyword_level_number (λ b. sequence closing (λ _. gives b)) (spot k.KeywordLevel []) NumberRead LevelSaid
+      (tracks_one κ (λ _ t. say.keyword_level_of t) (spot k.KeywordLevel []) NumberRead judged_keyword_level)
       (λ b d i. subst (λ z. Tracks κ (sequence closing (λ _. gives b)) z LevelSaid) (sym i.2) (level_given κ b i.0 i.1))
 
 -- ---- in a form without a row of its own
 
 pub stays_version : Stays version
 unfolding version
-stays_version = stays_item (k.EdifVersion ∷ []) _ (reads_by k.EdifVersion _ (λ fr es. tracks_version fr.said (form fr.keyword es) (fr.holder ∷ fr.around) (outside_in fr es) fr.said.aliases), tt)
+stays_version = stays_item (k.EdifVersion ∷ []) _ (
+  reads_by k.EdifVersion _
+      (λ fr es. tracks_version fr.said (form fr.keyword es) (fr.holder ∷ fr.around) (outside_in fr es) fr.said.aliases),
+  tt,
+)
 
 pub stays_level : Stays level
 unfolding level
-stays_level = stays_item (k.EdifLevel ∷ []) _ (reads_by k.EdifLevel _ (λ fr es. tracks_level fr.said (form fr.keyword es) (fr.holder ∷ fr.around) (outside_in fr es) fr.said.aliases), tt)
+stays_level = stays_item (k.EdifLevel ∷ []) _ (
+  reads_by k.EdifLevel _
+      (λ fr es. tracks_level fr.said (form fr.keyword es) (fr.holder ∷ fr.around) (outside_in fr es) fr.said.aliases),
+  tt,
+)
 
 pub reads_view_type : Reads k.ViewType (sequence view_type (λ _. closing))
 reads_view_type = reads_by k.ViewType _ (λ fr es. tracks_view fr.said (form fr.keyword es) (fr.holder ∷ fr.around) (outside_in fr es) fr.said.aliases)

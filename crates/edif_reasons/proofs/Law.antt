@@ -73,9 +73,11 @@ not_on : (a : Tokens) (x : Terminal Found Place) (r : Reason) → read [] text (
 not_on a x r e h = fault_or_begins [] text lives at_last clear (a ++ x ∷ []) x r (fault_from_read [] text lives at_last clear (a ++ x ∷ []) x r e) h
 
 module _ (before : Tokens) (x : Terminal Found Place) (r : Reason) (goes_on : Begins [] text before) where
-  by_places : (a b : Tokens) → before ++ x ∷ [] ≡ a ++ x ∷ b → r ≡ reason_row a x → read [] text (a ++ x ∷ []) ≡ Err (refused x r) → Places before x [] a x b → r ≡ reason_row before x
+  by_places : (a b : Tokens) → before ++ x ∷ [] ≡ a ++ x ∷ b → r ≡ reason_row a x → read [] text (a ++ x ∷ []) ≡ Err (refused x r)
+      → Places before x [] a x b → r ≡ reason_row before x
   by_places a b parts is e (one_place f g h) = is ∙ ap (λ (z : Tokens). reason_row z x) (sym f)
-  by_places a b parts is e (before_it m f) = absurd (omega (arith, ap length f, ap length parts, length-append before (x ∷ []), length-append a (x ∷ b), length-append (before ++ x ∷ []) m))
+  by_places a b parts is e (before_it m f) = absurd (omega
+      (arith, ap length f, ap length parts, length-append before (x ∷ []), length-append a (x ∷ b), length-append (before ++ x ∷ []) m))
   by_places a b parts is e (behind_it m f) = absurd (not_on a x r e (fewer_begins (a ++ x ∷ []) before m f goes_on))
 
   -- a token that is refused behind tokens that go on has the reason of the table
@@ -88,18 +90,22 @@ abbrev all_ahead : List ℕ → Tokens
 all_ahead bs = (ahead_of (all_tokens bs)).tokens
 
 -- what has a token behind it is no whole text
-no_text : (bs : List ℕ) (before after : Tokens) (x : Terminal Found Place) → all_ahead bs ≡ before ++ x ∷ after → (v : EdifFile) → Spells [] text before v → ⊥
+no_text : (bs : List ℕ) (before after : Tokens) (x : Terminal Found Place) → all_ahead bs ≡ before ++ x ∷ after → (v : EdifFile)
+    → Spells [] text before v → ⊥
 no_text bs before after x e v h =
     let n = whole_ends say.trailing [] (file []) before v h in
-    let place : all_ahead bs ≡ n.0 ++ end n.1 ∷ (x ∷ after) = e ∙ ap (λ (z : Tokens). z ++ x ∷ after) n.2 ∙ append_assoc n.0 (end n.1 ∷ []) (x ∷ after) in
+    let place : all_ahead bs ≡ n.0 ++ end n.1 ∷ (x ∷ after) = e ∙ ap (λ (z : Tokens). z ++ x ∷ after) n.2 ∙ append_assoc n.0 (end n.1 ∷ [])
+    (x ∷ after) in
     let none = (end_is_last (all_tokens bs).tokens (all_tokens bs).finish n.0 (x ∷ after) n.1 place).nothing in
     absurd cc
 
 to_table : (bs : List ℕ) (f : TextFault) → EdifFails bs f → FailsByTable bs f
-to_table bs f (at_token x r h e) = of_token h.before h.after x h.place h.goes_on h.stops (e ∙ ap (λ z. fault_at edif x z) (reason_is_row h.before x r h.goes_on h.reason_is))
+to_table bs f (at_token x r h e) = of_token h.before h.after x h.place h.goes_on h.stops
+    (e ∙ ap (λ z. fault_at edif x z) (reason_is_row h.before x r h.goes_on h.reason_is))
 to_table bs f (at_bad h e) = of_no_token h e
 
-module _ (bs : List ℕ) (before after : Tokens) (x : Terminal Found Place) (place : all_ahead bs ≡ before ++ x ∷ after) (goes_on : GoesOn before) (stops : ¬ GoesOn (before ++ x ∷ [])) where
+module _ (bs : List ℕ) (before after : Tokens) (x : Terminal Found Place) (place : all_ahead bs ≡ before ++ x ∷ after) (goes_on : GoesOn before)
+    (stops : ¬ GoesOn (before ++ x ∷ [])) where
   there : (r : Reason) × Faults [] text (before ++ x ∷ []) x r
   there = fault_exists [] text lives at_last clear before [] x goes_on stops (no_text bs before after x place)
 

@@ -34,7 +34,13 @@ use Rattle.edif_reasons.proofs.Nets.{reads_designator, reads_port, reads_instanc
 
 each_interface : Each interface_keywords (λ q. Reads q (interface_item q))
 unfolding interface_port interface_property interface_designator interface_note
-each_interface = (reads_as interface_items.Port k.Port reads_port, (reads_as interface_items.Property k.Property reads_property, (reads_as interface_items.Designator k.Designator reads_designator, reads_notes interface_items.Note)))
+each_interface = (
+  reads_as interface_items.Port k.Port reads_port,
+  (
+    reads_as interface_items.Property k.Property reads_property,
+    (reads_as interface_items.Designator k.Designator reads_designator, reads_notes interface_items.Note),
+  ),
+)
 
 ends_interface_rest : (so_far : List InterfaceItem) → Ends (interface_rest so_far)
 unfolding interface_rest
@@ -46,7 +52,10 @@ stays_interface = stays_item (k.Interface ∷ []) (λ _. interface_rest []) (rea
 
 each_contents : Each contents_keywords (λ q. Reads q (contents_item q))
 unfolding contents_instance contents_net contents_note
-each_contents = (reads_as contents_items.Instance k.Instance reads_instance, (reads_as contents_items.Net k.Net reads_net, reads_notes contents_items.Note))
+each_contents = (
+  reads_as contents_items.Instance k.Instance reads_instance,
+  (reads_as contents_items.Net k.Net reads_net, reads_notes contents_items.Note),
+)
 
 ends_contents_rest : (so_far : List ContentsItem) → Ends (contents_rest so_far)
 unfolding contents_rest
@@ -60,8 +69,17 @@ ends_view_contents = ends_as view_items.Contents (ends_contents_rest [])
 
 each_view : (b : Bool) → Each (view_keywords b) (λ q. Reads q (view_item q))
 unfolding view_keywords view_property view_status view_note
-each_view false = (reads_plainly k.Contents refl ends_view_contents, (reads_as view_items.Property k.Property reads_property, (reads_as view_items.Status k.Status reads_status, reads_notes view_items.Note)))
-each_view true = (reads_as view_items.Property k.Property reads_property, (reads_as view_items.Status k.Status reads_status, reads_notes view_items.Note))
+each_view false = (
+  reads_plainly k.Contents refl ends_view_contents,
+  (
+    reads_as view_items.Property k.Property reads_property,
+    (reads_as view_items.Status k.Status reads_status, reads_notes view_items.Note),
+  ),
+)
+each_view true = (
+  reads_as view_items.Property k.Property reads_property,
+  (reads_as view_items.Status k.Status reads_status, reads_notes view_items.Note),
+)
 
 ends_view_rest : (so_far : List ViewItem) → Ends (view_rest so_far)
 unfolding view_rest
@@ -73,7 +91,8 @@ stays_netlist = stays_item (k.ViewType ∷ []) (λ _. sequence view_type (λ _. 
 
 ends_view : Ends view
 unfolding view
-ends_view = ends_then stays_name (λ n. ends_then stays_netlist (λ _. ends_then stays_interface (λ ps. ends_as (λ is. record { name = n; interface = ps; items = is }) (ends_view_rest []))))
+ends_view = ends_then stays_name (λ n. ends_then stays_netlist
+    (λ _. ends_then stays_interface (λ ps. ends_as (λ is. record { name = n; interface = ps; items = is }) (ends_view_rest []))))
 
 -- ---- cells
 
@@ -82,7 +101,8 @@ ends_kind = ends_then (stays_choice kind_words) (λ kind. ends_with kind)
 
 stays_cell_type : Stays cell_type
 unfolding cell_type
-stays_cell_type = stays_item (k.CellType ∷ []) (λ _. sequence (choice kind_words) (λ kind. sequence closing (λ _. gives kind))) (reads_plainly k.CellType refl ends_kind, tt)
+stays_cell_type = stays_item (k.CellType ∷ []) (λ _. sequence (choice kind_words) (λ kind. sequence closing (λ _. gives kind)))
+    (reads_plainly k.CellType refl ends_kind, tt)
 
 ends_cell_view : Ends cell_view
 unfolding cell_view
@@ -90,8 +110,17 @@ ends_cell_view = ends_as cell_items.View ends_view
 
 each_cell : (b : Bool) → Each (cell_keywords b) (λ q. Reads q (cell_item q))
 unfolding cell_keywords cell_property cell_status cell_note
-each_cell false = (reads_plainly k.View refl ends_cell_view, (reads_as cell_items.Property k.Property reads_property, (reads_as cell_items.Status k.Status reads_status, reads_notes cell_items.Note)))
-each_cell true = (reads_as cell_items.Property k.Property reads_property, (reads_as cell_items.Status k.Status reads_status, reads_notes cell_items.Note))
+each_cell false = (
+  reads_plainly k.View refl ends_cell_view,
+  (
+    reads_as cell_items.Property k.Property reads_property,
+    (reads_as cell_items.Status k.Status reads_status, reads_notes cell_items.Note),
+  ),
+)
+each_cell true = (
+  reads_as cell_items.Property k.Property reads_property,
+  (reads_as cell_items.Status k.Status reads_status, reads_notes cell_items.Note),
+)
 
 ends_cell_rest : (so_far : List CellItem) → Ends (cell_rest so_far)
 unfolding cell_rest
@@ -99,7 +128,8 @@ ends_cell_rest so_far = ends_items (λ s. cell_keywords (has_view s)) cell_item 
 
 ends_cell : Ends cell
 unfolding cell
-ends_cell = ends_then stays_name (λ n. ends_then stays_cell_type (λ kind. ends_as (λ is. record { name = n; kind = kind; items = is }) (ends_cell_rest [])))
+ends_cell = ends_then stays_name (λ n. ends_then stays_cell_type
+    (λ kind. ends_as (λ is. record { name = n; kind = kind; items = is }) (ends_cell_rest [])))
 
 -- ---- libraries
 
@@ -112,7 +142,8 @@ stays_unit = stays_item (k.Unit ∷ []) (λ _. sequence word (λ w. sequence clo
 
 ends_scale : Ends scale
 unfolding scale
-ends_scale = ends_then stays_scaled (λ l. ends_then stays_scaled (λ r. ends_then stays_unit (λ u. ends_with (record { left = l; right = r; unit = u }))))
+ends_scale = ends_then stays_scaled (λ l. ends_then stays_scaled
+    (λ r. ends_then stays_unit (λ u. ends_with (record { left = l; right = r; unit = u }))))
 
 ends_scales_rest : (so_far : List Scale) → Ends (scales_rest so_far)
 unfolding scales_rest
@@ -131,7 +162,8 @@ ends_technology = ends_then stays_number_definition (λ ss. ends_as (λ ns. (ss,
 
 stays_technology : Stays technology
 unfolding technology
-stays_technology = stays_item (k.Technology ∷ []) (λ _. sequence number_definition (λ ss. sequence (notes_rest []) (λ ns. gives (ss, ns)))) (reads_plainly k.Technology refl ends_technology, tt)
+stays_technology = stays_item (k.Technology ∷ []) (λ _. sequence number_definition (λ ss. sequence (notes_rest []) (λ ns. gives (ss, ns))))
+    (reads_plainly k.Technology refl ends_technology, tt)
 
 ends_library_cell : Ends library_cell
 unfolding library_cell
@@ -148,24 +180,30 @@ ends_library_rest so_far = ends_items (λ _. library_keywords) library_item (λ 
 ends_library : (external : Bool) → Ends (library external)
 unfolding library
 ends_library external =
-    ends_then stays_name (λ n. ends_then stays_level (λ _. ends_then stays_technology (λ t. ends_as (λ is. record { external = external; name = n; scales = t.0; notes = t.1; items = is }) (ends_library_rest []))))
+    ends_then stays_name (λ n. ends_then stays_level (λ _. ends_then stays_technology
+    (λ t. ends_as (λ is. record { external = external; name = n; scales = t.0; notes = t.1; items = is }) (ends_library_rest []))))
 
 -- ---- designs
 
 stays_library_ref : Stays library_ref
 unfolding library_ref
-stays_library_ref = stays_item (k.LibraryRef ∷ []) (λ _. sequence word (λ w. sequence closing (λ _. gives w))) (reads_plainly k.LibraryRef refl ends_word, tt)
+stays_library_ref = stays_item (k.LibraryRef ∷ []) (λ _. sequence word (λ w. sequence closing (λ _. gives w)))
+    (reads_plainly k.LibraryRef refl ends_word, tt)
 
 ends_cell_named : Ends {A = List ℕ × List ℕ} (sequence word (λ c. sequence library_ref (λ l. sequence closing (λ _. gives (c, l)))))
 ends_cell_named = ends_then stays_word (λ c. ends_then stays_library_ref (λ l. ends_with (c, l)))
 
 stays_cell_ref : Stays cell_ref
 unfolding cell_ref
-stays_cell_ref = stays_item (k.CellRef ∷ []) (λ _. sequence word (λ c. sequence library_ref (λ l. sequence closing (λ _. gives (c, l))))) (reads_plainly k.CellRef refl ends_cell_named, tt)
+stays_cell_ref = stays_item (k.CellRef ∷ []) (λ _. sequence word (λ c. sequence library_ref (λ l. sequence closing (λ _. gives (c, l)))))
+    (reads_plainly k.CellRef refl ends_cell_named, tt)
 
 each_design : Each design_keywords (λ q. Reads q (design_item q))
 unfolding design_property design_status design_note
-each_design = (reads_as design_items.Property k.Property reads_property, (reads_as design_items.Status k.Status reads_status, reads_notes design_items.Note))
+each_design = (
+  reads_as design_items.Property k.Property reads_property,
+  (reads_as design_items.Status k.Status reads_status, reads_notes design_items.Note),
+)
 
 ends_design_rest : (so_far : List DesignItem) → Ends (design_rest so_far)
 unfolding design_rest
@@ -173,7 +211,8 @@ ends_design_rest so_far = ends_items (λ _. design_keywords) design_item (λ _. 
 
 ends_design : Ends design
 unfolding design
-ends_design = ends_then stays_name (λ n. ends_then stays_cell_ref (λ c. ends_as (λ is. record { name = n; cell = c.0; library = c.1; items = is }) (ends_design_rest [])))
+ends_design = ends_then stays_name (λ n. ends_then stays_cell_ref
+    (λ c. ends_as (λ is. record { name = n; cell = c.0; library = c.1; items = is }) (ends_design_rest [])))
 
 -- ---- the items of a file
 
@@ -189,7 +228,13 @@ each_file : Each file_keywords (λ q. Reads q (file_item q))
 unfolding file_status file_note
 each_file = (
   reads_plainly k.Library refl (ends_file_library false),
-  (reads_plainly k.External refl (ends_file_library true), (reads_plainly k.Design refl ends_file_design, (reads_as file_items.Status k.Status reads_status, reads_notes file_items.Note))),
+  (
+    reads_plainly k.External refl (ends_file_library true),
+    (
+      reads_plainly k.Design refl ends_file_design,
+      (reads_as file_items.Status k.Status reads_status, reads_notes file_items.Note),
+    ),
+  ),
 )
 
 ends_file_rest : (so_far : List FileItem) → Ends (file_rest so_far)

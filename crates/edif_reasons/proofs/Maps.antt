@@ -87,7 +87,8 @@ module _ (h : Form) (around : List Form) (outside : open_lists (h ∷ around) �
       abbrev SecondBehind : Keyword → Context → Type 0
       SecondBehind q d = (v : List ℕ) × (means t v ≡ Some q) × (d ≡ in_alias (two v))
 
-      judged_known : (v : List ℕ) (o : Option Keyword) → means t v ≡ o → Judged (in_alias (Single (Word w) ∷ [])) SecondBehind (Word v) (say.known_by o)
+      judged_known : (v : List ℕ) (o : Option Keyword) → means t v ≡ o
+          → Judged (in_alias (Single (Word w) ∷ [])) SecondBehind (Word v) (say.known_by o)
       judged_known v None m = unmeant v (Single (Word w)) m
       judged_known v (Some q) m = (v, m, rw (begun k.KeywordAlias (Single (Word w) ∷ []) (form k.KeywordMap es) (h ∷ around)) refl)
 
@@ -101,12 +102,15 @@ module _ (h : Form) (around : List Form) (outside : open_lists (h ∷ around) �
       alias_closed : (v : List ℕ) (q : Keyword) → means t v ≡ Some q → Tracks t closing (in_alias (two v)) (λ _ d. ItemBehind (one_more t w q) d)
       unfolding is_at is_over
       alias_closed v q m =
-          closed (saying l t) (form k.KeywordMap es) (h ∷ around) (map_outside es) t k.KeywordAlias (two v) refl (refl, (refl, (refl, (refl, (refl, (refl, (refl, (refl, (refl, tt))))))))) (saying l (one_more t w q))
+          closed (saying l t) (form k.KeywordMap es) (h ∷ around) (map_outside es) t k.KeywordAlias (two v) refl
+          (refl, (refl, (refl, (refl, (refl, (refl, (refl, (refl, (refl, tt))))))))) (saying l (one_more t w q))
           (rw m refl)
 
-      alias_given : (v : List ℕ) (q : Keyword) → means t v ≡ Some q → Tracks t (sequence closing (λ _. gives (one_more t w q))) (in_alias (two v)) ItemBehind
+      alias_given : (v : List ℕ) (q : Keyword) → means t v ≡ Some q
+          → Tracks t (sequence closing (λ _. gives (one_more t w q))) (in_alias (two v)) ItemBehind
       alias_given v q m =
-          tracks_then t closing (λ _. gives (one_more t w q)) (in_alias (two v)) (λ _ d. ItemBehind (one_more t w q) d) ItemBehind (alias_closed v q m) (λ u d e. tracks_gives t (one_more t w q) d ItemBehind e)
+          tracks_then t closing (λ _. gives (one_more t w q)) (in_alias (two v)) (λ _ d. ItemBehind (one_more t w q) d) ItemBehind
+          (alias_closed v q m) (λ u d e. tracks_gives t (one_more t w q) d ItemBehind e)
 
       alias_second : Tracks t (sequence known_word (λ q. sequence closing (λ _. gives (one_more t w q)))) (in_alias (Single (Word w) ∷ [])) ItemBehind
       alias_second =
@@ -117,17 +121,27 @@ module _ (h : Form) (around : List Form) (outside : open_lists (h ∷ around) �
     tracks_alias : Tracks t (alias t) (in_alias []) ItemBehind
     unfolding alias
     tracks_alias =
-        tracks_then t new_word (λ w. sequence known_word (λ q. sequence closing (λ _. gives (one_more t w q)))) (in_alias []) FirstBehind ItemBehind (tracks_one t (λ s tok. say.new_word_of s tok) (in_alias []) FirstBehind judged_first)
-        (λ w d e. subst (λ z. Tracks t (sequence known_word (λ q. sequence closing (λ _. gives (one_more t w q)))) z ItemBehind) (sym e) (alias_second w))
+        tracks_then t new_word (λ w. sequence known_word (λ q. sequence closing (λ _. gives (one_more t w q))))
+        (in_alias []) FirstBehind ItemBehind (tracks_one t (λ s tok. say.new_word_of s tok) (in_alias []) FirstBehind judged_first)
+        (λ w d e. subst (λ z. Tracks t (sequence known_word (λ q. sequence closing (λ _. gives (one_more t w q)))) z ItemBehind) (sym e)
+        (alias_second w))
 
     -- ---- a comment
 
     abbrev comment_frame : Frame
-    comment_frame = record { said = saying l t; keyword = k.Comment; holder = form k.KeywordMap es; around = h ∷ around; plain = plain_by k.Comment refl; outside = map_outside es }
+    comment_frame = record {
+      said = saying l t;
+      keyword = k.Comment;
+      holder = form k.KeywordMap es;
+      around = h ∷ around;
+      plain = plain_by k.Comment refl;
+      outside = map_outside es;
+    }
 
     tracks_comment : Tracks t (sequence comment (λ _. gives t)) (placed (saying l t) (form k.Comment [] ∷ map_of es)) ItemBehind
     tracks_comment =
-        tracks_then t comment (λ _. gives t) (placed (saying l t) (form k.Comment [] ∷ map_of es)) (λ _ d. d ≡ past comment_frame) ItemBehind (ends_comment comment_frame []) (λ u d e. tracks_gives t t d ItemBehind e)
+        tracks_then t comment (λ _. gives t) (placed (saying l t) (form k.Comment [] ∷ map_of es)) (λ _ d. d ≡ past comment_frame) ItemBehind
+        (ends_comment comment_frame []) (λ u d e. tracks_gives t t d ItemBehind e)
 
     -- ---- the keyword of an item
 
@@ -155,12 +169,16 @@ module _ (h : Form) (around : List Form) (outside : open_lists (h ∷ around) �
         by : (p : Keyword) → p ≡ k.KeywordAlias → has (map_keywords true) p ≡ false → ⊥
         by p same e = let f : has (map_keywords true) k.KeywordAlias ≡ false = subst (λ z. has (map_keywords true) z ≡ false) same e in absurd cc
 
-    refuses_by : (b : Bool) (is_level : is_level_0 l ≡ not b) (q : Keyword) (w : List ℕ) → means t w ≡ Some q → has (map_keywords b) q ≡ false → (c : Bool) → same_keyword q k.KeywordAlias ≡ c
+    refuses_by : (b : Bool) (is_level : is_level_0 l ≡ not b) (q : Keyword) (w : List ℕ) → means t w ≡ Some q → has (map_keywords b) q ≡ false
+        → (c : Bool) → same_keyword q k.KeywordAlias ≡ c
         → (if c then reasons.KeywordLevel else reasons.NotInProfile w) ≡ reason_of (placed (saying l t) (untouched ∷ map_of es)) (Word w)
     refuses_by true is_level q w m e true i = absurd (no_alias_refused q e i)
-    refuses_by true is_level q w m e false i = elsewhere (at_item true is_level) (calm_item true is_level) (is_item true is_level) w q (map_level true is_level) m
-    refuses_by false is_level q w m e true i = above_level (at_item false is_level) (calm_item false is_level) (is_item false is_level) w q (map_level false is_level) m i
-    refuses_by false is_level q w m e false i = no_alias (at_item false is_level) (calm_item false is_level) (is_item false is_level) w q (map_level false is_level) m i
+    refuses_by true is_level q w m e false i = elsewhere (at_item true is_level) (calm_item true is_level) (is_item true is_level) w q
+        (map_level true is_level) m
+    refuses_by false is_level q w m e true i = above_level (at_item false is_level) (calm_item false is_level) (is_item false is_level) w q
+        (map_level false is_level) m i
+    refuses_by false is_level q w m e false i = no_alias (at_item false is_level) (calm_item false is_level) (is_item false is_level) w q
+        (map_level false is_level) m i
 
     module _ (b : Bool) (is_level : is_level_0 l ≡ not b) where
       no_key : (tok : Token) → (IsWord tok → ⊥) → reasons.Unexpected ≡ reason_of (at_item b is_level) tok
@@ -178,15 +196,19 @@ module _ (h : Form) (around : List Form) (outside : open_lists (h ∷ around) �
       abbrev rest_of : Keyword → Edif (List Alias)
       rest_of q = map_form t (same_keyword q k.KeywordAlias)
 
-      pub tracks_map_item : (κ : List Alias) → Each (map_keywords b) (λ q. Tracks t (map_form t (same_keyword q k.KeywordAlias)) (placed (saying l t) (form q [] ∷ map_of es)) ItemBehind) → Tracks κ (map_item b t) (at_item b is_level) ItemBehind
+      pub tracks_map_item : (κ : List Alias)
+          → Each (map_keywords b) (λ q. Tracks t (map_form t (same_keyword q k.KeywordAlias))
+          (placed (saying l t) (form q [] ∷ map_of es)) ItemBehind) → Tracks κ (map_item b t) (at_item b is_level) ItemBehind
       unfolding map_item
       tracks_map_item κ each =
           tracks_under κ t (sequence (map_keyword b) rest_of) (at_item b is_level) ItemBehind
           (tracks_then t (map_keyword b) rest_of (at_item b is_level) (KeywordBehind b is_level) ItemBehind
           (tracks_one t (λ s tok. say.map_keyword_of (map_keywords b) s tok) (at_item b is_level) (KeywordBehind b is_level) judged_key)
-          (λ q d i. subst (λ z. Tracks t (rest_of q) z ItemBehind) (sym i.1) (each_of (λ q. Tracks t (rest_of q) (placed (saying l t) (form q [] ∷ map_of es)) ItemBehind) (map_keywords b) q each i.0)))
+          (λ q d i. subst (λ z. Tracks t (rest_of q) z ItemBehind) (sym i.1) (each_of
+          (λ q. Tracks t (rest_of q) (placed (saying l t) (form q [] ∷ map_of es)) ItemBehind) (map_keywords b) q each i.0)))
 
-    each_item : (b : Bool) → Each (map_keywords b) (λ q. Tracks t (map_form t (same_keyword q k.KeywordAlias)) (placed (saying l t) (form q [] ∷ map_of es)) ItemBehind)
+    each_item : (b : Bool) → Each (map_keywords b) (λ q. Tracks t (map_form t (same_keyword q k.KeywordAlias))
+        (placed (saying l t) (form q [] ∷ map_of es)) ItemBehind)
     each_item true = (tracks_alias, (tracks_comment, tt))
     each_item false = (tracks_comment, tt)
 
@@ -196,26 +218,35 @@ module _ (h : Form) (around : List Form) (outside : open_lists (h ∷ around) �
   abbrev pub MapBehind : Option ℤ → List Alias → Context → Type 0
   MapBehind l t d = d ≡ placed (saying l t) (with_element h Group ∷ around)
 
-  map_closed : (κ : List Alias) (l : Option ℤ) (t : List Alias) (es : List Element) → Tracks κ closing (placed (saying l t) (map_of es)) (λ _ d. MapBehind l t d)
+  map_closed : (κ : List Alias) (l : Option ℤ) (t : List Alias) (es : List Element)
+      → Tracks κ closing (placed (saying l t) (map_of es)) (λ _ d. MapBehind l t d)
   unfolding is_at is_over
-  map_closed κ l t es = closed (saying l t) h around outside κ k.KeywordMap es refl (refl, (refl, (refl, (refl, (refl, (refl, (refl, (refl, (refl, tt))))))))) (saying l t) refl
+  map_closed κ l t es = closed (saying l t) h around outside κ k.KeywordMap es refl
+      (refl, (refl, (refl, (refl, (refl, (refl, (refl, (refl, (refl, tt))))))))) (saying l t) refl
 
-  map_given : (κ : List Alias) (l : Option ℤ) (t : List Alias) (es : List Element) → Tracks κ (sequence closing (λ _. gives t)) (placed (saying l t) (map_of es)) (MapBehind l)
+  map_given : (κ : List Alias) (l : Option ℤ) (t : List Alias) (es : List Element)
+      → Tracks κ (sequence closing (λ _. gives t)) (placed (saying l t) (map_of es)) (MapBehind l)
   map_given κ l t es =
-      tracks_then κ closing (λ _. gives t) (placed (saying l t) (map_of es)) (λ _ d. MapBehind l t d) (MapBehind l) (map_closed κ l t es) (λ u d e. tracks_gives κ t d (MapBehind l) e)
+      tracks_then κ closing (λ _. gives t) (placed (saying l t) (map_of es)) (λ _ d. MapBehind l t d) (MapBehind l) (map_closed κ l t es)
+      (λ u d e. tracks_gives κ t d (MapBehind l) e)
 
   abbrev Mapped : Option ℤ → List Alias → Context → Type 0
   Mapped l t d = (es : List Element) × (d ≡ placed (saying l t) (map_of es))
 
-  item_in : (κ : List Alias) (b : Bool) (l : Option ℤ) → is_level_0 l ≡ not b → (t : List Alias) (es : List Element) → Tracks κ (map_item b t) (placed (saying l t) (untouched ∷ map_of es)) (Mapped l)
+  item_in : (κ : List Alias) (b : Bool) (l : Option ℤ) → is_level_0 l ≡ not b → (t : List Alias) (es : List Element)
+      → Tracks κ (map_item b t) (placed (saying l t) (untouched ∷ map_of es)) (Mapped l)
   item_in κ b l is_level t es =
-      tracks_less κ (map_item b t) (placed (saying l t) (untouched ∷ map_of es)) (ItemBehind l t es) (Mapped l) (λ v d e. (es ++ Group ∷ [], e)) (tracks_map_item l t es b is_level κ (each_item l t es b))
+      tracks_less κ (map_item b t) (placed (saying l t) (untouched ∷ map_of es)) (ItemBehind l t es) (Mapped l) (λ v d e. (es ++ Group ∷ [], e))
+      (tracks_map_item l t es b is_level κ (each_item l t es b))
 
-  pub tracks_map_items : (κ : List Alias) (b : Bool) (l : Option ℤ) → is_level_0 l ≡ not b → (t : List Alias) (es : List Element) → Tracks κ (map_items b t) (placed (saying l t) (map_of es)) (MapBehind l)
+  pub tracks_map_items : (κ : List Alias) (b : Bool) (l : Option ℤ) → is_level_0 l ≡ not b → (t : List Alias) (es : List Element)
+      → Tracks κ (map_items b t) (placed (saying l t) (map_of es)) (MapBehind l)
   unfolding map_items forms while_next
   tracks_map_items κ b l is_level t es =
-      tracks_rounds κ (λ _ _ x. at_token (λ (y : Found). say.at_opening y.token) x) (λ s _. map_item b s) (λ s. sequence closing (λ _. gives s)) (λ t es. placed (saying l t) (map_of es)) (MapBehind l)
-      (λ t es. seen_opening (λ _ d. Tracks κ (map_item b t) d (Mapped l)) _ (placed (saying l t) (map_of es)) (item_in κ b l is_level t es) (λ x c. (map_given κ l t es).says (x ∷ c))) t es
+      tracks_rounds κ (λ _ _ x. at_token (λ (y : Found). say.at_opening y.token) x) (λ s _. map_item b s) (λ s. sequence closing (λ _. gives s))
+      (λ t es. placed (saying l t) (map_of es)) (MapBehind l)
+      (λ t es. seen_opening (λ _ d. Tracks κ (map_item b t) d (Mapped l)) _ (placed (saying l t) (map_of es)) (item_in κ b l is_level t es)
+      (λ x c. (map_given κ l t es).says (x ∷ c))) t es
 
   abbrev BehindMap : List Alias → Context → Type 0
   BehindMap t d = (l : Option ℤ) × MapBehind l t d
@@ -227,19 +258,23 @@ module _ (h : Form) (around : List Form) (outside : open_lists (h ∷ around) �
     behind_level : (κ : List Alias) (b : Bool) (d : Context) → Levelled b d → Tracks κ (map_items b said.aliases) d BehindMap
     behind_level κ b d i =
         subst (λ z. Tracks κ (map_items b said.aliases) z BehindMap) (sym i.2)
-        (tracks_less κ (map_items b said.aliases) (placed (saying (Some i.0) said.aliases) (map_of (Group ∷ []))) (MapBehind (Some i.0)) BehindMap (λ v d e. (Some i.0, e)) (tracks_map_items κ b (Some i.0) i.1 said.aliases (Group ∷ [])))
+        (tracks_less κ (map_items b said.aliases) (placed (saying (Some i.0) said.aliases) (map_of (Group ∷ []))) (MapBehind (Some i.0)) BehindMap
+        (λ v d e. (Some i.0, e)) (tracks_map_items κ b (Some i.0) i.1 said.aliases (Group ∷ [])))
 
     level_form : Tracks said.aliases keyword_level (placed said (map_of [])) Levelled
     unfolding keyword_level
     level_form =
-        tracks_form said (form k.KeywordMap []) (h ∷ around) (map_outside []) (rw no_level refl) (calm_map []) (begun k.KeywordMap [] h around) k.KeywordLevel (sequence keyword_level_number (λ b. sequence closing (λ _. gives b))) Levelled
+        tracks_form said (form k.KeywordMap []) (h ∷ around) (map_outside []) (rw no_level refl) (calm_map [])
+        (begun k.KeywordMap [] h around) k.KeywordLevel (sequence keyword_level_number (λ b. sequence closing (λ _. gives b))) Levelled
         (tracks_keyword_level said (form k.KeywordMap []) (h ∷ around) (map_outside []) said.aliases)
 
-    pub tracks_map : IsCalm (h ∷ around) → at_keyword (h ∷ around) ≡ false → is_plain_map said h ≡ false → Tracks said.aliases (keyword_map said.aliases) (placed said (h ∷ around)) BehindMap
+    pub tracks_map : IsCalm (h ∷ around) → at_keyword (h ∷ around) ≡ false → is_plain_map said h ≡ false
+        → Tracks said.aliases (keyword_map said.aliases) (placed said (h ∷ around)) BehindMap
     unfolding keyword_map
     tracks_map is out not_in_map =
         tracks_form said h around outside not_in_map is out k.KeywordMap (sequence keyword_level (λ n. map_items n said.aliases)) BehindMap
-        (tracks_then said.aliases keyword_level (λ n. map_items n said.aliases) (placed said (map_of [])) Levelled BehindMap level_form (behind_level said.aliases))
+        (tracks_then said.aliases keyword_level (λ n. map_items n said.aliases) (placed said (map_of [])) Levelled BehindMap level_form
+        (behind_level said.aliases))
 
 -- ---- the header
 
@@ -249,15 +284,19 @@ HeaderBehind fr t d = (l : Option ℤ) × (es : List Element) × (d ≡ placed (
 module _ (fr : Frame) (no_level : is_level_0 fr.said.level ≡ false) where
   map_in : (es : List Element) → Tracks fr.said.aliases (keyword_map fr.said.aliases) (inside fr es) (HeaderBehind fr)
   map_in es =
-      tracks_less fr.said.aliases (keyword_map fr.said.aliases) (inside fr es) (BehindMap (form fr.keyword es) (fr.holder ∷ fr.around) (outside_in fr es)) (HeaderBehind fr) (λ t d i. (i.0, es ++ Group ∷ [], i.1))
-      (tracks_map (form fr.keyword es) (fr.holder ∷ fr.around) (outside_in fr es) fr.said no_level (calm fr es) (begun_in fr es) (no_map fr.said (form fr.keyword es) fr.plain.map))
+      tracks_less fr.said.aliases (keyword_map fr.said.aliases) (inside fr es) (BehindMap (form fr.keyword es) (fr.holder ∷ fr.around)
+      (outside_in fr es)) (HeaderBehind fr) (λ t d i. (i.0, es ++ Group ∷ [], i.1))
+      (tracks_map (form fr.keyword es) (fr.holder ∷ fr.around) (outside_in fr es) fr.said no_level (calm fr es) (begun_in fr es)
+      (no_map fr.said (form fr.keyword es) fr.plain.map))
 
   level_in : (es : List Element) → Tracks fr.said.aliases (sequence level (λ _. keyword_map fr.said.aliases)) (inside fr es) (HeaderBehind fr)
   level_in es =
-      tracks_then fr.said.aliases level (λ _. keyword_map fr.said.aliases) (inside fr es) (λ _ d. In fr d) (HeaderBehind fr) (stays_level fr es) (λ u d i. from_in fr (keyword_map fr.said.aliases) (HeaderBehind fr) map_in d i)
+      tracks_then fr.said.aliases level (λ _. keyword_map fr.said.aliases) (inside fr es) (λ _ d. In fr d) (HeaderBehind fr) (stays_level fr es)
+      (λ u d i. from_in fr (keyword_map fr.said.aliases) (HeaderBehind fr) map_in d i)
 
   pub tracks_header : (es : List Element) → Tracks fr.said.aliases (header fr.said.aliases) (inside fr es) (HeaderBehind fr)
   unfolding header
   tracks_header es =
-      tracks_then fr.said.aliases version (λ _. sequence level (λ _. keyword_map fr.said.aliases)) (inside fr es) (λ _ d. In fr d) (HeaderBehind fr) (stays_version fr es)
+      tracks_then fr.said.aliases version (λ _. sequence level (λ _. keyword_map fr.said.aliases)) (inside fr es) (λ _ d. In fr d)
+      (HeaderBehind fr) (stays_version fr es)
       (λ u d i. from_in fr (sequence level (λ _. keyword_map fr.said.aliases)) (HeaderBehind fr) level_in d i)

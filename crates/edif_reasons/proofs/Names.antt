@@ -77,7 +77,13 @@ each_value : Each (k.String ∷ k.Integer ∷ k.Number ∷ k.Boolean ∷ []) (λ
 unfolding value_form
 each_value = (
   reads_plainly k.String refl ends_string_value,
-  (reads_plainly k.Integer refl ends_integer_value, (reads_plainly k.Number refl ends_number_value, (reads_plainly k.Boolean refl ends_boolean_value, tt))),
+  (
+    reads_plainly k.Integer refl ends_integer_value,
+    (
+      reads_plainly k.Number refl ends_number_value,
+      (reads_plainly k.Boolean refl ends_boolean_value, tt),
+    ),
+  ),
 )
 
 stays_value : Stays value

@@ -31,8 +31,17 @@ ends_direction = ends_then (stays_choice direction_words) (λ d. ends_with (port
 
 each_port : (b : Bool) → Each (port_keywords b) (λ q. Reads q (port_item q))
 unfolding port_keywords port_item port_property port_designator port_note
-each_port false = (reads_plainly k.Direction refl ends_direction, (reads_as port_items.Property k.Property reads_property, (reads_as port_items.Designator k.Designator reads_designator, reads_notes port_items.Note)))
-each_port true = (reads_as port_items.Property k.Property reads_property, (reads_as port_items.Designator k.Designator reads_designator, reads_notes port_items.Note))
+each_port false = (
+  reads_plainly k.Direction refl ends_direction,
+  (
+    reads_as port_items.Property k.Property reads_property,
+    (reads_as port_items.Designator k.Designator reads_designator, reads_notes port_items.Note),
+  ),
+)
+each_port true = (
+  reads_as port_items.Property k.Property reads_property,
+  (reads_as port_items.Designator k.Designator reads_designator, reads_notes port_items.Note),
+)
 
 ends_port_rest : (so_far : List PortItem) → Ends (port_rest so_far)
 unfolding port_rest
@@ -61,7 +70,10 @@ ends_maybe_library = ends_or (k.LibraryRef ∷ []) (λ _. library_named) no_libr
 
 each_instance : Each instance_keywords (λ q. Reads q (instance_item q))
 unfolding instance_item instance_property instance_designator instance_note
-each_instance = (reads_as instance_items.Property k.Property reads_property, (reads_as instance_items.Designator k.Designator reads_designator, reads_notes instance_items.Note))
+each_instance = (
+  reads_as instance_items.Property k.Property reads_property,
+  (reads_as instance_items.Designator k.Designator reads_designator, reads_notes instance_items.Note),
+)
 
 ends_instance_rest : (so_far : List InstanceItem) → Ends (instance_rest so_far)
 unfolding instance_rest
@@ -73,18 +85,22 @@ ends_cell_named = ends_then stays_word (λ c. ends_as (λ l. (c, l)) ends_maybe_
 
 stays_cell_ref : Stays cell_ref
 unfolding cell_ref
-stays_cell_ref = stays_item (k.CellRef ∷ []) (λ _. sequence word (λ c. sequence maybe_library (λ l. gives (c, l)))) (reads_plainly k.CellRef refl ends_cell_named, tt)
+stays_cell_ref = stays_item (k.CellRef ∷ []) (λ _. sequence word (λ c. sequence maybe_library (λ l. gives (c, l))))
+    (reads_plainly k.CellRef refl ends_cell_named, tt)
 
-ends_view_named : Ends {A = List ℕ × List ℕ × Option (List ℕ)} (sequence word (λ v. sequence cell_ref (λ c. sequence closing (λ _. gives (v, c.0, c.1)))))
+ends_view_named : Ends {A = List ℕ × List ℕ × Option (List ℕ)} (sequence word
+    (λ v. sequence cell_ref (λ c. sequence closing (λ _. gives (v, c.0, c.1)))))
 ends_view_named = ends_then stays_word (λ v. ends_then stays_cell_ref (λ c. ends_with (v, c.0, c.1)))
 
 stays_view_ref : Stays view_ref
 unfolding view_ref
-stays_view_ref = stays_item (k.ViewRef ∷ []) (λ _. sequence word (λ v. sequence cell_ref (λ c. sequence closing (λ _. gives (v, c.0, c.1))))) (reads_plainly k.ViewRef refl ends_view_named, tt)
+stays_view_ref = stays_item (k.ViewRef ∷ []) (λ _. sequence word (λ v. sequence cell_ref (λ c. sequence closing (λ _. gives (v, c.0, c.1)))))
+    (reads_plainly k.ViewRef refl ends_view_named, tt)
 
 ends_instance : Ends instance
 unfolding instance
-ends_instance = ends_then stays_name (λ n. ends_then stays_view_ref (λ v. ends_as (λ is. record { name = n; view = v.0; cell = v.1; library = v.2; items = is }) (ends_instance_rest [])))
+ends_instance = ends_then stays_name (λ n. ends_then stays_view_ref
+    (λ v. ends_as (λ is. record { name = n; view = v.0; cell = v.1; library = v.2; items = is }) (ends_instance_rest [])))
 
 pub reads_instance : Reads k.Instance instance
 reads_instance = reads_plainly k.Instance refl ends_instance

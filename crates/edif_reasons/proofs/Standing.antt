@@ -52,7 +52,15 @@ pub record IsPlain (q : Keyword) : Type 0 where
 pub plain_by : (q : Keyword) → no_test (plain_tests q) ≡ true → IsPlain q
 plain_by q h =
     let n = none_holds (plain_tests q) h in
-    record { user = n.0; version = n.1.0; level = n.1.1.0; keyword_level = n.1.1.1.0; view_type = n.1.1.1.1.0; alias = n.1.1.1.1.1.0; map = n.1.1.1.1.1.1.0 }
+    record {
+      user = n.0;
+      version = n.1.0;
+      level = n.1.1.0;
+      keyword_level = n.1.1.1.0;
+      view_type = n.1.1.1.1.0;
+      alias = n.1.1.1.1.1.0;
+      map = n.1.1.1.1.1.1.0;
+    }
 
 -- ---- no row but the last fits
 
@@ -121,7 +129,8 @@ begun q es g around = refl
 not_here : (a b : Bool) → a ≡ false → (a && b) ≡ false
 not_here a b e = rw e refl
 
-pub calm_in : (q : Keyword) (es : List Element) (g : Form) (around : List Form) → IsPlain q → open_lists (g ∷ around) ≡ None → IsCalm (form q es ∷ g ∷ around)
+pub calm_in : (q : Keyword) (es : List Element) (g : Form) (around : List Form) → IsPlain q → open_lists (g ∷ around) ≡ None
+    → IsCalm (form q es ∷ g ∷ around)
 unfolding is_at is_over
 calm_in q es g around plain outside =
     calm_by (form q es ∷ g ∷ around) (lists_in (form q es) (g ∷ around) plain.user outside) (
@@ -134,7 +143,13 @@ calm_in q es g around plain outside =
             not_here (same_keyword q k.EdifLevel) _ plain.level,
             (
               not_here (same_keyword q k.KeywordLevel) _ plain.keyword_level,
-              (not_here (same_keyword q k.ViewType) _ plain.view_type, (not_here (same_keyword q k.KeywordAlias) _ plain.alias, (not_here (same_keyword q k.KeywordAlias) _ plain.alias, (refl, tt)))),
+              (
+                not_here (same_keyword q k.ViewType) _ plain.view_type,
+                (
+                  not_here (same_keyword q k.KeywordAlias) _ plain.alias,
+                  (not_here (same_keyword q k.KeywordAlias) _ plain.alias, (refl, tt)),
+                ),
+              ),
             ),
           ),
         ),
@@ -144,7 +159,8 @@ calm_in q es g around plain outside =
 pub calm_bare : (es : List Element) (g : Form) (around : List Form) → open_lists (g ∷ around) ≡ None → IsCalm (bare es ∷ g ∷ around)
 unfolding is_at is_over
 calm_bare es g around outside =
-    calm_by (bare es ∷ g ∷ around) (lists_in (bare es) (g ∷ around) refl outside) (refl, (refl, (refl, (refl, (refl, (refl, (refl, (refl, (refl, tt)))))))))
+    calm_by (bare es ∷ g ∷ around) (lists_in (bare es) (g ∷ around) refl outside)
+    (refl, (refl, (refl, (refl, (refl, (refl, (refl, (refl, (refl, tt)))))))))
 
 pub takes_keyword : (g : Form) (around : List Form) → open_lists (g ∷ around) ≡ None → at_keyword (bare [] ∷ g ∷ around) ≡ true
 unfolding at_keyword
@@ -172,11 +188,14 @@ module _ (c : Context) (calm : IsCalm c.forms) (here : at_keyword c.forms ≡ tr
   unknown true m e = rw (calm.view_type, calm.alias_0, calm.alias_1, here, m, e) refl
   unknown false m e = rw (calm.view_type, calm.alias_0, calm.alias_1, here, m, e) refl
 
-  pub elsewhere : (q : Keyword) → in_plain_map c.said c.forms ≡ false → means c.said.aliases w ≡ Some q → reasons.NotInProfile w ≡ reason_of c (Word w)
+  pub elsewhere : (q : Keyword) → in_plain_map c.said c.forms ≡ false → means c.said.aliases w ≡ Some q
+      → reasons.NotInProfile w ≡ reason_of c (Word w)
   elsewhere q m e = rw (calm.view_type, calm.alias_0, calm.alias_1, here, m, e) refl
 
-  pub no_alias : (q : Keyword) → in_plain_map c.said c.forms ≡ true → means c.said.aliases w ≡ Some q → same_keyword q k.KeywordAlias ≡ false → reasons.NotInProfile w ≡ reason_of c (Word w)
+  pub no_alias : (q : Keyword) → in_plain_map c.said c.forms ≡ true → means c.said.aliases w ≡ Some q → same_keyword q k.KeywordAlias ≡ false
+      → reasons.NotInProfile w ≡ reason_of c (Word w)
   no_alias q m e is = rw (calm.view_type, calm.alias_0, calm.alias_1, here, m, e, is) refl
 
-  pub above_level : (q : Keyword) → in_plain_map c.said c.forms ≡ true → means c.said.aliases w ≡ Some q → same_keyword q k.KeywordAlias ≡ true → reasons.KeywordLevel ≡ reason_of c (Word w)
+  pub above_level : (q : Keyword) → in_plain_map c.said c.forms ≡ true → means c.said.aliases w ≡ Some q → same_keyword q k.KeywordAlias ≡ true
+      → reasons.KeywordLevel ≡ reason_of c (Word w)
   above_level q m e is = rw (here, m, e, is) refl

@@ -45,7 +45,13 @@ ends_data_origin = ends_then stays_string (λ s. ends_as (λ v. written_items.Da
 
 each_written : Each written_keywords (λ q. Reads q (written_item q))
 unfolding written_note
-each_written = (reads_plainly k.Author refl ends_author, (reads_plainly k.Program refl ends_program, (reads_plainly k.DataOrigin refl ends_data_origin, reads_notes written_items.Note)))
+each_written = (
+  reads_plainly k.Author refl ends_author,
+  (
+    reads_plainly k.Program refl ends_program,
+    (reads_plainly k.DataOrigin refl ends_data_origin, reads_notes written_items.Note),
+  ),
+)
 
 ends_written_rest : (so_far : List WrittenItem) → Ends (written_rest so_far)
 unfolding written_rest
@@ -53,7 +59,11 @@ ends_written_rest so_far = ends_items (λ _. written_keywords) written_item (λ 
 
 ends_written : Ends written
 unfolding written
-ends_written = ends_item (k.TimeStamp ∷ []) _ (read_then k.TimeStamp (reads_plainly k.TimeStamp refl ends_stamp) (λ s. ends_as (λ is. record { stamp = s; items = is }) (ends_written_rest [])), tt)
+ends_written = ends_item (k.TimeStamp ∷ []) _ (
+  read_then k.TimeStamp (reads_plainly k.TimeStamp refl ends_stamp)
+      (λ s. ends_as (λ is. record { stamp = s; items = is }) (ends_written_rest [])),
+  tt,
+)
 
 ends_status_written : Ends status_written
 unfolding status_written

@@ -45,12 +45,14 @@ Seen T L c t (takes v) = T v (after c t)
 Seen T L c t (refuses r) = r ≡ reason_of c t
 Seen T L c t leaves = (x : Found) → x.token ≡ t → (b : Tokens) → L (proper x) b
 
-abbrev pub SeenAt : {C : Type 0} → (C → Context → Type 0) → (Terminal Found Place → Tokens → Type 0) → Context → Terminal Found Place → Glance C Reason → Type 0
+abbrev pub SeenAt : {C : Type 0} → (C → Context → Type 0) → (Terminal Found Place → Tokens → Type 0) → Context → Terminal Found Place
+    → Glance C Reason → Type 0
 SeenAt T L c x (takes v) = T v (behind c x)
 SeenAt T L c x (refuses r) = r ≡ reason_at c x
 SeenAt T L c x leaves = (b : Tokens) → L x b
 
-pub judged_token : {A : Type 0} (c : Context) (P : A → Context → Type 0) (x : Found) (r : Result A Reason) → Judged c P x.token r → JudgedAt c P (proper x) r
+pub judged_token : {A : Type 0} (c : Context) (P : A → Context → Type 0) (x : Found) (r : Result A Reason) → Judged c P x.token r
+    → JudgedAt c P (proper x) r
 unfolding reason_at
 judged_token c P x (Ok v) h = h
 judged_token c P x (Err r) h = h
@@ -68,7 +70,8 @@ module _ {C : Type 0} (T : C → Context → Type 0) (L : Terminal Found Place �
   seen_token x (refuses r) h = h
   seen_token x leaves h = λ b. h x refl b
 
-  pub seen_each : (f : Token → Glance C Reason) → ((t : Token) → Seen T L c t (f t)) → ((p : Place) (b : Tokens) → L (end p) b) → (x : Terminal Found Place) → SeenAt T L c x (at_token (λ (y : Found). f y.token) x)
+  pub seen_each : (f : Token → Glance C Reason) → ((t : Token) → Seen T L c t (f t)) → ((p : Place) (b : Tokens) → L (end p) b)
+      → (x : Terminal Found Place) → SeenAt T L c x (at_token (λ (y : Found). f y.token) x)
   seen_each f h l (proper x) = seen_token x (f x.token) (h x.token)
   seen_each f h l (end p) = λ b. l p b
 
@@ -98,7 +101,8 @@ pub tracks_gives : {A : Type 0} (κ : List Alias) (v : A) (c : Context) (P : A �
 tracks_gives κ v c P h = record { says = λ ts. ([], refl, h, λ d k. refl) }
 
 module _ {A : Type 0} (κ : List Alias) (f : List Alias → Terminal Found Place → Result A Reason) (c : Context) (P : A → Context → Type 0) where
-  says_judged : (x : Terminal Found Place) (ts : Tokens) (r : Result A Reason) → f κ x ≡ r → JudgedAt c P x r → Says κ (token f) c P (x ∷ ts) (judged x ts r)
+  says_judged : (x : Terminal Found Place) (ts : Tokens) (r : Result A Reason) → f κ x ≡ r → JudgedAt c P x r
+      → Says κ (token f) c P (x ∷ ts) (judged x ts r)
   says_judged x ts (Ok v) e h = (x ∷ [], refl, h, λ d k. rw e refl)
   says_judged x ts (Err r) e h = ([], ts, refl, h, λ d. rw e refl)
 
@@ -114,24 +118,31 @@ module _ {A : Type 0} (κ : List Alias) (f : List Alias → Terminal Found Place
       by (x ∷ ts) = says_one x ts (h x)
 
 -- one token: where it is taken, what holds behind it, and else that the reason is that of the table
-pub tracks_one : {A : Type 0} (κ : List Alias) (f : List Alias → Token → Result A Reason) (c : Context) (P : A → Context → Type 0) → ((t : Token) → Judged c P t (f κ t)) → Tracks κ (one (λ k x. f k x.token)) c P
+pub tracks_one : {A : Type 0} (κ : List Alias) (f : List Alias → Token → Result A Reason) (c : Context) (P : A → Context → Type 0)
+    → ((t : Token) → Judged c P t (f κ t)) → Tracks κ (one (λ k x. f k x.token)) c P
 unfolding one
 tracks_one κ f c P h = tracks_token κ (λ k t. of_token (λ (y : Found). f k y.token) t) c P (judged_each c P (f κ) h)
 
 module _ {A B : Type 0} (κ : List Alias) (p : Edif A) (q : A → Edif B) (c : Context) (P : A → Context → Type 0) (Q : B → Context → Type 0) where
-  says_after : (ts a b : Tokens) (u : A) (r : Answer B) → ts ≡ a ++ b → ((d : Tokens) → Alike b d → read κ p (a ++ d) ≡ Ok (u, d)) → Says κ (q u) (behind_all c a) Q b r → Says κ (sequence p q) c Q ts r
+  says_after : (ts a b : Tokens) (u : A) (r : Answer B) → ts ≡ a ++ b → ((d : Tokens) → Alike b d → read κ p (a ++ d) ≡ Ok (u, d))
+      → Says κ (q u) (behind_all c a) Q b r → Says κ (sequence p q) c Q ts r
   says_after ts a b u (Ok y) e again k = (
     a ++ k.0,
     regroup ts a b k.0 y.1 e k.1,
     subst (Q y.0) (sym (behind_both c a k.0)) k.2,
-    λ d alike. rw (append_assoc a k.0 d, again (k.0 ++ d) (subst (λ (z : Tokens). Alike z (k.0 ++ d)) (sym k.1) (alike_behind k.0 y.1 d alike))) (k.3 d alike),
+    λ d alike. rw (append_assoc a k.0 d, again (k.0 ++ d) (subst (λ (z : Tokens). Alike z (k.0 ++ d)) (sym k.1) (alike_behind k.0 y.1 d alike)))
+        (k.3 d alike),
   )
   says_after ts a b u (Err (refused x r)) e again k = (
     a ++ k.0,
     k.1,
     regroup ts a b k.0 (x ∷ k.1) e k.2,
     subst (λ z. r ≡ reason_at z x) (sym (behind_both c a k.0)) k.3,
-    λ d. rw (append_assoc a k.0 (x ∷ d), again (k.0 ++ x ∷ d) (subst (λ (z : Tokens). Alike z (k.0 ++ x ∷ d)) (sym k.2) (alike_behind k.0 (x ∷ k.1) (x ∷ d) refl))) (k.4 d),
+    λ d. rw (
+      append_assoc a k.0 (x ∷ d),
+      again (k.0 ++ x ∷ d) (subst (λ (z : Tokens). Alike z (k.0 ++ x ∷ d)) (sym k.2)
+          (alike_behind k.0 (x ∷ k.1) (x ∷ d) refl)),
+    ) (k.4 d),
   )
   says_after ts a b u (Err ended) e again k = tt
 
@@ -143,14 +154,17 @@ module _ {A B : Type 0} (κ : List Alias) (p : Edif A) (q : A → Edif B) (c : C
   says_then ts (Err (refused x r)) h all = (h.0, h.1, h.2, h.3, λ d. rw (h.4 d) refl)
   says_then ts (Err ended) h all = tt
 
-  pub says_sequence : (ts : Tokens) → Says κ p c P ts (read κ p ts) → ((u : A) (a b : Tokens) → ts ≡ a ++ b → P u (behind_all c a) → Says κ (q u) (behind_all c a) Q b (read κ (q u) b)) → Says κ (sequence p q) c Q ts (read κ (sequence p q) ts)
+  pub says_sequence : (ts : Tokens) → Says κ p c P ts (read κ p ts) → ((u : A) (a b : Tokens) → ts ≡ a ++ b → P u (behind_all c a)
+      → Says κ (q u) (behind_all c a) Q b (read κ (q u) b)) → Says κ (sequence p q) c Q ts (read κ (sequence p q) ts)
   says_sequence ts h all = says_then ts (read κ p ts) h all
 
   pub tracks_then : Tracks κ p c P → ((u : A) (d : Context) → P u d → Tracks κ (q u) d Q) → Tracks κ (sequence p q) c Q
   tracks_then h all = record { says = λ ts. says_sequence ts (h.says ts) (λ u a b e k. (all u (behind_all c a) k).says b) }
 
-module _ {A C : Type 0} (κ : List Alias) (f : List Alias → Terminal Found Place → Glance C Reason) (p : C → Edif A) (q : Edif A) (c : Context) (P : A → Context → Type 0) where
-  says_taken : (x : Terminal Found Place) (v : C) (ts : Tokens) (r : Answer A) → f κ x ≡ takes v → Says κ (p v) (behind c x) P ts r → Says κ (ahead f p q) c P (x ∷ ts) r
+module _ {A C : Type 0} (κ : List Alias) (f : List Alias → Terminal Found Place → Glance C Reason) (p : C
+    → Edif A) (q : Edif A) (c : Context) (P : A → Context → Type 0) where
+  says_taken : (x : Terminal Found Place) (v : C) (ts : Tokens) (r : Answer A) → f κ x ≡ takes v → Says κ (p v) (behind c x) P ts r
+      → Says κ (ahead f p q) c P (x ∷ ts) r
   says_taken x v ts (Ok y) e h = (x ∷ h.0, ap (λ (z : Tokens). x ∷ z) h.1, h.2, λ d alike. rw e (h.3 d alike))
   says_taken x v ts (Err (refused y r)) e h = (x ∷ h.0, h.1, ap (λ (z : Tokens). x ∷ z) h.2, h.3, λ d. rw e (h.4 d))
   says_taken x v ts (Err ended) e h = tt
@@ -168,16 +182,20 @@ module _ {A C : Type 0} (κ : List Alias) (f : List Alias → Terminal Found Pla
   abbrev pub Other : Terminal Found Place → Tokens → Type 0
   Other x b = Says κ q c P (x ∷ b) (read κ q (x ∷ b))
 
-  says_glanced : (x : Terminal Found Place) (ts : Tokens) (g : Glance C Reason) → f κ x ≡ g → SeenAt (λ v d. Says κ (p v) d P ts (read κ (p v) ts)) Other c x g → Says κ (ahead f p q) c P (x ∷ ts) (glanced x ts g (λ v. read κ (p v)) (read κ q))
+  says_glanced : (x : Terminal Found Place) (ts : Tokens) (g : Glance C Reason) → f κ x ≡ g
+      → SeenAt (λ v d. Says κ (p v) d P ts (read κ (p v) ts)) Other c x g
+      → Says κ (ahead f p q) c P (x ∷ ts) (glanced x ts g (λ v. read κ (p v)) (read κ q))
   says_glanced x ts (takes v) e h = says_taken x v ts (read κ (p v) ts) e h
   says_glanced x ts (refuses r) e h = ([], ts, refl, h, λ d. rw e refl)
   says_glanced x ts leaves e h = says_left x ts (read κ q (x ∷ ts)) e (h ts)
 
-  says_ahead : (ts : Tokens) → ((x : Terminal Found Place) (b : Tokens) → ts ≡ x ∷ b → SeenAt (λ v d. Says κ (p v) d P b (read κ (p v) b)) Other c x (f κ x)) → Says κ (ahead f p q) c P ts (read κ (ahead f p q) ts)
+  says_ahead : (ts : Tokens) → ((x : Terminal Found Place) (b : Tokens) → ts ≡ x ∷ b
+      → SeenAt (λ v d. Says κ (p v) d P b (read κ (p v) b)) Other c x (f κ x)) → Says κ (ahead f p q) c P ts (read κ (ahead f p q) ts)
   says_ahead [] h = tt
   says_ahead (x ∷ ts) h = says_glanced x ts (f κ x) refl (h x ts refl)
 
-  of_these : (x : Terminal Found Place) (b : Tokens) (g : Glance C Reason) → SeenAt (λ v d. Tracks κ (p v) d P) Other c x g → SeenAt (λ v d. Says κ (p v) d P b (read κ (p v) b)) Other c x g
+  of_these : (x : Terminal Found Place) (b : Tokens) (g : Glance C Reason) → SeenAt (λ v d. Tracks κ (p v) d P) Other c x g
+      → SeenAt (λ v d. Says κ (p v) d P b (read κ (p v) b)) Other c x g
   of_these x b (takes v) h = h.says b
   of_these x b (refuses r) h = h
   of_these x b leaves h = h
@@ -185,7 +203,8 @@ module _ {A C : Type 0} (κ : List Alias) (f : List Alias → Terminal Found Pla
   pub tracks_ahead : ((x : Terminal Found Place) → SeenAt (λ v d. Tracks κ (p v) d P) Other c x (f κ x)) → Tracks κ (ahead f p q) c P
   tracks_ahead h = record { says = λ ts. says_ahead ts (λ x b e. of_these x b (f κ x) (h x)) }
 
-module _ {A C S : Type 0} (κ : List Alias) (f : S → List Alias → Terminal Found Place → Glance C Reason) (q : S → C → Edif S) (e : S → Edif A) (I : S → Context → Type 0) (P : A → Context → Type 0) where
+module _ {A C S : Type 0} (κ : List Alias) (f : S → List Alias → Terminal Found Place → Glance C Reason) (q : S → C → Edif S) (e : S
+    → Edif A) (I : S → Context → Type 0) (P : A → Context → Type 0) where
   -- what is said of the last round
   abbrev pub Last : S → Context → Terminal Found Place → Tokens → Type 0
   Last s c x b = Says κ (e s) c P (x ∷ b) (read κ (e s) (x ∷ b))
@@ -204,7 +223,8 @@ module _ {A C S : Type 0} (κ : List Alias) (f : S → List Alias → Terminal F
   abbrev Further : Context → Tokens → Type 0
   Further c b = (t : S) (a d : Tokens) → b ≡ a ++ d → I t (behind_all c a) → Says κ (loop f q e t) (behind_all c a) P d (read κ (loop f q e t) d)
 
-  round_then : (s : S) (c : Context) (x : Terminal Found Place) (b : Tokens) → Further (behind c x) b → (g : Glance C Reason) → SeenAt (Round s) (Last s c) c x g → SeenAt (λ v d. Says κ (onward s v) d P b (read κ (onward s v) b)) (Last s c) c x g
+  round_then : (s : S) (c : Context) (x : Terminal Found Place) (b : Tokens) → Further (behind c x) b → (g : Glance C Reason)
+      → SeenAt (Round s) (Last s c) c x g → SeenAt (λ v d. Says κ (onward s v) d P b (read κ (onward s v) b)) (Last s c) c x g
   round_then s c x b further (takes v) h = says_sequence κ (q s v) (λ t. loop f q e t) (behind c x) I P b (h.says b) further
   round_then s c x b further (refuses r) h = h
   round_then s c x b further leaves h = h
@@ -219,19 +239,22 @@ module _ {A C S : Type 0} (κ : List Alias) (f : S → List Alias → Terminal F
         (says_opened s c ts (read κ (opened f q e s) ts)
         (says_ahead κ (f s) (onward s) (e s) c P ts
         (λ x b parts. let shorter : suc (length b) ≤ suc n = subst (λ (z : Tokens). length z ≤ suc n) parts le in
-        round_then s c x b (λ t a d two keeps. says_loop n t (behind_all (behind c x) a) d (let l = ap length two in let m = length-append a d in omega (arith, l, m, shorter)) keeps)
+        round_then s c x b (λ t a d two keeps. says_loop n t (behind_all (behind c x) a) d
+        (let l = ap length two in let m = length-append a d in omega (arith, l, m, shorter)) keeps)
         (f s κ x) (seen s c is x))))
 
     pub tracks_loop : (s : S) (c : Context) → I s c → Tracks κ (loop f q e s) c P
     tracks_loop s c is = record { says = λ ts. says_loop (length ts) s c ts (omega arith) is }
 
 -- the same where each round begins at a place of some kind
-module _ {A C S X : Type 0} (κ : List Alias) (f : S → List Alias → Terminal Found Place → Glance C Reason) (q : S → C → Edif S) (e : S → Edif A) (place : S → X → Context) (P : A → Context → Type 0) where
+module _ {A C S X : Type 0} (κ : List Alias) (f : S → List Alias → Terminal Found Place → Glance C Reason) (q : S → C → Edif S) (e : S
+    → Edif A) (place : S → X → Context) (P : A → Context → Type 0) where
   abbrev pub AtPlace : S → Context → Type 0
   AtPlace s c = (y : X) × (c ≡ place s y)
 
   abbrev pub SeenFrom : S → Context → Type 0
-  SeenFrom s c = (x : Terminal Found Place) → SeenAt (λ v d. Tracks κ (q s v) d AtPlace) (λ x b. Says κ (e s) c P (x ∷ b) (read κ (e s) (x ∷ b))) c x (f s κ x)
+  SeenFrom s c = (x : Terminal Found Place) → SeenAt (λ v d. Tracks κ (q s v) d AtPlace)
+      (λ x b. Says κ (e s) c P (x ∷ b) (read κ (e s) (x ∷ b))) c x (f s κ x)
 
   pub tracks_rounds : ((s : S) (y : X) → SeenFrom s (place s y)) → (s : S) (y : X) → Tracks κ (loop f q e s) (place s y) P
   tracks_rounds seen s y = tracks_loop κ f q e AtPlace P (λ s c i. subst (SeenFrom s) (sym i.1) (seen s i.0)) s (place s y) (y, refl)
@@ -245,7 +268,8 @@ tracks_under {A = A} κ j p c P h = record { says = λ ts. by ts (read j p ts) (
     by ts (Err ended) h = h
 
 -- less said of what stands behind
-pub tracks_less : {A : Type 0} (κ : List Alias) (p : Edif A) (c : Context) (P Q : A → Context → Type 0) → ((v : A) (d : Context) → P v d → Q v d) → Tracks κ p c P → Tracks κ p c Q
+pub tracks_less : {A : Type 0} (κ : List Alias) (p : Edif A) (c : Context) (P Q : A → Context → Type 0) → ((v : A) (d : Context) → P v d → Q v d)
+    → Tracks κ p c P → Tracks κ p c Q
 tracks_less {A = A} κ p c P Q less h = record { says = λ ts. by ts (read κ p ts) (h.says ts) }
   where
     by : (ts : Tokens) (r : Answer A) → Says κ p c P ts r → Says κ p c Q ts r

@@ -56,7 +56,8 @@ not_both : (b : Bool) → (b && false) ≡ false
 not_both true = refl
 not_both false = refl
 
-pub one_more : (es : List Element) (f : Form) (around : List Form) (n : ℕ) → open_lists (f ∷ around) ≡ Some n → open_lists ((record { keyword = None; elements = es }) ∷ f ∷ around) ≡ Some (n + 1)
+pub one_more : (es : List Element) (f : Form) (around : List Form) (n : ℕ) → open_lists (f ∷ around) ≡ Some n
+    → open_lists ((record { keyword = None; elements = es }) ∷ f ∷ around) ≡ Some (n + 1)
 unfolding open_lists
 one_more es f around n h = ap (λ (o : Option ℕ). deeper o) h
   where
@@ -64,7 +65,8 @@ one_more es f around n h = ap (λ (o : Option ℕ). deeper o) h
     deeper None = None
     deeper (Some n) = Some (n + 1)
 
-pub in_list : (es : List Element) (f : Form) (around : List Form) (n : ℕ) → open_lists (f ∷ around) ≡ Some n → at_keyword ((record { keyword = None; elements = es }) ∷ f ∷ around) ≡ false
+pub in_list : (es : List Element) (f : Form) (around : List Form) (n : ℕ) → open_lists (f ∷ around) ≡ Some n
+    → at_keyword ((record { keyword = None; elements = es }) ∷ f ∷ around) ≡ false
 unfolding at_keyword
 in_list es f around n h = rw h (not_both _)
 
@@ -90,12 +92,15 @@ module _ (κ : List Alias) (rest : Edif (List UserTree)) (d : Data) where
   -- a tree that is no list
   whole_at : (s : List UserTree) (es : List Element) (u : UserTree) (c : Context) → Within d c → Tracks κ (round s (Whole u)) c (λ _ c. Within d c)
   whole_at s es u c i =
-      tracks_then κ (gives u) (λ t. gives (s ++ t ∷ [])) c (λ _ c. Within d c) (λ _ c. Within d c) (tracks_gives κ u c (λ _ c. Within d c) i) (λ t c i. tracks_gives κ (s ++ t ∷ []) c (λ _ c. Within d c) i)
+      tracks_then κ (gives u) (λ t. gives (s ++ t ∷ [])) c (λ _ c. Within d c) (λ _ c. Within d c) (tracks_gives κ u c (λ _ c. Within d c) i)
+      (λ t c i. tracks_gives κ (s ++ t ∷ []) c (λ _ c. Within d c) i)
 
-  list_at : (s : List UserTree) (es : List Element) → Tracks κ rest (within (inner d es) []) (λ _ c. c ≡ over (inner d es)) → Tracks κ (round s Opens) (within (inner d es) []) (λ _ c. Within d c)
+  list_at : (s : List UserTree) (es : List Element) → Tracks κ rest (within (inner d es) []) (λ _ c. c ≡ over (inner d es))
+      → Tracks κ (round s Opens) (within (inner d es) []) (λ _ c. Within d c)
   list_at s es h =
       tracks_then κ (tree_rest rest Opens) (λ t. gives (s ++ t ∷ [])) (within (inner d es) []) (λ _ c. Within d c) (λ _ c. Within d c)
-      (tracks_then κ rest (λ ts. gives (tree.List ts)) (within (inner d es) []) (λ _ c. c ≡ over (inner d es)) (λ _ c. Within d c) h (λ ts c i. tracks_gives κ (tree.List ts) c (λ _ c. Within d c) (es ++ Group ∷ [], i)))
+      (tracks_then κ rest (λ ts. gives (tree.List ts)) (within (inner d es) []) (λ _ c. c ≡ over (inner d es)) (λ _ c. Within d c) h
+      (λ ts c i. tracks_gives κ (tree.List ts) c (λ _ c. Within d c) (es ++ Group ∷ [], i)))
       (λ t c i. tracks_gives κ (s ++ t ∷ []) c (λ _ c. Within d c) i)
 
   -- ---- the `)` of the trees
@@ -108,21 +113,26 @@ module _ (κ : List Alias) (rest : Edif (List UserTree)) (d : Data) where
   judged_close es (Str s) is = absurd cc
 
   abbrev Last : List UserTree → List Element → Terminal Found Place → Tokens → Type 0
-  Last s es x b = Says κ (sequence closing (λ _. gives s)) (within d es) (λ _ c. c ≡ over d) (x ∷ b) (read κ (sequence closing (λ _. gives s)) (x ∷ b))
+  Last s es x b = Says κ (sequence closing (λ _. gives s)) (within d es) (λ _ c. c ≡ over d) (x ∷ b)
+      (read κ (sequence closing (λ _. gives s)) (x ∷ b))
 
-  then_gives : (s : List UserTree) (es : List Element) (x : Terminal Found Place) (b : Tokens) → Says κ closing (within d es) (λ _ c. c ≡ over d) (x ∷ b) (read κ closing (x ∷ b)) → Last s es x b
+  then_gives : (s : List UserTree) (es : List Element) (x : Terminal Found Place) (b : Tokens)
+      → Says κ closing (within d es) (λ _ c. c ≡ over d) (x ∷ b) (read κ closing (x ∷ b)) → Last s es x b
   then_gives s es x b h =
-      says_sequence κ closing (λ _. gives s) (within d es) (λ _ c. c ≡ over d) (λ _ c. c ≡ over d) (x ∷ b) h (λ u a b parts i. (tracks_gives κ s (behind_all (within d es) a) (λ _ c. c ≡ over d) i).says b)
+      says_sequence κ closing (λ _. gives s) (within d es) (λ _ c. c ≡ over d) (λ _ c. c ≡ over d) (x ∷ b) h
+      (λ u a b parts i. (tracks_gives κ s (behind_all (within d es) a) (λ _ c. c ≡ over d) i).says b)
 
   last_token : (s : List UserTree) (es : List Element) (x : Found) → x.token ≡ RightParen → (b : Tokens) → Last s es (proper x) b
   unfolding one
   last_token s es x is b =
       then_gives s es (proper x) b
-      (says_one κ (λ _ t. of_token (λ (y : Found). say.closing_of y.token) t) (within d es) (λ _ c. c ≡ over d) (proper x) b (judged_token (within d es) (λ _ c. c ≡ over d) x (say.closing_of x.token) (judged_close es x.token is)))
+      (says_one κ (λ _ t. of_token (λ (y : Found). say.closing_of y.token) t) (within d es) (λ _ c. c ≡ over d) (proper x) b
+      (judged_token (within d es) (λ _ c. c ≡ over d) x (say.closing_of x.token) (judged_close es x.token is)))
 
   last_end : (s : List UserTree) (es : List Element) (p : Place) (b : Tokens) → Last s es (end p) b
   unfolding one reason_at
-  last_end s es p b = then_gives s es (end p) b (says_one κ (λ _ t. of_token (λ (y : Found). say.closing_of y.token) t) (within d es) (λ _ c. c ≡ over d) (end p) b refl)
+  last_end s es p b = then_gives s es (end p) b (says_one κ (λ _ t. of_token (λ (y : Found). say.closing_of y.token) t) (within d es)
+      (λ _ c. c ≡ over d) (end p) b refl)
 
   -- ---- a tree that is looked at
 
@@ -141,23 +151,29 @@ module _ (κ : List Alias) (rest : Edif (List UserTree)) (d : Data) where
     seen_full full (Number n) = whole_at s es (tree.Number n) (after (within d es) (Number n)) (es ++ Single (Number n) ∷ [], refl)
     seen_full full (Str t) = whole_at s es (tree.Str t) (after (within d es) (Str t)) (es ++ Single (Str t) ∷ [], refl)
 
-    seen_open : (room : ℕ) → Tracks κ rest (within (inner d es) []) (λ _ c. c ≡ over (inner d es)) → (t : Token) → Seen (Tree s) (Last s es) (within d es) t (tree_of (suc room) t)
+    seen_open : (room : ℕ) → Tracks κ rest (within (inner d es) []) (λ _ c. c ≡ over (inner d es)) → (t : Token)
+        → Seen (Tree s) (Last s es) (within d es) t (tree_of (suc room) t)
     seen_open room h LeftParen = list_at s es h
     seen_open room h RightParen = λ x is b. last_token s es x is b
     seen_open room h (Word w) = whole_word w
     seen_open room h (Number n) = whole_at s es (tree.Number n) (after (within d es) (Number n)) (es ++ Single (Number n) ∷ [], refl)
     seen_open room h (Str t) = whole_at s es (tree.Str t) (after (within d es) (Str t)) (es ++ Single (Str t) ∷ [], refl)
 
-  pub tracks_trees_by : (room : ℕ) → ((s : List UserTree) (es : List Element) (t : Token) → Seen (Tree s) (Last s es) (within d es) t (tree_of room t)) → (s : List UserTree) (es : List Element) → Tracks κ (trees_by room rest s) (within d es) (λ _ c. c ≡ over d)
+  pub tracks_trees_by : (room : ℕ) → ((s : List UserTree) (es : List Element) (t : Token)
+      → Seen (Tree s) (Last s es) (within d es) t (tree_of room t)) → (s : List UserTree) (es : List Element)
+      → Tracks κ (trees_by room rest s) (within d es) (λ _ c. c ≡ over d)
   unfolding trees_by while_next
   tracks_trees_by room seen s es =
-      tracks_rounds κ (λ _ _ x. at_token (λ (y : Found). tree_of room y.token) x) round (λ s. sequence closing (λ _. gives s)) (λ _ es. within d es) (λ _ c. c ≡ over d)
+      tracks_rounds κ (λ _ _ x. at_token (λ (y : Found). tree_of room y.token) x) round (λ s. sequence closing (λ _. gives s))
+      (λ _ es. within d es) (λ _ c. c ≡ over d)
       (λ s es. seen_each (Tree s) (Last s es) (within d es) (tree_of room) (seen s es) (last_end s es)) s es
 
-tracks_trees : (κ : List Alias) (room : ℕ) (d : Data) → d.lists + room ≡ 64 → (s : List UserTree) (es : List Element) → Tracks κ (trees room s) (within d es) (λ _ c. c ≡ over d)
+tracks_trees : (κ : List Alias) (room : ℕ) (d : Data) → d.lists + room ≡ 64 → (s : List UserTree) (es : List Element)
+    → Tracks κ (trees room s) (within d es) (λ _ c. c ≡ over d)
 unfolding trees
 tracks_trees κ zero d full s es = tracks_trees_by κ (gives []) d zero (λ s es. seen_full κ (gives []) d s es (omega (arith, full))) s es
-tracks_trees κ (suc room) d full s es = tracks_trees_by κ (trees room []) d (suc room) (λ s es. seen_open κ (trees room []) d s es room (tracks_trees κ room (inner d es) (omega (arith, full)) [] [])) s es
+tracks_trees κ (suc room) d full s es = tracks_trees_by κ (trees room []) d (suc room)
+    (λ s es. seen_open κ (trees room []) d s es room (tracks_trees κ room (inner d es) (omega (arith, full)) [] [])) s es
 
 -- ---- user data and notes
 
@@ -198,7 +214,8 @@ reads_user fr es =
     tracks_then fr.said.aliases word user_rest (opened fr es k.UserData) (λ _ c. Within (data_of fr es) c) (λ _ c. In fr c)
     (tracks_one fr.said.aliases (λ _ t. say.word_of t) (opened fr es k.UserData) (λ _ c. Within (data_of fr es) c) (judged_name fr es))
     (λ w c i. subst (λ z. Tracks fr.said.aliases (user_rest w) z (λ _ c. In fr c)) (sym i.1)
-    (tracks_then fr.said.aliases (trees 64 []) (λ ts. gives (user_made w ts)) (within (data_of fr es) i.0) (λ _ c. c ≡ over (data_of fr es)) (λ _ c. In fr c)
+    (tracks_then fr.said.aliases (trees 64 []) (λ ts. gives (user_made w ts)) (within (data_of fr es) i.0) (λ _ c. c ≡ over (data_of fr es))
+    (λ _ c. In fr c)
     (tracks_trees fr.said.aliases 64 (data_of fr es) refl [] i.0)
     (λ ts c i. tracks_gives fr.said.aliases (user_made w ts) c (λ _ c. In fr c) (es ++ Group ∷ [], i))))
 

@@ -129,6 +129,7 @@ unfolding means keyword_of alias_of reason_at is_at at_keyword open_lists in_pla
 no_user_data_yet = refl
 
 -- (keywordAlias ka keywordAlias)(ka view: an alias of keywordAlias begins one
-pub by_an_alias : reason_row (levelled 1 ++ opens (codes "keywordAlias") ++ word (codes "ka") ∷ word (codes "keywordAlias") ∷ seen RightParen ∷ opens (codes "ka")) (word (codes "view")) ≡ reasons.AliasClash
+pub by_an_alias : reason_row (levelled 1 ++ opens (codes "keywordAlias") ++ word (codes "ka") ∷ word
+    (codes "keywordAlias") ∷ seen RightParen ∷ opens (codes "ka")) (word (codes "view")) ≡ reasons.AliasClash
 unfolding means keyword_of alias_of reason_at is_at at_keyword open_lists in_plain_map is_over
 by_an_alias = refl
