@@ -36,10 +36,11 @@ use Rattle.to_verilog_classes.specs.Roots.{of_live}
 use Rattle.to_verilog_wires.specs.Wiring.{WiringTable, hub_node_of, hub_of}
 use Rattle.to_verilog_wires.specs.declared.hubs.Hub.{Hub}
 use Rattle.to_verilog_wires.specs.declared.hubs.Hub.TheVariants as hubs
-use Rattle.to_verilog_cells.specs.Assigns.{assign_of, assigned, assigns_among, assigns_of, constant_assign, feeds, is_port, member_assign, port_assign}
-use Rattle.to_verilog_cells.specs.Exprs.{bit_of, hub_expr, port_expr}
-use Rattle.to_verilog_cells.specs.Instances.{below_ports, conn_of, connected, instance_of}
-use Rattle.to_verilog_cells.specs.Modules.{IsWritable, plain_of, plain_port}
+use Rattle.to_verilog_items.specs.Assigns.{assign_of, assigned, assigns_among, assigns_of, constant_assign, feeds, is_port, member_assign, port_assign}
+use Rattle.to_verilog_items.specs.Exprs.{bit_of, hub_expr, port_expr}
+use Rattle.to_verilog_items.specs.Header.{plain_port}
+use Rattle.to_verilog_items.specs.Instances.{below_ports, conn_of, connected, instance_of}
+use Rattle.to_verilog_cells.specs.Modules.{IsWritable, plain_of}
 use Rattle.to_verilog_cells.proofs.Listed.{mapped_at, there_at, there_below}
 use Rattle.to_verilog_cells.proofs.Partner.{pin_of}
 use Rattle.to_verilog_values.specs.Kept.{HaveGoodNames, IsNamedCell, IsNamedObject}

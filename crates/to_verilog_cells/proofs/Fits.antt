@@ -13,32 +13,19 @@ use Rattle.net_hier.specs.declared.cells.HInst.{HInst}
 use Rattle.net_hier.specs.declared.cells.HPort.{HPort}
 use Rattle.to_verilog_wires.specs.IsWiring.{IsWiring}
 use Rattle.to_verilog_wires.specs.Wiring.{WiringTable}
-use Rattle.vlog_values.specs.declared.module.Header.TheVariants.{Decls}
 use Rattle.vlog_values.specs.declared.module.ItemV.{ItemV}
 use Rattle.vlog_values.specs.declared.module.Module.{Module}
 use Rattle.vlog_values.specs.declared.declaration.ParamDecl.{ParamDecl}
 use Rattle.vlog_values.specs.declared.expression.Attr.{Attr}
 use Rattle.vlog_values.specs.declared.module.Header.{Header}
-use Rattle.vlog_written.specs.Written.{assign_item, instance_item, plain_header, plain_module, port_decl_of, wire_item}
+use Rattle.vlog_written.specs.Written.{assign_item, instance_item, plain_header, plain_module, wire_item}
 use Rattle.to_verilog_props.specs.Written.{attrs_of}
 use Rattle.net_hier.specs.Facts.{cell_props}
-use Rattle.to_verilog_cells.specs.Assigns.{assigns_of}
-use Rattle.to_verilog_cells.specs.Instances.{below_ports, instances_of}
-use Rattle.to_verilog_cells.specs.Modules.{AreItems, IsModuleOf, plain_of, plain_port}
+use Rattle.to_verilog_items.specs.Assigns.{assigns_of}
+use Rattle.to_verilog_items.specs.Header.{plain_port}
+use Rattle.to_verilog_items.specs.Instances.{below_ports, instances_of}
+use Rattle.to_verilog_cells.specs.Modules.{AreItems, IsModuleOf, plain_of}
 use Rattle.to_verilog_cells.proofs.Listed.{there_below}
-
--- ---- the header
-decls_are : (ports : List HPort) → map (λ port. port_decl_of (plain_port port)) ports ≡ map port_decl_of (map plain_port ports)
-decls_are [] = refl
-decls_are (port ∷ ports) = ap (λ l. port_decl_of (plain_port port) ∷ l) (decls_are ports)
-
-pub is_some : (ports : List HPort) → (length ports == 0) ≡ false → 1 ≤ length ports
-is_some [] e = absurd (let f : true ≡ false = e in cc)
-is_some (port ∷ ports) e = omega arith
-
-pub header_is : (ports : List HPort) → 1 ≤ length ports → Decls (map (λ port. port_decl_of (plain_port port)) ports) ≡ plain_header (map plain_port ports)
-header_is [] h = absurd (omega (arith, h))
-header_is (port ∷ ports) h = ap Decls (decls_are (port ∷ ports))
 
 -- ---- sizes
 part_of_sum : {X : Type 0} (f : X → ℕ) (xs : List X) (i : ℕ) (x : X) → slice_get xs i ≡ Some x → f x ≤ sum_by f xs

@@ -1,5 +1,4 @@
 pub mod Fits
 pub mod Listed
-pub mod Loops
 pub mod Sides
 pub mod Partner

@@ -48,10 +48,11 @@ use Rattle.to_verilog_wires.specs.IsWiring.{IsWiring, wire_net}
 use Rattle.to_verilog_classes.specs.Roots.{of_live, pin_port}
 use Rattle.to_verilog_wires.specs.Wiring.{WiringTable, hub_node_of, hub_of, is_written}
 use Rattle.to_verilog_wires.specs.declared.hubs.Hub.{Hub}
-use Rattle.to_verilog_cells.specs.Assigns.{assign_of, assigns_among, assigns_of, member_assign}
-use Rattle.to_verilog_cells.specs.Exprs.{hub_expr}
-use Rattle.to_verilog_cells.specs.Instances.{below_name, below_ports, conn_of, connected, conns_of, instance_of, pin_expr, pin_exprs}
-use Rattle.to_verilog_cells.specs.Modules.{IsModuleOf, IsWritable, plain_of, plain_port}
+use Rattle.to_verilog_items.specs.Assigns.{assign_of, assigns_among, assigns_of, member_assign}
+use Rattle.to_verilog_items.specs.Exprs.{hub_expr}
+use Rattle.to_verilog_items.specs.Header.{plain_port}
+use Rattle.to_verilog_items.specs.Instances.{below_name, below_ports, conn_of, connected, conns_of, instance_of, pin_expr, pin_exprs}
+use Rattle.to_verilog_cells.specs.Modules.{IsModuleOf, IsWritable, plain_of}
 use Rattle.to_verilog_cells.proofs.Listed.{all_given, from_mapped, given_at, made_at, made_count, made_names, mapped_item, one_item, same_names, there_at, there_below}
 use Rattle.to_verilog_cells.proofs.Sides.{HasExpr, HasSides, IsSelf, hub_found, outer_sides}
 

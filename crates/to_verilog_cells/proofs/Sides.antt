@@ -25,9 +25,10 @@ use Rattle.to_verilog_wires.specs.IsWiring.{IsWiring}
 use Rattle.to_verilog_wires.specs.Wiring.{WiringTable, hub_node_of, hub_of}
 use Rattle.to_verilog_wires.specs.declared.hubs.Hub.{Hub}
 use Rattle.to_verilog_wires.specs.declared.hubs.Hub.TheVariants as hubs
-use Rattle.to_verilog_cells.specs.Assigns.{assigned, constant_assign, feeds, is_port, member_assign, port_assign}
-use Rattle.to_verilog_cells.specs.Exprs.{bit_of, hub_expr, port_expr}
-use Rattle.to_verilog_cells.specs.Modules.{plain_of, plain_port}
+use Rattle.to_verilog_items.specs.Assigns.{assigned, constant_assign, feeds, is_port, member_assign, port_assign}
+use Rattle.to_verilog_items.specs.Exprs.{bit_of, hub_expr, port_expr}
+use Rattle.to_verilog_items.specs.Header.{plain_port}
+use Rattle.to_verilog_cells.specs.Modules.{plain_of}
 use Rattle.to_verilog_cells.proofs.Listed.{mapped_at, there_below}
 
 passes : (a b : ℕ) → a < b → nat_lt a b ≡ true

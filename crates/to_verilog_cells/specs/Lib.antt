@@ -1,4 +1,1 @@
-pub mod Assigns
-pub mod Exprs
-pub mod Instances
 pub mod Modules

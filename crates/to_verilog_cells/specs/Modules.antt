@@ -5,26 +5,22 @@ use Rattle.net_hier.specs.Design.{Design, IsCell}
 use Rattle.net_hier.specs.Facts.{cell_props}
 use Rattle.net_hier.specs.declared.cells.HCell.{HCell}
 use Rattle.net_hier.specs.declared.cells.HInst.{HInst}
-use Rattle.net_hier.specs.declared.cells.HPort.{HPort}
 use Rattle.to_verilog_props.specs.Written.{HaveNoFlags, attrs_of}
 use Rattle.to_verilog_wires.specs.IsWiring.{IsWiring}
 use Rattle.to_verilog_wires.specs.Wiring.{WiringTable}
-use Rattle.to_verilog_cells.specs.Assigns.{assigns_of}
-use Rattle.to_verilog_cells.specs.Instances.{instances_of}
+use Rattle.to_verilog_items.specs.Assigns.{assigns_of}
+use Rattle.to_verilog_items.specs.Header.{plain_port}
+use Rattle.to_verilog_items.specs.Instances.{instances_of}
 use Rattle.vlog_design.specs.Names.{has_name}
 use Rattle.vlog_values.specs.declared.module.ItemV.{ItemV}
 use Rattle.vlog_values.specs.declared.module.Module.{Module}
-use Rattle.vlog_written.specs.Written.{PlainModule, PlainPort, PlainWire, plain_items, plain_module}
+use Rattle.vlog_written.specs.Written.{PlainModule, PlainWire, plain_items, plain_module}
 
 -- what the rules of Verilog as a target ask of a cell: no port has the name of an instance, and no property that is to be a parameter has a
 -- boolean as its last value
 pub record IsWritable (params : NameSet) (cell : HCell) : Type 0 where
   pub apart : filter (has_name (map (λ instance. instance.name) cell.instances)) (map (λ port. port.name) cell.ports) ≡ []
   pub no_flags : (instance : HInst) → Contains cell.instances instance → HaveNoFlags params instance.props
-
--- the port as it is declared
-abbrev pub plain_port : HPort → PlainPort
-plain_port port = record { attrs = attrs_of port.props; dir = port.dir; range = port.range; name = port.name }
 
 -- the module of a cell whose wires these are
 abbrev pub plain_of : Design → NameSet → ℕ → HCell → WiringTable → List PlainWire → PlainModule

@@ -7,11 +7,6 @@
 // of files that are written for a design asks of each of its modules.
 #![tactic(auto)]
 
-pub mod assigns;
-pub mod connections;
-pub mod exprs;
-pub mod header;
-pub mod instances;
 pub mod modules;
 
 pub use modules::module_of;

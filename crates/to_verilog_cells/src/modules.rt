@@ -7,14 +7,12 @@ ghost use Rattle.to_verilog_props.specs.Written.{attrs_of};
 ghost use Rattle.to_verilog_cells.specs.Modules.{AreItems, IsModuleOf, IsWritable};
 ghost use Rattle.vlog_partners.specs.Partners.{IsWritten};
 
-use crate::assigns::add_assigns;
-use crate::header::header_of;
-use crate::instances::add_instances;
 use net_bits::Names;
 use net_hier::{HCell, Hier};
 use net_live::add_props;
 use nl_base::{NoMemory, Seq, Text};
 use std::alloc::Global;
+use to_verilog_items::{add_assigns, add_instances, header_of};
 use to_verilog_props::attrs_of;
 use to_verilog_wires::Wiring;
 use vlog_values::{Attr, ItemV, Module};

@@ -1,5 +1,5 @@
 use Rattle.std.proofs.Common.{ap, sym, subst, length, ◌<◌, ◌≤◌, ◌^◌}
-use Rattle.to_verilog_cells.specs.Instances.{below_ports}
+use Rattle.to_verilog_items.specs.Instances.{below_ports}
 use Rattle.to_verilog_cells.proofs.Fits.{few_below, few_joins, items_are}
 use Rattle.to_verilog_cells.proofs.modules.items_of.Goals as goal
 

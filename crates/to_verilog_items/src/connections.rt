@@ -1,7 +1,7 @@
 // What the ports of instances are connected to.
 ghost use Rattle.std.specs.Prelude.{◌≡◌, ◌++◌, ◌≤◌, ◌^◌, length, option_to_list, IfOk, OnOk};
 ghost use Rattle.std.specs.List.{range_with_len};
-ghost use Rattle.to_verilog_cells.specs.Instances.{conn_of, connected, conns_of, pin_expr, pin_exprs};
+ghost use Rattle.to_verilog_items.specs.Instances.{conn_of, connected, conns_of, pin_expr, pin_exprs};
 
 use crate::exprs::hub_expr;
 use net_hier::{HPort, Node};

@@ -1,8 +1,8 @@
 use Rattle.std.proofs.Common.{option_to_list}
 use Rattle.net_hier.specs.declared.nodes.Node.TheVariants.{Pin}
-use Rattle.to_verilog_cells.specs.Instances.{pin_expr}
-use Rattle.to_verilog_cells.proofs.Loops.{flat_turn}
-use Rattle.to_verilog_cells.proofs.connections.pin_exprs.Goals as goal
+use Rattle.to_verilog_items.specs.Instances.{pin_expr}
+use Rattle.to_verilog_items.proofs.Loops.{flat_turn}
+use Rattle.to_verilog_items.proofs.connections.pin_exprs.Goals as goal
 
 pub loop-bit-preserved : goal.loop-bit-preserved
 loop-bit-preserved c =

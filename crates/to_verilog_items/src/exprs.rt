@@ -4,7 +4,7 @@ ghost use Rattle.net_hier.specs.Cells.{width_of as width};
 ghost use Rattle.vlog_values.specs.declared.expression.Expr.TheVariants.{Lit, Ref};
 ghost use Rattle.vlog_values.specs.declared.expression.Select.TheVariants.{All};
 ghost use Rattle.vlog_written.specs.Written.{bit_literal, select_of};
-ghost use Rattle.to_verilog_cells.specs.Exprs.{bit_of, hub_expr, port_expr};
+ghost use Rattle.to_verilog_items.specs.Exprs.{bit_of, hub_expr, port_expr};
 
 use net_hier::HPort;
 use nl_base::{NoMemory, Text};

@@ -16,7 +16,7 @@ use Rattle.vlog_values.specs.declared.expression.Expr.TheVariants.{Cat}
 use Rattle.vlog_values.specs.declared.statement.NamedConn.{NamedConn}
 use Rattle.vlog_written.specs.Written.{PlainInstance}
 use Rattle.to_verilog_wires.specs.Wiring.{WiringTable, hub_of, is_written}
-use Rattle.to_verilog_cells.specs.Exprs.{hub_expr}
+use Rattle.to_verilog_items.specs.Exprs.{hub_expr}
 
 -- what stands for a pin bit
 abbrev pub pin_expr : List HPort → WiringTable → Node → Option Expr

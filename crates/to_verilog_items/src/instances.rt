@@ -2,7 +2,7 @@
 ghost use Rattle.std.specs.Prelude.{◌≡◌, ◌++◌, ◌<◌, ◌≤◌, ◌^◌, length, map, IfOk, OnOk};
 ghost use Rattle.net_hier.specs.Valid.{Each, count_limit};
 ghost use Rattle.vlog_written.specs.Written.{instance_item, plain_conns, statement_of};
-ghost use Rattle.to_verilog_cells.specs.Instances.{below_ports, conns_of, instance_of, instances_of};
+ghost use Rattle.to_verilog_items.specs.Instances.{below_ports, conns_of, instance_of, instances_of};
 
 use crate::connections::conns_of;
 use net_bits::Names;

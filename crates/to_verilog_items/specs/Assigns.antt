@@ -13,7 +13,7 @@ use Rattle.to_verilog_classes.specs.Roots.{each_live}
 use Rattle.to_verilog_wires.specs.Wiring.{WiringTable, hub_of}
 use Rattle.to_verilog_wires.specs.declared.hubs.Hub.{Hub}
 use Rattle.to_verilog_wires.specs.declared.hubs.Hub.TheVariants as hubs
-use Rattle.to_verilog_cells.specs.Exprs.{hub_expr, port_expr}
+use Rattle.to_verilog_items.specs.Exprs.{hub_expr, port_expr}
 
 -- whether the hub is this port bit
 abbrev pub is_port : Hub → ℕ → ℕ → Bool

@@ -1,8 +1,8 @@
 use Rattle.to_verilog_classes.specs.Roots.{of_live}
 use Rattle.vlog_written.specs.Written.{assign_item}
-use Rattle.to_verilog_cells.specs.Assigns.{assigns_among}
-use Rattle.to_verilog_cells.proofs.Loops.{items_turn}
-use Rattle.to_verilog_cells.proofs.assigns.add_assigns.Goals as goal
+use Rattle.to_verilog_items.specs.Assigns.{assigns_among}
+use Rattle.to_verilog_items.proofs.Loops.{items_turn}
+use Rattle.to_verilog_items.proofs.assigns.add_assigns.Goals as goal
 
 pub loop-class-preserved : goal.loop-class-preserved
 loop-class-preserved c =

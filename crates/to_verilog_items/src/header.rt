@@ -1,7 +1,7 @@
 // The header of a module.
 ghost use Rattle.std.specs.Prelude.{◌≡◌, map, IfOk};
 ghost use Rattle.vlog_written.specs.Written.{plain_header, port_decl_of};
-ghost use Rattle.to_verilog_cells.specs.Modules.{plain_port};
+ghost use Rattle.to_verilog_items.specs.Header.{plain_port};
 
 use net_hier::HPort;
 use nl_base::{NoMemory, Seq, Text};

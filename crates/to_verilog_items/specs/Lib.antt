@@ -1,0 +1,4 @@
+pub mod Assigns
+pub mod Exprs
+pub mod Header
+pub mod Instances
