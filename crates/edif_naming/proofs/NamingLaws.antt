@@ -1,5 +1,5 @@
 -- What is read of the names that are written.
-use Rattle.std.proofs.Common.{◌≡◌, ℕ, suc, ◌+◌, ◌<◌, ◌^◌, add-one, append_assoc, drop, drop-cons, get_or, length, map, Bool, true, false, cond, List, [], ◌∷◌, ◌++◌, Option, Some, None, pos, refl, sym, ap, ◌∙◌}
+use Rattle.std.proofs.Common.{◌≡◌, ℕ, suc, ◌+◌, ◌<◌, ◌≤◌, ◌^◌, add-one, append-nil, append_assoc, drop, drop-cons, get_or, length, map, Bool, true, false, cond, List, [], ◌∷◌, ◌++◌, Option, Some, None, pos, refl, sym, ap, ◌∙◌, subst}
 use Rattle.std.specs.Borrow.{Bor}
 use Rattle.std.proofs.lemmas.List.{map-append}
 use Rattle.std.proofs.lemmas.Slice.Eq.{bytes_eq-Decides}
@@ -11,7 +11,9 @@ use Rattle.nl_base.proofs.RangeForm.{range_form-complete}
 use Rattle.edif_names.specs.Names.{named_array, original, port_original, renamed_as}
 use Rattle.edif_names.specs.declared.property.Property.{Property}
 use Rattle.net_hier.specs.declared.cells.HProp.{HProp}
-use Rattle.edif_naming.specs.Naming.{IsSmallRange, array_text, name_for, port_name_for, property_for, seen, value_of}
+use Rattle.std.proofs.Math.ListN.{drop_of_length-le}
+use Rattle.edif_spaces.specs.Spaces.{AreIdents}
+use Rattle.edif_naming.specs.Naming.{IsSmallRange, array_text, ident_of, name_for, port_name_for, property_for, seen, value_of}
 
 -- the original name is the one that was handed in
 pub original_name_for : (ident name : List ℕ) → original (name_for ident name) ≡ name
@@ -43,3 +45,17 @@ property_turn props place d x made new property ident within is before is_new is
     (λ j. made_so j ++ seen (drop (add-one place j) props))
     ∙ (append_assoc (map value_of made) (x.now ∷ []) (seen (drop (suc place) props))
     ∙ (ap (λ ps. map value_of made ++ ps) (ap (λ y. y.now ∷ seen (drop (suc place) props)) is ∙ ap seen (sym (drop-cons props place d within))) ∙ before))
+
+-- the identifiers of one property more
+pub ident_turn : (words : List (List ℕ)) (place : ℕ) (d x : List ℕ) (made new : List Property) (property : Property) (prop : HProp) → place < length words → x ≡ get_or words place d
+    → map ident_of made ++ drop place words ≡ words → new ≡ made ++ property ∷ [] → property ≡ property_for x prop → map ident_of new ++ drop (place + 1) words ≡ words
+ident_turn words place d x made new property prop within is before is_new is_property =
+    let shown : map ident_of new ≡ map ident_of made ++ x ∷ [] = ap (map ident_of) is_new ∙ (map-append ident_of made (property ∷ []) ∙ ap (λ (p : Property). map ident_of made ++ ident_of p ∷ []) is_property) in
+    (λ j. shown j ++ drop (add-one place j) words)
+    ∙ (append_assoc (map ident_of made) (x ∷ []) (drop (suc place) words)
+    ∙ (ap (λ ys. map ident_of made ++ ys) (ap (λ y. y ∷ drop (suc place) words) is ∙ sym (drop-cons words place d within)) ∙ before))
+
+-- and those of all
+pub idents_end : (names idents words : List (List ℕ)) (place : ℕ) (made : List Property) → AreIdents names idents → words ≡ idents → length words ≤ place → map ident_of made ++ drop place words ≡ words → AreIdents names (map ident_of made)
+idents_end names idents words place made are shown past whole =
+    subst (AreIdents names) (sym (sym (append-nil (map ident_of made)) ∙ (ap (λ l. map ident_of made ++ l) (sym (drop_of_length-le words past)) ∙ (whole ∙ shown)))) are

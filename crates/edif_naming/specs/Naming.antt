@@ -36,6 +36,10 @@ property_for ident prop = record { name = name_for ident prop.name; value = prop
 abbrev pub value_of : Property → HProp
 value_of property = record { name = original property.name; value = property.value }
 
+-- its identifier
+abbrev pub ident_of : Property → List ℕ
+ident_of property = property.name.ident
+
 -- the things behind some borrows
 abbrev pub seen : {A : Type 0} → List (Bor A) → List A
 seen = map (λ borrowed. borrowed.now)

@@ -2,7 +2,8 @@
 ghost use Rattle.std.specs.Prelude.{◌≡◌, map, length, IfOk};
 ghost use Rattle.std.specs.List.{AllByRecursion};
 ghost use Rattle.edif_names.specs.Values.{IsProperty};
-ghost use Rattle.edif_naming.specs.Naming.{property_for, seen, value_of};
+ghost use Rattle.edif_naming.specs.Naming.{ident_of, property_for, seen, value_of};
+ghost use Rattle.edif_spaces.specs.Spaces.{AreIdents};
 ghost use Rattle.edif_naming.specs.Sound.{AreSoundProps, IsSoundProp};
 
 use crate::names::named;
@@ -45,7 +46,7 @@ fn property_of(alloc: Global, ident: &Ident, prop: &HProp) -> Result<Property, N
 fn names_of<'a>(alloc: Global, props: &[&'a HProp]) -> Result<Vec<&'a [u8]>, NoMemory>
     ensures { IfOk result (λ names. seen names.items ≡ map (λ prop. prop.name) (seen props.now)) }
 {
-    let mut names = Vec::new(alloc);
+    let mut names = Vec::with_capacity(alloc, props.len())?;
     for prop in props {
         names.push(prop.name.bytes())?;
     }
@@ -54,7 +55,8 @@ fn names_of<'a>(alloc: Global, props: &[&'a HProp]) -> Result<Vec<&'a [u8]>, NoM
 
 /// The identifiers of properties, a name space of their own.
 fn property_idents(alloc: Global, props: &[&HProp]) -> Result<Seq<Ident>, NoMemory>
-    ensures { IfOk result (λ idents. length idents ≡ length props.now) }
+    ensures count { IfOk result (λ idents. length idents ≡ length props.now) }
+    ensures idents { IfOk result (AreIdents (map (λ prop. prop.name) (seen props.now))) }
 {
     let names = names_of(alloc, props)?;
     let idents = idents_of(alloc, names.as_slice())?;
@@ -65,11 +67,13 @@ fn property_idents(alloc: Global, props: &[&HProp]) -> Result<Seq<Ident>, NoMemo
 pub fn properties_of(alloc: Global, props: &[&HProp]) -> Result<Vec<Property>, NoMemory>
     ensures values { IfOk result (λ made. map value_of made.items ≡ seen props.now) }
     ensures sound { AreSoundProps (seen props.now) → IfOk result (λ made. AllByRecursion IsProperty made.items) }
+    ensures idents { IfOk result (λ made. AreIdents (map (λ prop. prop.name) (seen props.now)) (map ident_of made.items)) }
 {
     let idents = property_idents(alloc, props)?;
-    let mut made = Vec::new(alloc);
+    let words = idents.items();
+    let mut made = Vec::with_capacity(alloc, props.len())?;
     for place in 0..props.len() {
-        let property = property_of(alloc, &idents.items()[place], props[place])?;
+        let property = property_of(alloc, &words[place], props[place])?;
         made.push(property)?;
     }
     Ok(made)

@@ -1,12 +1,13 @@
 use Rattle.std.proofs.Common.{◌≡◌, ◌++◌, drop, map}
 use Rattle.std.specs.List.{AllByRecursion}
 use Rattle.edif_names.specs.Values.{IsProperty}
-use Rattle.edif_naming.specs.Naming.{seen, value_of}
+use Rattle.edif_naming.specs.Naming.{ident_of, seen, value_of}
 use Rattle.edif_naming.specs.Sound.{AreSoundProps}
 use Rattle.edif_naming.proofs.properties.properties_of.Given as goal
 
 abbrev pub invariant-loop-place : goal.invariant-loop-place
 invariant-loop-place l = record {
   values : map value_of l.made.items ++ seen (drop l.place l.props) ≡ seen l.props;
+  idents : map ident_of l.made.items ++ drop l.place l.words ≡ l.words;
   sound : AreSoundProps (seen l.props) → AllByRecursion IsProperty l.made.items;
 }
