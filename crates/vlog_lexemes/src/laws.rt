@@ -1,0 +1,28 @@
+ghost use Rattle.std.specs.Prelude.{◌≡◌, ◌↔◌, ℕ, List};
+ghost use Rattle.nl_base.specs.declared.fault.TextFault.{TextFault};
+ghost use Rattle.nl_base.specs.declared.place.Place.{Place};
+ghost use Rattle.vlog_tokens.specs.declared.token.VFound.{VFound};
+ghost use Rattle.vlog_tokens.specs.Language.{tokens_from, stream_from, limited};
+ghost use Rattle.vlog_lexemes.specs.Texts.{AreLexemes, EndsAt, Fails, whole_text, cut_text};
+
+/// The tokens of a text that has no fault are its lexemes, with their places and stops, up to its
+/// end.
+pub fn tokens_are_lexemes()
+    ensures { (p : Place) (text : List ℕ) (found : List VFound) (last : Place)
+        → (tokens_from 0 p text ≡ whole_text found last) ↔ AreLexemes (EndsAt last) p text found }
+{}
+
+/// The tokens of a text end at a lexical fault exactly where, behind these lexemes, neither a token
+/// nor white space stands.
+pub fn faults_are_where_no_token_stands()
+    ensures { (p : Place) (text : List ℕ) (found : List VFound)
+        → ((fault : TextFault) × (tokens_from 0 p text ≡ cut_text found fault))
+        ↔ AreLexemes Fails p text found }
+{}
+
+/// A reader tells of such a text the lexemes within the limit of an input.
+pub fn told_tokens_are_lexemes()
+    ensures { (p : Place) (text : List ℕ) (found : List VFound) (last : Place)
+        → AreLexemes (EndsAt last) p text found
+        → stream_from p text ≡ limited (whole_text found last) }
+{}
