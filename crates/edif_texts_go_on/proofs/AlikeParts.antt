@@ -46,11 +46,11 @@ look_alike f (end p) (end q) e = refl
 
 pub if_alike : {A C : Type 0} (f : Token → Glance C Reason) (p : C → Edif A) (q : Edif A) → ((c : C) → Alike (p c)) → Alike q → Alike (if_next (λ _ x. f x.token) p q)
 unfolding if_next
-if_alike f p q h l table = (look_alike f, λ c. h c table, l table)
+if_alike f p q h l table = (look_alike f, λ x c i. h c table, l table)
 
 pub while_alike : {A C S : Type 0} (f : Token → Glance C Reason) (q : S → C → Edif S) (e : S → Edif A) (s : S) → ((s : S) (c : C) → Alike (q s c)) → ((s : S) → Alike (e s)) → Alike (while_next (λ _ _ x. f x.token) q e s)
 unfolding while_next
-while_alike f q e s h l table = (λ s. look_alike f, λ s c. h s c table, λ s. l s table)
+while_alike f q e s h l table = (λ s. look_alike f, λ s x c i. h s c table, λ s. l s table)
 
 pub either_alike : {A : Type 0} (b : Bool) (p q : Edif A) → Alike p → Alike q → Alike (cond b p q)
 either_alike true p q h l = h
