@@ -1,0 +1,4 @@
+pub mod Production
+pub mod Declarations
+pub mod Items
+pub mod Modules

@@ -1,0 +1,24 @@
+// Headers, modules and files.
+ghost use Rattle.std.specs.Prelude.{◌↔◌, Bool, true, []};
+ghost use Rattle.grammar.specs.Part.{sequence};
+ghost use Rattle.grammar.specs.Texts.{Spells};
+ghost use Rattle.vlog_values.specs.declared.module.Header.TheVariants as headers;
+ghost use Rattle.vlog_values.specs.declared.module.VlogFile.{VlogFile};
+ghost use Rattle.vlog_exprs.specs.Grammar as exprs;
+ghost use Rattle.vlog_exprs.specs.Expressions.{Tokens};
+ghost use Rattle.vlog_modules.specs.Grammar as grammar;
+ghost use Rattle.vlog_productions.specs.Production.{HasTextsOf, nothing, either};
+ghost use Rattle.vlog_productions.specs.Declarations.{params, header};
+ghost use Rattle.vlog_productions.specs.Modules.{module_of, VlogText};
+
+/// The parameters of a module, and its header, which may be left out.
+pub fn headers_are_read()
+    ensures params { HasTextsOf grammar.params params }
+    ensures header { HasTextsOf grammar.header (either header (nothing (headers.Names []))) }
+{}
+
+/// Modules, with the attributes before them, and files.
+pub fn files_are_read()
+    ensures modules { (implicit : Bool) → HasTextsOf (sequence exprs.attrs (grammar.module_of implicit)) (module_of implicit) }
+    ensures file { (ts : Tokens) (file : VlogFile) → Spells tt grammar.file ts file ↔ VlogText true ts file.modules }
+{}
