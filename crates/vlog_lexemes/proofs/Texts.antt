@@ -310,3 +310,7 @@ pub told_law : (p : Place) (text : List ℕ) (found : List VFound) (last : Place
     → stream_from p text ≡ limited (whole_text found last)
 unfolding stream_from
 told_law p text found last are = ap limited (whole_complete found last p text are)
+
+pub told_cut_law : (p : Place) (text : List ℕ) (found : List VFound) → AreLexemes Fails p text found → (fault : TextFault) × (stream_from p text ≡ limited (cut_text found fault))
+unfolding stream_from
+told_cut_law p text found are = let cut = cut_complete found p text are in (cut.0, ap limited cut.1)

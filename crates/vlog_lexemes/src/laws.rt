@@ -26,3 +26,10 @@ pub fn told_tokens_are_lexemes()
         → AreLexemes (EndsAt last) p text found
         → stream_from p text ≡ limited (whole_text found last) }
 {}
+
+/// A reader tells of other texts the lexemes before the fault, and the fault, within the limit of an
+/// input.
+pub fn told_faults_are_where_no_token_stands()
+    ensures { (p : Place) (text : List ℕ) (found : List VFound) → AreLexemes Fails p text found
+        → (fault : TextFault) × (stream_from p text ≡ limited (cut_text found fault)) }
+{}

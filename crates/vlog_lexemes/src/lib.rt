@@ -11,10 +11,14 @@
 // `tokens_are_lexemes`: the tokens of bytes that have no lexical fault are exactly those by the
 // table, with their places and stops. `faults_are_where_no_token_stands`: those of other bytes are
 // so up to the first place where neither a token nor white space stands, and a lexical fault comes
-// exactly there; nothing is said here of its reason. `told_tokens_are_lexemes`: a reader tells
-// these tokens, within the limit of an input. The crate has no program of its own.
+// exactly there; nothing is said here of its reason. `told_tokens_are_lexemes`,
+// `told_faults_are_where_no_token_stands`: a reader tells these, within the limit of an input. The
+// crate has no program of its own.
 #![tactic(auto)]
 
 pub mod laws;
 
-pub use laws::{faults_are_where_no_token_stands, tokens_are_lexemes, told_tokens_are_lexemes};
+pub use laws::{
+    faults_are_where_no_token_stands, tokens_are_lexemes, told_faults_are_where_no_token_stands,
+    told_tokens_are_lexemes,
+};
