@@ -45,7 +45,8 @@ ended_there : (text : List ℕ) (n : ℕ) (next : Option ℕ) (found : Piece (Li
 ended_there text n None found e = record { value = cc; count = cc; follows = tt }
 ended_there text n (Some b) found e = by (may_follow b) refl e
   where
-    by : (t : Bool) → may_follow b ≡ t → cond t (piece text n (n + 1)) (flaw {A = Piece (List ℕ)} BadByte n (n + 1)) ≡ Ok found → Ended text n (Some b) found
+    by : (t : Bool) → may_follow b ≡ t → cond t (piece text n (n + 1)) (flaw {A = Piece (List ℕ)} BadByte n (n + 1)) ≡ Ok found
+        → Ended text n (Some b) found
     by true is e = record { value = cc; count = cc; follows = is }
     by false is e = absurd cc
 
@@ -59,7 +60,9 @@ span_there class b bs text e = by (ltb 1024 (1 + prefix_len class bs)) refl e
     n : ℕ
     n = prefix_len class bs
 
-    by : (t : Bool) → ltb 1024 (1 + prefix_len class bs) ≡ t → cond t (flaw {A = Piece (List ℕ)} TokenTooLong 0 1025) (ended (take (1 + prefix_len class bs) (b ∷ bs)) (1 + prefix_len class bs) (first (drop (1 + prefix_len class bs) (b ∷ bs)))) ≡ Ok text → Run class b bs text
+    by : (t : Bool) → ltb 1024 (1 + prefix_len class bs) ≡ t
+        → cond t (flaw {A = Piece (List ℕ)} TokenTooLong 0 1025) (ended (take (1 + prefix_len class bs) (b ∷ bs)) (1 + prefix_len class bs) (first (drop (1 + prefix_len class bs) (b ∷ bs)))) ≡ Ok text
+        → Run class b bs text
     by true is e = absurd cc
     by false is e =
         let there = ended_there (take (1 + prefix_len class bs) (b ∷ bs)) (1 + prefix_len class bs) (first (drop (1 + prefix_len class bs) (b ∷ bs))) text e in
@@ -110,28 +113,32 @@ record Text (class : ℕ → Bool) (lead : Bool) (b : ℕ) (bs : List ℕ) (text
   follows : Parts rest
   again : (other : List ℕ) → Parts other → (seen : ℕ) × (text_at class lead (b ∷ (tail ++ other)) ≡ piece text.value (suc (length tail)) seen)
 
-spelled_again : (class : ℕ → Bool) (b : ℕ) (bs : List ℕ) (text : Piece (List ℕ)) → StandsApart class → (r : Run class b bs text) (other : List ℕ) → Parts other
+spelled_again : (class : ℕ → Bool) (b : ℕ) (bs : List ℕ) (text : Piece (List ℕ)) → StandsApart class → (r : Run class b bs text) (other : List ℕ)
+    → Parts other
     → (seen : ℕ) × (span_at class 1 (b ∷ (r.tail ++ other)) ≡ piece text.value (suc (length r.tail)) seen)
 spelled_again class b bs text apart r other h =
     let a = run_again class b r.tail other r.all r.short apart h in
     (a.0, a.1 ∙ ap (λ (v : List ℕ). piece v (suc (length r.tail)) a.0) (sym r.value))
 
 -- behind the lead a byte of the class stands
-leads : (class : ℕ → Bool) (c : ℕ) (cs tail rest : List ℕ) → class c ≡ true → c ∷ cs ≡ tail ++ rest → AllPass class tail → Parts rest → StandsApart class
+leads : (class : ℕ → Bool) (c : ℕ) (cs tail rest : List ℕ) → class c ≡ true → c ∷ cs ≡ tail ++ rest → AllPass class tail → Parts rest
+    → StandsApart class
     → (other : List ℕ) (text : Result (Piece (List ℕ)) Flaw) → goes_on class (first (tail ++ other)) text ≡ text
 leads class c cs [] rest is e all h apart other text =
     let there : Parts (c ∷ cs) = subst Parts (sym e) h in
     let no = apart c there in absurd cc
 leads class c cs (d ∷ tail) rest is e all h apart other text = rw all.0 refl
 
-text_there : (class : ℕ → Bool) (lead : Bool) (b : ℕ) (bs : List ℕ) (text : Piece (List ℕ)) → StandsApart class → text_at class lead (b ∷ bs) ≡ Ok text → Text class lead b bs text
+text_there : (class : ℕ → Bool) (lead : Bool) (b : ℕ) (bs : List ℕ) (text : Piece (List ℕ)) → StandsApart class
+    → text_at class lead (b ∷ bs) ≡ Ok text → Text class lead b bs text
 text_there class false b bs text apart e =
     let r = span_there class b bs text e in
     record { tail = r.tail; rest = r.rest; parts = r.parts; count = r.count; follows = r.follows; again = spelled_again class b bs text apart r }
 text_there class true b [] text apart e = absurd cc
 text_there class true b (c ∷ cs) text apart e = by (class c) refl e
   where
-    by : (t : Bool) → class c ≡ t → cond t (span_at class 1 (b ∷ c ∷ cs)) (flaw {A = Piece (List ℕ)} BadByte 1 2) ≡ Ok text → Text class true b (c ∷ cs) text
+    by : (t : Bool) → class c ≡ t → cond t (span_at class 1 (b ∷ c ∷ cs)) (flaw {A = Piece (List ℕ)} BadByte 1 2) ≡ Ok text
+        → Text class true b (c ∷ cs) text
     by false is e = absurd cc
     by true is e =
         let r = span_there class b (c ∷ cs) text e in
@@ -159,7 +166,8 @@ record Spells (n : ℕ) (bs : List ℕ) (reading : List ℕ → Result (Piece (L
 abbrev Reads : ℕ → List ℕ → (List ℕ → Result (Piece (List ℕ)) Flaw) → Type 0
 Reads n bs reading = (text : Piece (List ℕ)) → reading bs ≡ Ok text → Spells n bs reading text
 
-reads_either : {n : ℕ} {bs : List ℕ} {f g : List ℕ → Result (Piece (List ℕ)) Flaw} (t : Bool) → Reads n bs f → Reads n bs g → Reads n bs (λ z. cond t (f z) (g z))
+reads_either : {n : ℕ} {bs : List ℕ} {f g : List ℕ → Result (Piece (List ℕ)) Flaw} (t : Bool) → Reads n bs f → Reads n bs g
+    → Reads n bs (λ z. cond t (f z) (g z))
 reads_either true h k = h
 reads_either false h k = k
 
@@ -169,7 +177,8 @@ reads_none reason before seen text e = absurd cc
 reads_end : {bs : List ℕ} (v : List ℕ) (n : ℕ) → Reads n bs (λ z. piece v n n)
 reads_end {bs} v n text e = record { used = []; rest = bs; parts = refl; count = let k : n ≡ text.count = cc in omega (arith, k); again = λ other. e }
 
-reads_byte : (n b : ℕ) (bs : List ℕ) (reading behind : List ℕ → Result (Piece (List ℕ)) Flaw) → Reads (n + 1) bs behind → ((z : List ℕ) → reading (b ∷ z) ≡ behind z) → Reads n (b ∷ bs) reading
+reads_byte : (n b : ℕ) (bs : List ℕ) (reading behind : List ℕ → Result (Piece (List ℕ)) Flaw) → Reads (n + 1) bs behind
+    → ((z : List ℕ) → reading (b ∷ z) ≡ behind z) → Reads n (b ∷ bs) reading
 reads_byte n b bs reading behind h same text e =
     let s = h text (sym (same bs) ∙ e) in
     record {
@@ -186,7 +195,8 @@ string_reads within.Parts v n [] = λ text e. absurd cc
 string_reads (Escape s coded) v n [] = λ text e. absurd cc
 string_reads (Code s code) v n [] = λ text e. by (is_full v) text e
   where
-    by : (t : Bool) (text : Piece (List ℕ)) → cond t (flaw {A = Piece (List ℕ)} TokenTooLong 0 n) (flaw EndOfInput n n) ≡ Ok text → Spells n [] (string_at (Code s code) v n) text
+    by : (t : Bool) (text : Piece (List ℕ)) → cond t (flaw {A = Piece (List ℕ)} TokenTooLong 0 n) (flaw EndOfInput n n) ≡ Ok text
+        → Spells n [] (string_at (Code s code) v n) text
     by true text e = absurd cc
     by false text e = absurd cc
 string_reads within.Parts v n (b ∷ bs) =
@@ -214,9 +224,11 @@ pub record Token-again (start : Start) (b : ℕ) (bs : List ℕ) (token : Piece 
   pub rest : List ℕ
   pub parts : bs ≡ tail ++ rest
   pub count : token.count ≡ suc (length tail)
-  pub again : (other : List ℕ) → (Parts rest → Parts other) → (seen : ℕ) × (token_by start (b ∷ (tail ++ other)) ≡ piece token.value (suc (length tail)) seen)
+  pub again : (other : List ℕ) → (Parts rest → Parts other)
+      → (seen : ℕ) × (token_by start (b ∷ (tail ++ other)) ≡ piece token.value (suc (length tail)) seen)
 
-mark_again : (start : Start) (b : ℕ) (bs : List ℕ) (x : Token) (token : Piece Token) → ((z : List ℕ) → token_by start z ≡ piece x 1 1) → token_by start (b ∷ bs) ≡ Ok token → Token-again start b bs token
+mark_again : (start : Start) (b : ℕ) (bs : List ℕ) (x : Token) (token : Piece Token) → ((z : List ℕ) → token_by start z ≡ piece x 1 1)
+    → token_by start (b ∷ bs) ≡ Ok token → Token-again start b bs token
 mark_again start b bs x token spelled e =
     let is : piece x 1 1 ≡ Ok token = sym (spelled (b ∷ bs)) ∙ e in
     record { tail = []; rest = bs; parts = refl; count = cc is; again = λ other h. (1, spelled (b ∷ other) ∙ value is) }
@@ -224,7 +236,9 @@ mark_again start b bs x token spelled e =
     value : piece x 1 1 ≡ Ok token → piece x 1 1 ≡ piece token.value 1 1
     value is = cc
 
-word_again : (start : Start) (lead : Bool) (b : ℕ) (bs : List ℕ) (token : Piece Token) → ((z : List ℕ) → token_by start z ≡ (text_at is_word_byte lead z >>= word_of)) → token_by start (b ∷ bs) ≡ Ok token → Token-again start b bs token
+word_again : (start : Start) (lead : Bool) (b : ℕ) (bs : List ℕ) (token : Piece Token)
+    → ((z : List ℕ) → token_by start z ≡ (text_at is_word_byte lead z >>= word_of)) → token_by start (b ∷ bs) ≡ Ok token
+    → Token-again start b bs token
 word_again start lead b bs token spelled e = by (text_at is_word_byte lead (b ∷ bs)) refl (sym (spelled (b ∷ bs)) ∙ e)
   where
     by : (r : Result (Piece (List ℕ)) Flaw) → text_at is_word_byte lead (b ∷ bs) ≡ r → (r >>= word_of) ≡ Ok token → Token-again start b bs token
@@ -243,10 +257,13 @@ word_again start lead b bs token spelled e = by (text_at is_word_byte lead (b �
               (a.0, spelled (b ∷ (t.tail ++ other)) ∙ (rw a.1 (ap (λ (v : Token). piece v (suc (length t.tail)) a.0) value)));
         }
 
-number_again : (start : Start) (lead : Bool) (b : ℕ) (bs : List ℕ) (token : Piece Token) → ((z : List ℕ) → token_by start z ≡ (text_at is_ascii_digit lead z >>= number_of)) → token_by start (b ∷ bs) ≡ Ok token → Token-again start b bs token
+number_again : (start : Start) (lead : Bool) (b : ℕ) (bs : List ℕ) (token : Piece Token)
+    → ((z : List ℕ) → token_by start z ≡ (text_at is_ascii_digit lead z >>= number_of)) → token_by start (b ∷ bs) ≡ Ok token
+    → Token-again start b bs token
 number_again start lead b bs token spelled e = by (text_at is_ascii_digit lead (b ∷ bs)) refl (sym (spelled (b ∷ bs)) ∙ e)
   where
-    of_value : (text : Piece (List ℕ)) (z : Option ℤ) → text_at is_ascii_digit lead (b ∷ bs) ≡ Ok text → integer_of text.value ≡ z → number_or_range text z ≡ Ok token → Token-again start b bs token
+    of_value : (text : Piece (List ℕ)) (z : Option ℤ) → text_at is_ascii_digit lead (b ∷ bs) ≡ Ok text → integer_of text.value ≡ z
+        → number_or_range text z ≡ Ok token → Token-again start b bs token
     of_value text None is number e = absurd cc
     of_value text (Some z) is number e =
         let t = text_there is_ascii_digit lead b bs text follows_no_digit is in

@@ -33,7 +33,8 @@ unfolding interface_note
 interface_note_alike q table = (note_alike q table, λ _. tt)
 
 interface_item_alike : (q : Keyword) → Alike (interface_item q)
-interface_item_alike q = either_alike (same_keyword q k.Port) _ _ interface_port_alike (either_alike (same_keyword q k.Property) _ _ interface_property_alike (either_alike (same_keyword q k.Designator) _ _ interface_designator_alike (interface_note_alike q)))
+interface_item_alike q =
+    either_alike (same_keyword q k.Port) _ _ interface_port_alike (either_alike (same_keyword q k.Property) _ _ interface_property_alike (either_alike (same_keyword q k.Designator) _ _ interface_designator_alike (interface_note_alike q)))
 
 interface_rest_alike : Alike (interface_rest [])
 unfolding interface_rest
@@ -56,7 +57,8 @@ unfolding contents_note
 contents_note_alike q table = (note_alike q table, λ _. tt)
 
 contents_item_alike : (q : Keyword) → Alike (contents_item q)
-contents_item_alike q = either_alike (same_keyword q k.Instance) _ _ contents_instance_alike (either_alike (same_keyword q k.Net) _ _ contents_net_alike (contents_note_alike q))
+contents_item_alike q =
+    either_alike (same_keyword q k.Instance) _ _ contents_instance_alike (either_alike (same_keyword q k.Net) _ _ contents_net_alike (contents_note_alike q))
 
 contents_rest_alike : Alike (contents_rest [])
 unfolding contents_rest
@@ -79,7 +81,8 @@ unfolding view_note
 view_note_alike q table = (note_alike q table, λ _. tt)
 
 view_item_alike : (q : Keyword) → Alike (view_item q)
-view_item_alike q = either_alike (same_keyword q k.Contents) _ _ view_contents_alike (either_alike (same_keyword q k.Property) _ _ view_property_alike (either_alike (same_keyword q k.Status) _ _ view_status_alike (view_note_alike q)))
+view_item_alike q =
+    either_alike (same_keyword q k.Contents) _ _ view_contents_alike (either_alike (same_keyword q k.Property) _ _ view_property_alike (either_alike (same_keyword q k.Status) _ _ view_status_alike (view_note_alike q)))
 
 view_rest_alike : Alike (view_rest [])
 unfolding view_rest
@@ -114,7 +117,8 @@ unfolding cell_note
 cell_note_alike q table = (note_alike q table, λ _. tt)
 
 cell_item_alike : (q : Keyword) → Alike (cell_item q)
-cell_item_alike q = either_alike (same_keyword q k.View) _ _ cell_view_alike (either_alike (same_keyword q k.Property) _ _ cell_property_alike (either_alike (same_keyword q k.Status) _ _ cell_status_alike (cell_note_alike q)))
+cell_item_alike q =
+    either_alike (same_keyword q k.View) _ _ cell_view_alike (either_alike (same_keyword q k.Property) _ _ cell_property_alike (either_alike (same_keyword q k.Status) _ _ cell_status_alike (cell_note_alike q)))
 
 cell_rest_alike : Alike (cell_rest [])
 unfolding cell_rest
@@ -161,7 +165,8 @@ unfolding library_note
 library_note_alike q table = (note_alike q table, λ _. tt)
 
 library_item_alike : (q : Keyword) → Alike (library_item q)
-library_item_alike q = either_alike (same_keyword q k.Cell) _ _ library_cell_alike (either_alike (same_keyword q k.Status) _ _ library_status_alike (library_note_alike q))
+library_item_alike q =
+    either_alike (same_keyword q k.Cell) _ _ library_cell_alike (either_alike (same_keyword q k.Status) _ _ library_status_alike (library_note_alike q))
 
 library_rest_alike : Alike (library_rest [])
 unfolding library_rest
@@ -192,7 +197,8 @@ unfolding design_note
 design_note_alike q table = (note_alike q table, λ _. tt)
 
 design_item_alike : (q : Keyword) → Alike (design_item q)
-design_item_alike q = either_alike (same_keyword q k.Property) _ _ design_property_alike (either_alike (same_keyword q k.Status) _ _ design_status_alike (design_note_alike q))
+design_item_alike q =
+    either_alike (same_keyword q k.Property) _ _ design_property_alike (either_alike (same_keyword q k.Status) _ _ design_status_alike (design_note_alike q))
 
 design_rest_alike : Alike (design_rest [])
 unfolding design_rest
@@ -219,7 +225,8 @@ unfolding file_note
 file_note_alike q table = (note_alike q table, λ _. tt)
 
 file_item_alike : (q : Keyword) → Alike (file_item q)
-file_item_alike q = either_alike (same_keyword q k.Library) _ _ (file_library_alike false) (either_alike (same_keyword q k.External) _ _ (file_library_alike true) (either_alike (same_keyword q k.Design) _ _ file_design_alike (either_alike (same_keyword q k.Status) _ _ file_status_alike (file_note_alike q))))
+file_item_alike q =
+    either_alike (same_keyword q k.Library) _ _ (file_library_alike false) (either_alike (same_keyword q k.External) _ _ (file_library_alike true) (either_alike (same_keyword q k.Design) _ _ file_design_alike (either_alike (same_keyword q k.Status) _ _ file_status_alike (file_note_alike q))))
 
 file_rest_alike : Alike (file_rest [])
 unfolding file_rest

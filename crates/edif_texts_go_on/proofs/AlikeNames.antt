@@ -36,7 +36,8 @@ plain_port_alike table = (plain_alike table, λ _. tt)
 
 pub port_name_alike : Alike port_name
 unfolding port_name
-port_name_alike = form_or_alike _ (λ q. port_form (same_keyword q k.Array)) plain_port (λ q. port_form_alike (same_keyword q k.Array)) plain_port_alike
+port_name_alike =
+    form_or_alike _ (λ q. port_form (same_keyword q k.Array)) plain_port (λ q. port_form_alike (same_keyword q k.Array)) plain_port_alike
 
 exponential_alike : Alike exponential
 unfolding exponential
@@ -104,7 +105,8 @@ tree_rest_alike inner Opens h table = (h table, λ _. tt)
 
 trees_by_alike : (room : ℕ) (inner : Edif (List UserTree)) (so_far : List UserTree) → Alike inner → Alike (trees_by room inner so_far)
 unfolding trees_by
-trees_by_alike room inner so_far h = while_alike (tree_of room) _ (λ so_far. sequence closing (λ _. gives so_far)) so_far (λ s c table. (tree_rest_alike inner c h table, λ _. tt)) end_alike
+trees_by_alike room inner so_far h =
+    while_alike (tree_of room) _ (λ so_far. sequence closing (λ _. gives so_far)) so_far (λ s c table. (tree_rest_alike inner c h table, λ _. tt)) end_alike
 
 trees_alike : (room : ℕ) (so_far : List UserTree) → Alike (trees room so_far)
 unfolding trees
@@ -130,7 +132,8 @@ note_alike q = either_alike (same_keyword q k.Comment) remark user_note remark_a
 
 stamp_alike : Alike stamp
 unfolding stamp clock
-stamp_alike table = (integer_alike table, λ _. (integer_alike table, λ _. (integer_alike table, λ _. (integer_alike table, λ _. (integer_alike table, λ _. (integer_alike table, λ _. (closing_alike table, λ _. tt)))))))
+stamp_alike table =
+    (integer_alike table, λ _. (integer_alike table, λ _. (integer_alike table, λ _. (integer_alike table, λ _. (integer_alike table, λ _. (integer_alike table, λ _. (closing_alike table, λ _. tt)))))))
 
 version_text_alike : Alike version_text
 unfolding version_text

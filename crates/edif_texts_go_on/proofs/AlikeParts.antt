@@ -38,17 +38,20 @@ one_alike f table (proper x) (end q) e = absurd e
 one_alike f table (end p) (proper y) e = absurd e
 one_alike f table (end p) (end q) e = refl
 
-look_alike : {C : Type 0} (f : Token → Glance C Reason) (x y : Terminal Found Place) → SameToken x y → at_token (λ x. f x.token) x ≡ at_token (λ x. f x.token) y
+look_alike : {C : Type 0} (f : Token → Glance C Reason) (x y : Terminal Found Place) → SameToken x y
+    → at_token (λ x. f x.token) x ≡ at_token (λ x. f x.token) y
 look_alike f (proper x) (proper y) e = ap f e
 look_alike f (proper x) (end q) e = absurd e
 look_alike f (end p) (proper y) e = absurd e
 look_alike f (end p) (end q) e = refl
 
-pub if_alike : {A C : Type 0} (f : Token → Glance C Reason) (p : C → Edif A) (q : Edif A) → ((c : C) → Alike (p c)) → Alike q → Alike (if_next (λ _ x. f x.token) p q)
+pub if_alike : {A C : Type 0} (f : Token → Glance C Reason) (p : C → Edif A) (q : Edif A) → ((c : C) → Alike (p c)) → Alike q
+    → Alike (if_next (λ _ x. f x.token) p q)
 unfolding if_next
 if_alike f p q h l table = (look_alike f, λ x c i. h c table, l table)
 
-pub while_alike : {A C S : Type 0} (f : Token → Glance C Reason) (q : S → C → Edif S) (e : S → Edif A) (s : S) → ((s : S) (c : C) → Alike (q s c)) → ((s : S) → Alike (e s)) → Alike (while_next (λ _ _ x. f x.token) q e s)
+pub while_alike : {A C S : Type 0} (f : Token → Glance C Reason) (q : S → C → Edif S) (e : S → Edif A) (s : S) → ((s : S) (c : C) → Alike (q s c))
+    → ((s : S) → Alike (e s)) → Alike (while_next (λ _ _ x. f x.token) q e s)
 unfolding while_next
 while_alike f q e s h l table = (λ s. look_alike f, λ s x c i. h s c table, λ s. l s table)
 
@@ -86,15 +89,19 @@ begin_alike allowed table = (opening_alike table, λ _. keyword_alike allowed ta
 pub end_alike : {A : Type 0} (a : A) → Alike (sequence closing (λ _. gives a))
 end_alike a table = (closing_alike table, λ _. tt)
 
-pub form_or_alike : {A : Type 0} (allowed : List Keyword) (rest : Keyword → Edif A) (other : Edif A) → ((q : Keyword) → Alike (rest q)) → Alike other → Alike (form_or allowed rest other)
+pub form_or_alike : {A : Type 0} (allowed : List Keyword) (rest : Keyword → Edif A) (other : Edif A) → ((q : Keyword) → Alike (rest q)) → Alike other
+    → Alike (form_or allowed rest other)
 unfolding form_or
-form_or_alike allowed rest other h l = if_alike say.at_opening (λ _. sequence (keyword allowed) rest) other (λ _ table. (keyword_alike allowed table, λ q. h q table)) l
+form_or_alike allowed rest other h l =
+    if_alike say.at_opening (λ _. sequence (keyword allowed) rest) other (λ _ table. (keyword_alike allowed table, λ q. h q table)) l
 
-pub forms_alike : {S A : Type 0} (round : S → Edif S) (rest : S → Edif A) (s : S) → ((s : S) → Alike (round s)) → ((s : S) → Alike (rest s)) → Alike (forms round rest s)
+pub forms_alike : {S A : Type 0} (round : S → Edif S) (rest : S → Edif A) (s : S) → ((s : S) → Alike (round s)) → ((s : S) → Alike (rest s))
+    → Alike (forms round rest s)
 unfolding forms
 forms_alike round rest s h l = while_alike say.at_opening (λ s _. round s) rest s (λ s _. h s) l
 
-pub items_alike : {I : Type 0} (allowed : List I → List Keyword) (rest : Keyword → Edif I) (so_far : List I) → ((q : Keyword) → Alike (rest q)) → Alike (items allowed rest so_far)
+pub items_alike : {I : Type 0} (allowed : List I → List Keyword) (rest : Keyword → Edif I) (so_far : List I) → ((q : Keyword) → Alike (rest q))
+    → Alike (items allowed rest so_far)
 unfolding items
 items_alike allowed rest so_far h =
     forms_alike (λ so_far. sequence (sequence (keyword (allowed so_far)) rest) (λ i. gives (so_far ++ i ∷ []))) (λ so_far. sequence closing (λ _. gives so_far)) so_far
@@ -102,7 +109,8 @@ items_alike allowed rest so_far h =
 
 pub comment_alike : Alike comment
 unfolding strings
-comment_alike = while_alike say.at_string (λ so_far s. gives (so_far ++ s ∷ [])) (λ so_far. sequence closing (λ _. gives so_far)) [] (λ s c table. tt) end_alike
+comment_alike =
+    while_alike say.at_string (λ so_far s. gives (so_far ++ s ∷ [])) (λ so_far. sequence closing (λ _. gives so_far)) [] (λ s c table. tt) end_alike
 
 -- ---- the header
 
@@ -120,7 +128,8 @@ version_alike table =
 
 keyword_level_alike : Alike keyword_level
 unfolding keyword_level
-keyword_level_alike table = (begin_alike (k.KeywordLevel ∷ []) table, λ _. (one_alike (λ _ t. say.keyword_level_of t) table, λ n. (closing_alike table, λ _. tt)))
+keyword_level_alike table =
+    (begin_alike (k.KeywordLevel ∷ []) table, λ _. (one_alike (λ _ t. say.keyword_level_of t) table, λ n. (closing_alike table, λ _. tt)))
 
 alias_alike : (t : List Alias) → Alike (alias t)
 unfolding alias

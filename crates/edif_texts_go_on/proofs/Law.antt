@@ -61,7 +61,8 @@ limited_front : (xs : List Found) (e : streams.Finish) → (others : List Found)
 limited_front [] e = ([], refl)
 limited_front (x ∷ xs) e = by (ltb LIMIT x.stop) (limited_front xs e)
   where
-    by : (t : Bool) → ((others : List Found) × (xs ≡ (limited_from stop_of xs e).tokens ++ others)) → (others : List Found) × (x ∷ xs ≡ (cond t (ends streams.Over) (follow x (limited_from stop_of xs e))).tokens ++ others)
+    by : (t : Bool) → ((others : List Found) × (xs ≡ (limited_from stop_of xs e).tokens ++ others))
+        → (others : List Found) × (x ∷ xs ≡ (cond t (ends streams.Over) (follow x (limited_from stop_of xs e))).tokens ++ others)
     by true r = (x ∷ xs, refl)
     by false r = (r.0, ap (λ (z : List Found). x ∷ z) r.1)
 
@@ -79,7 +80,8 @@ split bs front rest e =
 cons_is : {A : Type 0} (y z : A) (ys zs : List A) → y ≡ z → ys ≡ zs → y ∷ ys ≡ z ∷ zs
 cons_is y z ys zs e f = cc
 
-more_tokens : (more before : Tokens) (p : Place) → AllOf IsToken before → more ≡ before ++ end p ∷ [] → (xs : List Found) × (more ≡ map proper xs ++ end p ∷ [])
+more_tokens : (more before : Tokens) (p : Place) → AllOf IsToken before → more ≡ before ++ end p ∷ []
+    → (xs : List Found) × (more ≡ map proper xs ++ end p ∷ [])
 more_tokens more [] p all e = ([], e)
 more_tokens more (end q ∷ before) p all e = absurd all.0
 more_tokens [] (proper x ∷ before) p all e = absurd cc
@@ -88,7 +90,8 @@ more_tokens (y ∷ more) (proper x ∷ before) p all e =
     let is : y ≡ proper x = cc in
     (x ∷ r.0, cons_is y (proper x) more (map proper r.0 ++ end p ∷ []) is r.1)
 
-behind_front : (front : List Found) (more before : Tokens) (p : Place) → AllOf IsToken before → map proper front ++ more ≡ before ++ end p ∷ [] → (xs : List Found) × (more ≡ map proper xs ++ end p ∷ [])
+behind_front : (front : List Found) (more before : Tokens) (p : Place) → AllOf IsToken before → map proper front ++ more ≡ before ++ end p ∷ []
+    → (xs : List Found) × (more ≡ map proper xs ++ end p ∷ [])
 behind_front [] more before p all e = more_tokens more before p all e
 behind_front (x ∷ front) more [] p all e = absurd cc
 behind_front (x ∷ front) more (y ∷ before) p all e = behind_front front more before p all.1 cc
@@ -118,11 +121,13 @@ same_back (x ∷ xs) [] h = absurd h
 same_back (x ∷ xs) (y ∷ ys) h = (sym h.0.token, same_back xs ys h.1)
 
 -- what a stream shows ends a text as these tokens do
-shown : (s : Stream Found) (xs : List Found) (p : Place) → Shows s (values xs) → AreAlike SameToken (map proper xs ++ end p ∷ []) (ahead_of s).tokens × ((ahead_of s).finish ≡ Done)
+shown : (s : Stream Found) (xs : List Found) (p : Place) → Shows s (values xs)
+    → AreAlike SameToken (map proper xs ++ end p ∷ []) (ahead_of s).tokens × ((ahead_of s).finish ≡ Done)
 shown s xs p h = by s.finish h.1
   where
     by : (e : streams.Finish) → EndsWell e → AreAlike SameToken (map proper xs ++ end p ∷ []) (map proper s.tokens ++ last e) × (finish_of e ≡ Done)
-    by (streams.End q) w = (alike_both SameToken (map proper xs) (end p ∷ []) (map proper s.tokens) (end q ∷ []) (same_values xs s.tokens h.0) (tt, tt), refl)
+    by (streams.End q) w =
+        (alike_both SameToken (map proper xs) (end p ∷ []) (map proper s.tokens) (end q ∷ []) (same_values xs s.tokens h.0) (tt, tt), refl)
     by (streams.Bad f) w = absurd w
     by streams.Over w = absurd w
 
@@ -131,7 +136,8 @@ both_proper [] b = refl
 both_proper (x ∷ a) b = ap (λ (z : Tokens). proper x ∷ z) (both_proper a b)
 
 joined : (same : List Found) (s : Stream Found) → (ahead_of (followed same s)).tokens ≡ map proper same ++ (ahead_of s).tokens
-joined same s = ap (λ (z : Tokens). z ++ last s.finish) (both_proper same s.tokens) ∙ append_assoc (map proper same) (map proper s.tokens) (last s.finish)
+joined same s =
+    ap (λ (z : Tokens). z ++ last s.finish) (both_proper same s.tokens) ∙ append_assoc (map proper same) (map proper s.tokens) (last s.finish)
 
 -- ---- the text
 
@@ -178,7 +184,8 @@ module _ (bs : List ℕ) (front : List Found) (s : Splits place_at_start bs fron
       subst (λ (z : Stream Found). IsText [] text (ahead_of z) v) (sym there.2) is
 
   bytes_text : AreBytes bs → AreBytes whole_text
-  bytes_text all = bytes_both s.used (32 ∷ tokens_text (values xs)) (front_bytes s.used s.rest (subst AreBytes s.parts all)) (omega arith, tokens_bytes (values xs) good)
+  bytes_text all =
+      bytes_both s.used (32 ∷ tokens_text (values xs)) (front_bytes s.used s.rest (subst AreBytes s.parts all)) (omega arith, tokens_bytes (values xs) good)
 
   pub to_file : (p : Place) (v : EdifFile) → Spells [] text (map proper front ++ (map proper xs ++ end p ∷ [])) v → GoesOnToFile bs front
   to_file p v h = let spelled = spells_text p v h in (whole_text, v, goes_on_from, bytes_text, spelled, λ le. (reads whole_text v).1 (spelled, le))
@@ -190,13 +197,17 @@ by_proper bs front rest e h =
     let good = proper_values b.0 n.1 (subst (AllOf CanStand) b.1 h.2) in
     to_file bs front (split bs front rest e) b.0 good n.1 h.1 (subst (λ (z : Tokens). Spells [] text (map proper front ++ z) h.1) b.1 h.3)
 
-ahead_front : (s : Stream Found) (front rest : List Found) → s.tokens ≡ front ++ rest → (ahead_of s).tokens ≡ map proper front ++ (map proper rest ++ last s.finish)
-ahead_front s front rest e = ap (λ (z : List Found). map proper z ++ last s.finish) e ∙ ap (λ (z : Tokens). z ++ last s.finish) (both_proper front rest) ∙ append_assoc (map proper front) (map proper rest) (last s.finish)
+ahead_front : (s : Stream Found) (front rest : List Found) → s.tokens ≡ front ++ rest
+    → (ahead_of s).tokens ≡ map proper front ++ (map proper rest ++ last s.finish)
+ahead_front s front rest e =
+    ap (λ (z : List Found). map proper z ++ last s.finish) e ∙ ap (λ (z : Tokens). z ++ last s.finish) (both_proper front rest)
+    ∙ append_assoc (map proper front) (map proper rest) (last s.finish)
 
 -- ---- the laws
 
 pub goes_on : (bs : List ℕ) (front rest : List Found) → (tokens bs).tokens ≡ front ++ rest → Begins [] text (map proper front) → GoesOnToFile bs front
-goes_on bs front rest e h = by_proper bs front rest e (front_goes_on bs (map proper front) (map proper rest ++ last (tokens bs).finish) (ahead_front (tokens bs) front rest e) h)
+goes_on bs front rest e h =
+    by_proper bs front rest e (front_goes_on bs (map proper front) (map proper rest ++ last (tokens bs).finish) (ahead_front (tokens bs) front rest e) h)
 
 begins : (bs : List ℕ) (front : List Found) → GoesOnToFile bs front → Begins [] text (map proper front)
 begins bs front h =
@@ -222,11 +233,14 @@ at_end : (p q : Place) (reason : Reason) (f : TextFault) → q ≡ p → f ≡ f
 at_end p q reason f same is = (ap (λ (z : TextFault). z.place) is ∙ same, ap (λ (z : TextFault). z.stop) is ∙ ap (λ (z : Place). z.offset) same)
 
 at_same : (x y : Found) (reason : Reason) (f : TextFault) → x ≡ y → f ≡ fault_at edif (proper y) reason → (f.place ≡ x.place) × (f.stop ≡ x.stop)
-at_same x y reason f same is = (ap (λ (z : TextFault). z.place) is ∙ ap (λ (z : Found). z.place) (sym same), ap (λ (z : TextFault). z.stop) is ∙ ap (λ (z : Found). z.stop) (sym same))
+at_same x y reason f same is =
+    (ap (λ (z : TextFault). z.place) is ∙ ap (λ (z : Found). z.place) (sym same), ap (λ (z : TextFault). z.stop) is ∙ ap (λ (z : Found). z.stop) (sym same))
 
-before_token : (xs : List Found) (e : streams.Finish) (before after : Tokens) (x : Terminal Found Place) (reason : Reason) (f : TextFault) → map proper xs ++ last e ≡ before ++ x ∷ after → f ≡ fault_at edif x reason
+before_token : (xs : List Found) (e : streams.Finish) (before after : Tokens) (x : Terminal Found Place) (reason : Reason) (f : TextFault)
+    → map proper xs ++ last e ≡ before ++ x ∷ after → f ≡ fault_at edif x reason
     → Before (record { tokens = xs; finish = e }) before f
-before_token [] (streams.End p) [] after (end q) reason f e is = let same : q ≡ p = cc in record { front = []; rest = []; parts = refl; are = refl; stands = at_end p q reason f same is }
+before_token [] (streams.End p) [] after (end q) reason f e is =
+    let same : q ≡ p = cc in record { front = []; rest = []; parts = refl; are = refl; stands = at_end p q reason f same is }
 before_token [] (streams.End p) [] after (proper y) reason f e is = absurd cc
 before_token [] (streams.End p) (y ∷ []) after x reason f e is = absurd cc
 before_token [] (streams.End p) (y ∷ z ∷ before) after x reason f e is = absurd cc
@@ -235,7 +249,8 @@ before_token [] (streams.Bad g) (y ∷ before) after x reason f e is = absurd cc
 before_token [] streams.Over [] after x reason f e is = absurd cc
 before_token [] streams.Over (y ∷ before) after x reason f e is = absurd cc
 before_token (x ∷ xs) finish [] after (end q) reason f e is = absurd cc
-before_token (x ∷ xs) finish [] after (proper y) reason f e is = let same : x ≡ y = cc in record { front = []; rest = x ∷ xs; parts = refl; are = refl; stands = at_same x y reason f same is }
+before_token (x ∷ xs) finish [] after (proper y) reason f e is =
+    let same : x ≡ y = cc in record { front = []; rest = x ∷ xs; parts = refl; are = refl; stands = at_same x y reason f same is }
 before_token (x ∷ xs) finish (y ∷ before) after z reason f e is =
     let tail : map proper xs ++ last finish ≡ before ++ z ∷ after = cc in
     let b = before_token xs finish before after z reason f tail is in
@@ -248,7 +263,8 @@ before_fault bs f (at_token x reason h e) =
     (b.front, b.rest, b.parts, b.stands, goes_on bs b.front b.rest b.parts (subst (Begins [] text) b.are h.goes_on))
 before_fault bs f (at_bad h e) = by (tokens bs).finish refl h e
   where
-    by : (finish : streams.Finish) → (tokens bs).finish ≡ finish → Begins [] text (map proper (tokens bs).tokens ++ last finish) → finish_of finish ≡ cuts.Bad f → GoesOnBefore bs f
+    by : (finish : streams.Finish) → (tokens bs).finish ≡ finish → Begins [] text (map proper (tokens bs).tokens ++ last finish)
+        → finish_of finish ≡ cuts.Bad f → GoesOnBefore bs f
     by (streams.End p) is h e = absurd cc
     by streams.Over is h e = absurd cc
     by (streams.Bad g) is h e =

@@ -68,13 +68,15 @@ word_bytes (b ∷ w) h = let p = and_true (is_word_byte b) (list_all is_word_byt
 identifier_bytes : (w : List ℕ) → is_identifier w ≡ true → AreBytes w
 identifier_bytes [] h = tt
 identifier_bytes (b ∷ []) h = (letter_small b h, tt)
-identifier_bytes (b ∷ c ∷ w) h = let p = and_true (is_letter b || b == 38) (list_all is_word_byte (c ∷ w)) h in (first_small b p.0, word_bytes (c ∷ w) p.1)
+identifier_bytes (b ∷ c ∷ w) h =
+    let p = and_true (is_letter b || b == 38) (list_all is_word_byte (c ∷ w)) h in (first_small b p.0, word_bytes (c ∷ w) p.1)
 
 digit_small : (d : ℕ) → d < 10 → 48 + d < 256
 digit_small d h = omega (arith, h)
 
 decimal_bytes : (n : ℕ) → n < 2 ^ 64 → AreBytes (decimal n)
-decimal_bytes = decimal_by_steps (λ m ds. AreBytes ds) (λ m l. (digit_small m l, tt)) (λ m ds l h. bytes_both ds ((48 + m % 10) ∷ []) h (digit_small (m % 10) (omega arith), tt))
+decimal_bytes =
+    decimal_by_steps (λ m ds. AreBytes ds) (λ m l. (digit_small m l, tt)) (λ m ds l h. bytes_both ds ((48 + m % 10) ∷ []) h (digit_small (m % 10) (omega arith), tt))
 
 number_bytes : (z : ℤ) → IsProper (Number z) → AreBytes (signed_decimal z)
 number_bytes (pos n) good = decimal_bytes n (omega (arith, good))
@@ -86,11 +88,14 @@ written_bytes false [] rest all h = (omega arith, h)
 written_bytes true [] rest all h = (omega arith, (omega arith, h))
 written_bytes coded (b ∷ s) rest all h = by coded (is_plain b) refl (written_bytes false s rest all.1 h) (written_bytes true s rest all.1 h)
   where
-    by : (coded plain : Bool) → is_plain b ≡ plain → AreBytes (written false s rest) → AreBytes (written true s rest) → AreBytes (written coded (b ∷ s) rest)
+    by : (coded plain : Bool) → is_plain b ≡ plain → AreBytes (written false s rest) → AreBytes (written true s rest)
+        → AreBytes (written coded (b ∷ s) rest)
     by false true e on codes = rw e (all.0, on)
     by true true e on codes = rw e (omega arith, (all.0, on))
-    by false false e on codes = rw e (omega arith, bytes_both (decimal b) (written true s rest) (decimal_bytes b (let l = all.0 in omega (arith, l))) codes)
-    by true false e on codes = rw e (omega arith, bytes_both (decimal b) (written true s rest) (decimal_bytes b (let l = all.0 in omega (arith, l))) codes)
+    by false false e on codes =
+        rw e (omega arith, bytes_both (decimal b) (written true s rest) (decimal_bytes b (let l = all.0 in omega (arith, l))) codes)
+    by true false e on codes =
+        rw e (omega arith, bytes_both (decimal b) (written true s rest) (decimal_bytes b (let l = all.0 in omega (arith, l))) codes)
 
 token_bytes : (x : Token) (rest : List ℕ) → IsProper x → AreBytes rest → AreBytes (token_text x rest)
 token_bytes LeftParen rest good h = (omega arith, h)

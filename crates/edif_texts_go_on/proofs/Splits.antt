@@ -25,7 +25,8 @@ record Next (p : Place) (bs : List ℕ) (x : Found) (others : List Found) : Type
   rest : List ℕ
   parts : bs ≡ used ++ rest
   behind : (tokens_from 0 (place_past p used) rest).tokens ≡ others
-  again : (other : List ℕ) → (Parts rest → Parts other) → (y : Found) × IsSame x y × (tokens_from 0 p (used ++ other) ≡ follow y (tokens_from 0 (place_past p used) other))
+  again : (other : List ℕ) → (Parts rest → Parts other)
+      → (y : Found) × IsSame x y × (tokens_from 0 p (used ++ other) ≡ follow y (tokens_from 0 (place_past p used) other))
 
 tokens_behind : (p : Place) (used rest : List ℕ) → tokens_from (length used) p (used ++ rest) ≡ tokens_from 0 (place_past p used) rest
 unfolding tokens_from
@@ -41,7 +42,8 @@ first_token : (p : Place) (b : ℕ) (bs : List ℕ) (value : Token) (count seen 
 unfolding tokens_from
 first_token p b bs value count seen space spelled = rw (space, spelled) refl
 
-behind_token : (p : Place) (b : ℕ) (tail rest : List ℕ) (value : Token) (seen : ℕ) → is_space b ≡ false → token_at b (tail ++ rest) ≡ piece value (suc (length tail)) seen
+behind_token : (p : Place) (b : ℕ) (tail rest : List ℕ) (value : Token) (seen : ℕ) → is_space b ≡ false
+    → token_at b (tail ++ rest) ≡ piece value (suc (length tail)) seen
     → tokens_from 0 p (b ∷ (tail ++ rest)) ≡ follow (found_at p (record { value = value; count = suc (length tail); seen = seen })) (tokens_from 0 (place_past (place_after p b) tail) rest)
 behind_token p b tail rest value seen space spelled =
     let here : Found = found_at p (record { value = value; count = suc (length tail); seen = seen }) in
@@ -50,7 +52,8 @@ behind_token p b tail rest value seen space spelled =
     ∙ ap (λ (n : ℕ). follow here (tokens_from n (place_after p b) (tail ++ rest))) less
     ∙ ap (λ (s : Stream Found). follow here s) (tokens_behind (place_after p b) tail rest)
 
-next_space : (p : Place) (b : ℕ) (bs : List ℕ) (x : Found) (others : List Found) → is_space b ≡ true → Next (place_after p b) bs x others → Next p (b ∷ bs) x others
+next_space : (p : Place) (b : ℕ) (bs : List ℕ) (x : Found) (others : List Found) → is_space b ≡ true → Next (place_after p b) bs x others
+    → Next p (b ∷ bs) x others
 next_space p b bs x others is n = record {
   used = b ∷ n.used;
   rest = n.rest;
@@ -71,7 +74,8 @@ next_token p b bs x others token space spelled e =
     let counted = t.count in
     let less : token.count - 1 ≡ length t.tail = omega (arith, counted) in
     let behind : tokens_from (token.count - 1) (place_after p b) bs ≡ tokens_from 0 (place_past (place_after p b) t.tail) t.rest =
-    ap (λ (n : ℕ). tokens_from n (place_after p b) bs) less ∙ ap (λ (z : List ℕ). tokens_from (length t.tail) (place_after p b) z) t.parts ∙ tokens_behind (place_after p b) t.tail t.rest in
+    ap (λ (n : ℕ). tokens_from n (place_after p b) bs) less ∙ ap (λ (z : List ℕ). tokens_from (length t.tail) (place_after p b) z) t.parts
+    ∙ tokens_behind (place_after p b) t.tail t.rest in
     record {
       used = b ∷ t.tail;
       rest = t.rest;
@@ -88,12 +92,14 @@ unfolding tokens_from
 next p [] x others e = absurd cc
 next p (b ∷ bs) x others e = by (is_space b) refl (next (place_after p b) bs x others) e
   where
-    by_token : (r : Result (Piece Token) Flaw) → token_at b bs ≡ r → is_space b ≡ false → (then_tokens p (b ∷ bs) r (λ count. tokens_from (count - 1) (place_after p b) bs)).tokens ≡ x ∷ others → Next p (b ∷ bs) x others
+    by_token : (r : Result (Piece Token) Flaw) → token_at b bs ≡ r → is_space b ≡ false
+        → (then_tokens p (b ∷ bs) r (λ count. tokens_from (count - 1) (place_after p b) bs)).tokens ≡ x ∷ others → Next p (b ∷ bs) x others
     by_token (Ok token) spelled space e = next_token p b bs x others token space spelled e
     by_token (Err f) spelled space e = absurd cc
 
     by : (t : Bool) → is_space b ≡ t → ((tokens_from 0 (place_after p b) bs).tokens ≡ x ∷ others → Next (place_after p b) bs x others)
-        → (cond t (tokens_from 0 (place_after p b) bs) (then_tokens p (b ∷ bs) (token_at b bs) (λ count. tokens_from (count - 1) (place_after p b) bs))).tokens ≡ x ∷ others → Next p (b ∷ bs) x others
+        → (cond t (tokens_from 0 (place_after p b) bs) (then_tokens p (b ∷ bs) (token_at b bs) (λ count. tokens_from (count - 1) (place_after p b) bs))).tokens ≡ x ∷ others
+        → Next p (b ∷ bs) x others
     by true is rest e = next_space p b bs x others is (rest e)
     by false is rest e = by_token (token_at b bs) refl is e
 
@@ -104,7 +110,8 @@ pub record Splits (p : Place) (bs : List ℕ) (front : List Found) : Type 0 wher
   pub used : List ℕ
   pub rest : List ℕ
   pub parts : bs ≡ used ++ rest
-  pub again : (other : List ℕ) → (Parts rest → Parts other) → (same : List Found) × AreAlike IsSame front same × (tokens_from 0 p (used ++ other) ≡ followed same (tokens_from 0 (place_past p used) other))
+  pub again : (other : List ℕ) → (Parts rest → Parts other)
+      → (same : List Found) × AreAlike IsSame front same × (tokens_from 0 p (used ++ other) ≡ followed same (tokens_from 0 (place_past p used) other))
 
 parts_on : (used rest other : List ℕ) → (Parts rest → Parts other) → Parts (used ++ rest) → Parts (used ++ other)
 parts_on [] rest other h k = h k

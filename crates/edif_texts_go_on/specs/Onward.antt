@@ -12,21 +12,26 @@ use Rattle.edif_library.specs.declared.file.EdifFile.{EdifFile}
 use Rattle.edif_library.specs.Text.{EdifReads}
 use Rattle.edif_rereading.specs.Whole.{EdifSpells}
 
--- the same token at the same place; the byte behind a word or an integer, which shows its end, may be another or none
+-- the same token at the same place; the byte behind a word or an integer, which shows its end, may
+-- be another or none
 pub record IsSame (x y : Found) : Type 0 where
   pub token : x.token ≡ y.token
   pub place : x.place ≡ y.place
 
--- The text goes on where a front of the tokens of some bytes ends. It begins with the bytes up to the end of the front's last token: these have
--- the tokens of the front and no others, and the text's tokens begin with those of the front, at their places.
+-- The text goes on where a front of the tokens of some bytes ends. It begins with the bytes up to
+-- the end of the front's last token: these have the tokens of the front and no others, and the
+-- text's tokens begin with those of the front, at their places.
 pub record GoesOnFrom (bytes : List ℕ) (front : List Found) (text : List ℕ) : Type 0 where
+  -- the bytes of the front, those behind them, and what goes on in their stead
   pub used : List ℕ
   pub behind : List ℕ
   pub more : List ℕ
   pub of_bytes : bytes ≡ used ++ behind
   pub of_text : text ≡ used ++ more
+  -- the bytes of the front have its tokens and no others
   pub used_are : AreAlike IsSame front (all_tokens used).tokens
   pub used_end : EndsWell (all_tokens used).finish
+  -- the tokens of the text begin with them
   pub same : List Found
   pub others : List Found
   pub tokens : (all_tokens text).tokens ≡ same ++ others
@@ -35,7 +40,9 @@ pub record GoesOnFrom (bytes : List ℕ) (front : List Found) (text : List ℕ) 
 -- some text goes on so and is a file; where the limit of an input allows it, it reads as the file
 abbrev pub GoesOnToFile : List ℕ → List Found → Type 0
 GoesOnToFile bytes front =
-    (text : List ℕ) × (file : EdifFile) × GoesOnFrom bytes front text × (AreBytes bytes → AreBytes text) × EdifSpells text file × (length text ≤ LIMIT → EdifReads text file)
+    (text : List ℕ) × (file : EdifFile) × GoesOnFrom bytes front text
+    × (AreBytes bytes → AreBytes text) × EdifSpells text file
+    × (length text ≤ LIMIT → EdifReads text file)
 
 -- the fault stands at the next token, or behind the last
 abbrev pub StandsAt : TextFault → List Found → Finish → Type 0
@@ -44,7 +51,9 @@ StandsAt fault [] (End p) = (fault.place ≡ p) × (fault.stop ≡ p.offset)
 StandsAt fault [] (Bad other) = fault ≡ other
 StandsAt fault [] Over = ⊥
 
--- What stands before a first fault goes on to a file: the tokens at the front, behind which the fault stands.
+-- What stands before a first fault goes on to a file: the tokens at the front, behind which the
+-- fault stands.
 abbrev pub GoesOnBefore : List ℕ → TextFault → Type 0
 GoesOnBefore bytes fault =
-    (front : List Found) × (rest : List Found) × ((tokens bytes).tokens ≡ front ++ rest) × StandsAt fault rest (tokens bytes).finish × GoesOnToFile bytes front
+    (front : List Found) × (rest : List Found) × ((tokens bytes).tokens ≡ front ++ rest)
+    × StandsAt fault rest (tokens bytes).finish × GoesOnToFile bytes front

@@ -39,15 +39,18 @@ module _ {X : Type 0} (P : X → Type 0) (E : X → X → Type 0) where
   module _ {K R A C S : Type 0} (k : K) (f : S → K → X → Glance C R) (q : S → C → Part K X R S) (e : S → Part K X R A) where
     says_opened : (s : S) (ts : List X) (r : Found X R A) → SaysBy P k (opened f q e s) ts r → SaysBy P k (loop f q e s) ts r
     says_opened s ts (Ok y) h = (h.0, h.1, close_loop k f q e s h.0 y.0 h.2, λ d alike. read_loop k f q e s (h.0 ++ d) ∙ h.3 d alike)
-    says_opened s ts (Err (refused x r)) h = (h.0, h.1, h.2, (h.3.0, h.3.1, h.3.2, close_loop k f q e s (h.0 ++ h.3.0) h.3.1 h.3.3), λ d. read_loop k f q e s (h.0 ++ x ∷ d) ∙ h.4 d)
+    says_opened s ts (Err (refused x r)) h =
+        (h.0, h.1, h.2, (h.3.0, h.3.1, h.3.2, close_loop k f q e s (h.0 ++ h.3.0) h.3.1 h.3.3), λ d. read_loop k f q e s (h.0 ++ x ∷ d) ∙ h.4 d)
     says_opened s ts (Err ended) h = (h.0, h.1, h.2, close_loop k f q e s (ts ++ h.0) h.1 h.3)
 
     loop_text : ((s : S) → HasText P k (e s)) → (s : S) → HasText P k (loop f q e s)
     loop_text quit s = let t = quit s in (t.0, t.1, t.2, ends t.3)
 
     -- a loop, of which each round says what it should behind the token that it takes
-    says_rounds : ((s : S) → HasText P k (e s)) → ((s : S) (x : X) (c : C) → f s k x ≡ takes c → (ts : List X) → SaysBy P k (q s c) ts (read k (q s c) ts))
-        → ((s : S) (ts : List X) → SaysBy P k (e s) ts (read k (e s) ts)) → (n : ℕ) (s : S) (ts : List X) → length ts ≤ n → SaysBy P k (loop f q e s) ts (read k (loop f q e s) ts)
+    says_rounds : ((s : S) → HasText P k (e s))
+        → ((s : S) (x : X) (c : C) → f s k x ≡ takes c → (ts : List X) → SaysBy P k (q s c) ts (read k (q s c) ts))
+        → ((s : S) (ts : List X) → SaysBy P k (e s) ts (read k (e s) ts)) → (n : ℕ) (s : S) (ts : List X) → length ts ≤ n
+        → SaysBy P k (loop f q e s) ts (read k (loop f q e s) ts)
     unfolding read_rounds
     says_rounds quit one end zero s [] le = let t = quit s in (t.0, t.1, t.2, ends t.3)
     says_rounds quit one end zero s (x ∷ ts) le = absurd (omega arith)
@@ -64,7 +67,10 @@ module _ {X : Type 0} (P : X → Type 0) (E : X → X → Type 0) where
   pub says_alike : {K R A : Type 0} (k : K) (p : Part K X R A) → LivesAlike P E k p → (ts : List X) → SaysBy P k p ts (read k p ts)
   says_alike k (gives a) h ts = ([], refl, (refl, refl), λ d alike. refl)
   says_alike k (token f) h ts = says_token P k f (text_of k (token f) h) ts
-  says_alike k (sequence p q) h ts = says_sequence P k p q (λ u. text_of k (q u) (h.1 u)) ts (says_alike k p h.0 ts) (λ u a b parts spells. says_alike k (q u) (h.1 u) b)
-  says_alike k (ahead f p q) h ts = says_ahead P k f p q (text_of k q h.2) ts (λ x c b is taken. says_alike k (p c) (h.1 x c taken) b) (says_alike k q h.2 ts)
-  says_alike k (loop f q e s) h ts = says_rounds k f q e (λ s. text_of k (e s) (h.2 s)) (λ s x c i ts. says_alike k (q s c) (h.1 s x c i) ts) (λ s ts. says_alike k (e s) (h.2 s) ts) (length ts) s ts (omega arith)
+  says_alike k (sequence p q) h ts =
+      says_sequence P k p q (λ u. text_of k (q u) (h.1 u)) ts (says_alike k p h.0 ts) (λ u a b parts spells. says_alike k (q u) (h.1 u) b)
+  says_alike k (ahead f p q) h ts =
+      says_ahead P k f p q (text_of k q h.2) ts (λ x c b is taken. says_alike k (p c) (h.1 x c taken) b) (says_alike k q h.2 ts)
+  says_alike k (loop f q e s) h ts =
+      says_rounds k f q e (λ s. text_of k (e s) (h.2 s)) (λ s x c i ts. says_alike k (q s c) (h.1 s x c i) ts) (λ s ts. says_alike k (e s) (h.2 s) ts) (length ts) s ts (omega arith)
   says_alike k (under j p) h ts = says_alike j p h ts

@@ -14,7 +14,11 @@ abbrev pub Respects : {K X R A : Type 0} → (X → X → Type 0) → K → Part
 Respects E k (gives a) = Unit {0}
 Respects {X = X} E k (token f) = (x y : X) → E x y → f k x ≡ f k y
 Respects E k (sequence {A = A} p q) = Respects E k p × ((u : A) → Respects E k (q u))
-Respects {X = X} E k (ahead {C = C} f p q) = ((x y : X) → E x y → f k x ≡ f k y) × ((x : X) (c : C) → f k x ≡ takes c → Respects E k (p c)) × Respects E k q
+Respects {X = X} E k (ahead {C = C} f p q) =
+    ((x y : X) → E x y → f k x ≡ f k y)
+    × ((x : X) (c : C) → f k x ≡ takes c → Respects E k (p c)) × Respects E k q
 Respects {X = X} E k (loop {C = C} {S = S} f q e s) =
-    ((s : S) (x y : X) → E x y → f s k x ≡ f s k y) × ((s : S) (x : X) (c : C) → f s k x ≡ takes c → Respects E k (q s c)) × ((s : S) → Respects E k (e s))
+    ((s : S) (x y : X) → E x y → f s k x ≡ f s k y)
+    × ((s : S) (x : X) (c : C) → f s k x ≡ takes c → Respects E k (q s c))
+    × ((s : S) → Respects E k (e s))
 Respects E k (under j p) = Respects E j p

@@ -51,7 +51,8 @@ record Spells {A : Type 0} (n : ℕ) (bs : List ℕ) (reading : List ℕ → Res
 abbrev Reads : {A : Type 0} → ℕ → List ℕ → (List ℕ → Result (Piece A) Flaw) → Type 0
 Reads {A = A} n bs reading = (x : Piece A) → reading bs ≡ Ok x → Spells n bs reading x
 
-reads_either : {A : Type 0} {n : ℕ} {bs : List ℕ} {f g : List ℕ → Result (Piece A) Flaw} (t : Bool) → Reads n bs f → Reads n bs g → Reads n bs (λ z. cond t (f z) (g z))
+reads_either : {A : Type 0} {n : ℕ} {bs : List ℕ} {f g : List ℕ → Result (Piece A) Flaw} (t : Bool) → Reads n bs f → Reads n bs g
+    → Reads n bs (λ z. cond t (f z) (g z))
 reads_either true h k = h
 reads_either false h k = k
 
@@ -61,7 +62,8 @@ reads_none reason before seen x e = absurd cc
 reads_end : {A : Type 0} {bs : List ℕ} (v : A) (n : ℕ) → Reads n bs (λ z. piece v n n)
 reads_end {bs = bs} v n x e = record { used = []; rest = bs; parts = refl; count = let k : n ≡ x.count = cc in omega (arith, k); again = λ other. e }
 
-reads_byte : {A : Type 0} (n b : ℕ) (bs : List ℕ) (reading behind : List ℕ → Result (Piece A) Flaw) → Reads (n + 1) bs behind → ((z : List ℕ) → reading (b ∷ z) ≡ behind z) → Reads n (b ∷ bs) reading
+reads_byte : {A : Type 0} (n b : ℕ) (bs : List ℕ) (reading behind : List ℕ → Result (Piece A) Flaw) → Reads (n + 1) bs behind
+    → ((z : List ℕ) → reading (b ∷ z) ≡ behind z) → Reads n (b ∷ bs) reading
 reads_byte n b bs reading behind h same x e =
     let s = h x (sym (same bs) ∙ e) in
     record {
@@ -80,12 +82,14 @@ comment_reads star n (b ∷ bs) =
     (reads_either (eqb b 42) (comment_reads true (n + 1) bs) (reads_either (star && eqb b 47) (reads_end Blank (n + 1)) (comment_reads false (n + 1) bs))) (λ z. refl)
 
 -- a byte of a string, where the bytes behind it are read so
-part_reads : (v : List ℕ) (n b : ℕ) (bs : List ℕ) → ((m : Within) (w : List ℕ) → Reads (n + 1) bs (string_at m w (n + 1))) → Reads (n + 1) bs (λ z. part_by v n b (λ next kept. string_at next kept (n + 1) z))
+part_reads : (v : List ℕ) (n b : ℕ) (bs : List ℕ) → ((m : Within) (w : List ℕ) → Reads (n + 1) bs (string_at m w (n + 1)))
+    → Reads (n + 1) bs (λ z. part_by v n b (λ next kept. string_at next kept (n + 1) z))
 part_reads v n b bs h =
     reads_either (eqb b 34) (reads_end v (n + 1))
     (reads_either (eqb b 92) (h Escape v) (reads_either (is_verilog_string_byte b) (reads_either (is_full v) (reads_none TokenTooLong 0 (n + 1)) (h within.Parts (v ++ b ∷ []))) (reads_none BadByte n (n + 1))))
 
-escape_reads : (e : Escaped) (v : List ℕ) (n : ℕ) (bs : List ℕ) → ((m : Within) (w : List ℕ) → Reads (n + 1) bs (string_at m w (n + 1))) → Reads (n + 1) bs (λ z. escape_by e v n (λ next kept. string_at next kept (n + 1) z))
+escape_reads : (e : Escaped) (v : List ℕ) (n : ℕ) (bs : List ℕ) → ((m : Within) (w : List ℕ) → Reads (n + 1) bs (string_at m w (n + 1)))
+    → Reads (n + 1) bs (λ z. escape_by e v n (λ next kept. string_at next kept (n + 1) z))
 escape_reads (escaped.Stands c) v n bs h = reads_either (is_full v) (reads_none TokenTooLong 0 (n + 1)) (h within.Parts (v ++ c ∷ []))
 escape_reads (escaped.Octal digit) v n bs h = h (Code digit 2) v
 escape_reads escaped.NoEscape v n bs h = reads_none BadEscape (n - 1) (n + 1)
@@ -97,11 +101,14 @@ string_reads within.Parts v n [] = λ x e. absurd cc
 string_reads Escape v n [] = λ x e. absurd cc
 string_reads (Code code more) v n [] = λ x e. by (is_full v) x e
   where
-    by : (t : Bool) (x : Piece (List ℕ)) → cond t (flaw {A = Piece (List ℕ)} TokenTooLong 0 n) (flaw EndOfInput n n) ≡ Ok x → Spells n [] (string_at (Code code more) v n) x
+    by : (t : Bool) (x : Piece (List ℕ)) → cond t (flaw {A = Piece (List ℕ)} TokenTooLong 0 n) (flaw EndOfInput n n) ≡ Ok x
+        → Spells n [] (string_at (Code code more) v n) x
     by true x e = absurd cc
     by false x e = absurd cc
-string_reads within.Parts v n (b ∷ bs) = reads_byte n b bs (string_at within.Parts v n) _ (part_reads v n b bs (λ m w. string_reads m w (n + 1) bs)) (λ z. refl)
-string_reads Escape v n (b ∷ bs) = reads_byte n b bs (string_at Escape v n) _ (escape_reads (escaped_by b) v n bs (λ m w. string_reads m w (n + 1) bs)) (λ z. refl)
+string_reads within.Parts v n (b ∷ bs) =
+    reads_byte n b bs (string_at within.Parts v n) _ (part_reads v n b bs (λ m w. string_reads m w (n + 1) bs)) (λ z. refl)
+string_reads Escape v n (b ∷ bs) =
+    reads_byte n b bs (string_at Escape v n) _ (escape_reads (escaped_by b) v n bs (λ m w. string_reads m w (n + 1) bs)) (λ z. refl)
 string_reads (Code code more) v n (b ∷ bs) =
     reads_byte n b bs (string_at (Code code more) v n) _
     (reads_either (nat_lt 0 more && is_octal b)
@@ -145,7 +152,8 @@ complete phase.Escaped b e = refl
 complete phase.Whole b e = refl
 complete phase.Point b e = absurd (never (is_ascii_digit b) _ _ (keep_never phase.Fraction) bad_never e)
 complete phase.Fraction b e = refl
-complete phase.Mark b e = absurd (never (is_ascii_digit b) _ _ (keep_never phase.Exponent) (never (is_sign b) _ _ (keep_never phase.Sign) bad_never) e)
+complete phase.Mark b e =
+    absurd (never (is_ascii_digit b) _ _ (keep_never phase.Exponent) (never (is_sign b) _ _ (keep_never phase.Sign) bad_never) e)
 complete phase.Sign b e = absurd (never (is_ascii_digit b) _ _ (keep_never phase.Exponent) bad_never e)
 complete phase.Exponent b e = refl
 complete phase.Prefix b e = absurd (never (eqb b 115 || eqb b 83) _ _ (keep_never phase.Signed) (letter_never (base_of b)) e)
@@ -187,7 +195,8 @@ record Scans (n : ℕ) (p : Phase) (text bs : List ℕ) (x : Piece Lexeme) : Typ
   count : x.count ≡ n + length used
   again : (other : List ℕ) → Fits rest other → (seen : ℕ) × (scan_at p text n (used ++ other) ≡ piece x.value x.count seen)
 
-ends_before : (p : Phase) (text : List ℕ) (n : ℕ) (other : List ℕ) → is_complete p ≡ true → IfSome (first other) (λ b. next_step p b ≡ Ends) → (seen : ℕ) × (scan_at p text n other ≡ piece (record { phase = p; text = text }) n seen)
+ends_before : (p : Phase) (text : List ℕ) (n : ℕ) (other : List ℕ) → is_complete p ≡ true → IfSome (first other) (λ b. next_step p b ≡ Ends)
+    → (seen : ℕ) × (scan_at p text n other ≡ piece (record { phase = p; text = text }) n seen)
 unfolding scan_at
 ends_before p text n [] h k = (n + 0, rw h refl)
 ends_before p text n (c ∷ cs) h k = (n + 1, rw k refl)
@@ -204,7 +213,8 @@ none_before : (p : Phase) (other : List ℕ) → None ≡ first other → IfSome
 none_before p [] k = tt
 none_before p (c ∷ cs) k = absurd cc
 
-ended_here : (p : Phase) (text : List ℕ) (n : ℕ) (bs : List ℕ) (next : Option ℕ) (x : Piece Lexeme) → is_complete p ≡ true → ended p text n next ≡ Ok x
+ended_here : (p : Phase) (text : List ℕ) (n : ℕ) (bs : List ℕ) (next : Option ℕ) (x : Piece Lexeme) → is_complete p ≡ true
+    → ended p text n next ≡ Ok x
     → ((other : List ℕ) → Fits bs other → IfSome (first other) (λ b. next_step p b ≡ Ends)) → Scans n p text bs x
 ended_here p text n bs next x h e fits = record {
   used = [];
@@ -217,7 +227,8 @@ ended_here p text n bs next x h e fits = record {
     same_value : (seen : ℕ) → piece (record { phase = p; text = text }) n seen ≡ piece x.value x.count seen
     same_value seen = cc
 
-step_on : (n : ℕ) (p q : Phase) (text more : List ℕ) (b : ℕ) (bs : List ℕ) (x : Piece Lexeme) → ((z : List ℕ) → scan_at p text n (b ∷ z) ≡ scan_at q more (n + 1) z) → Scans (n + 1) q more bs x → Scans n p text (b ∷ bs) x
+step_on : (n : ℕ) (p q : Phase) (text more : List ℕ) (b : ℕ) (bs : List ℕ) (x : Piece Lexeme)
+    → ((z : List ℕ) → scan_at p text n (b ∷ z) ≡ scan_at q more (n + 1) z) → Scans (n + 1) q more bs x → Scans n p text (b ∷ bs) x
 step_on n p q text more b bs x same s = record {
   used = b ∷ s.used;
   rest = s.rest;
@@ -226,7 +237,8 @@ step_on n p q text more b bs x same s = record {
   again = λ other f. let a = s.again other f in (a.0, same (s.used ++ other) ∙ a.1);
 }
 
-step_of : (p : Phase) (text : List ℕ) (n b : ℕ) (s : Step) → next_step p b ≡ s → (z : List ℕ) → scan_at p text n (b ∷ z) ≡ stepped s p text n b (λ next kept. scan_at next kept (n + 1) z)
+step_of : (p : Phase) (text : List ℕ) (n b : ℕ) (s : Step) → next_step p b ≡ s → (z : List ℕ)
+    → scan_at p text n (b ∷ z) ≡ stepped s p text n b (λ next kept. scan_at next kept (n + 1) z)
 unfolding scan_at
 step_of p text n b s e z = rw e refl
 
@@ -234,7 +246,8 @@ fits_end : (p : Phase) → is_complete p ≡ true → (other : List ℕ) → Fit
 fits_end p h other (inl k) = none_before p other k
 fits_end p h other (inr k) = blank_before p h other k
 
-fits_byte : (p : Phase) (b : ℕ) (bs : List ℕ) → next_step p b ≡ Ends → (other : List ℕ) → Fits (b ∷ bs) other → IfSome (first other) (λ c. next_step p c ≡ Ends)
+fits_byte : (p : Phase) (b : ℕ) (bs : List ℕ) → next_step p b ≡ Ends → (other : List ℕ) → Fits (b ∷ bs) other
+    → IfSome (first other) (λ c. next_step p c ≡ Ends)
 fits_byte p b bs is other (inl k) = same_before p b other is k
 fits_byte p b bs is other (inr k) = blank_before p (complete p b is) other k
 
@@ -247,12 +260,14 @@ scan_reads p text n [] x e = by (is_complete p) refl e
     by false h e = absurd cc
 scan_reads p text n (b ∷ bs) x e = by (next_step p b) refl (λ q more k. scan_reads q more (n + 1) bs x k) e
   where
-    kept_on : (q : Phase) (t : Bool) → nat_le (most_of p) (length text) ≡ t → next_step p b ≡ Keep q → cond t (flaw {A = Piece Lexeme} TokenTooLong 0 (n + 1)) (scan_at q (text ++ b ∷ []) (n + 1) bs) ≡ Ok x
+    kept_on : (q : Phase) (t : Bool) → nat_le (most_of p) (length text) ≡ t → next_step p b ≡ Keep q
+        → cond t (flaw {A = Piece Lexeme} TokenTooLong 0 (n + 1)) (scan_at q (text ++ b ∷ []) (n + 1) bs) ≡ Ok x
         → (scan_at q (text ++ b ∷ []) (n + 1) bs ≡ Ok x → Scans (n + 1) q (text ++ b ∷ []) bs x) → Scans n p text (b ∷ bs) x
     kept_on q true room is e h = absurd cc
     kept_on q false room is e h = step_on n p q text (text ++ b ∷ []) b bs x (λ z. step_of p text n b (Keep q) is z ∙ rw room refl) (h e)
 
-    by : (s : Step) → next_step p b ≡ s → ((q : Phase) (more : List ℕ) → scan_at q more (n + 1) bs ≡ Ok x → Scans (n + 1) q more bs x) → stepped s p text n b (λ next kept. scan_at next kept (n + 1) bs) ≡ Ok x → Scans n p text (b ∷ bs) x
+    by : (s : Step) → next_step p b ≡ s → ((q : Phase) (more : List ℕ) → scan_at q more (n + 1) bs ≡ Ok x → Scans (n + 1) q more bs x)
+        → stepped s p text n b (λ next kept. scan_at next kept (n + 1) bs) ≡ Ok x → Scans n p text (b ∷ bs) x
     by (Keep q) is h e = kept_on q (nat_le (most_of p) (length text)) refl is e (h q (text ++ b ∷ []))
     by (Pass q) is h e = step_on n p q text text b bs x (step_of p text n b (Pass q) is) (h q text e)
     by Ends is h e = ended_here p text n (b ∷ bs) (Some b) x (complete p b is) e (fits_byte p b bs is)
@@ -271,7 +286,8 @@ pub record Item-again (s : Start) (b : ℕ) (bs : List ℕ) (x : Piece Item) : T
 same_piece : {x y : Item} {m n seen : ℕ} → x ≡ y → m ≡ n → piece x m seen ≡ piece y n seen
 same_piece e f = cc
 
-alone_again : (s : Start) (b : ℕ) (bs : List ℕ) (item : Item) (x : Piece Item) → ((z : List ℕ) → item_by s b (b ∷ z) ≡ piece item 1 1) → item_by s b (b ∷ bs) ≡ Ok x → Item-again s b bs x
+alone_again : (s : Start) (b : ℕ) (bs : List ℕ) (item : Item) (x : Piece Item) → ((z : List ℕ) → item_by s b (b ∷ z) ≡ piece item 1 1)
+    → item_by s b (b ∷ bs) ≡ Ok x → Item-again s b bs x
 alone_again s b bs item x spelled e =
     let is : piece item 1 1 ≡ Ok x = sym (spelled bs) ∙ e in
     let value : item ≡ x.value = cc in
@@ -280,7 +296,8 @@ alone_again s b bs item x spelled e =
 lexeme_again : (p : Phase) (b : ℕ) (bs : List ℕ) (x : Piece Item) → item_by (start.Lexeme p) b (b ∷ bs) ≡ Ok x → Item-again (start.Lexeme p) b bs x
 lexeme_again p b bs x e = by (scan_at p (kept p b) 1 bs) refl e
   where
-    of_item : (l : Piece Lexeme) (o : Option Item) → scan_at p (kept p b) 1 bs ≡ Ok l → item_of l.value.phase l.value.text ≡ o → finished l o ≡ Ok x → Item-again (start.Lexeme p) b bs x
+    of_item : (l : Piece Lexeme) (o : Option Item) → scan_at p (kept p b) 1 bs ≡ Ok l → item_of l.value.phase l.value.text ≡ o → finished l o ≡ Ok x
+        → Item-again (start.Lexeme p) b bs x
     of_item l None is item e = absurd cc
     of_item l (Some i) is item e =
         let s = scan_reads p (kept p b) 1 bs l is in
@@ -316,7 +333,8 @@ string_again b bs x e = by (string_at within.Parts [] 1 bs) refl e
 -- ---- `(`, `*` and `/`
 
 -- the first of the other bytes is not this one, where that of the bytes before was not
-first_not : (second : ℕ) → eqb 32 second ≡ false → (rest other : List ℕ) → IfSome (first rest) (λ c. eqb c second ≡ false) → Fits rest other → IfSome (first other) (λ c. eqb c second ≡ false)
+first_not : (second : ℕ) → eqb 32 second ≡ false → (rest other : List ℕ) → IfSome (first rest) (λ c. eqb c second ≡ false) → Fits rest other
+    → IfSome (first other) (λ c. eqb c second ≡ false)
 first_not second blank rest other h (inl k) = subst (λ (o : Option ℕ). IfSome o (λ c. eqb c second ≡ false)) k h
 first_not second blank rest other h (inr k) = by other k
   where
@@ -324,11 +342,13 @@ first_not second blank rest other h (inr k) = by other k
     by [] k = tt
     by (c ∷ cs) k = ap (λ (z : ℕ). eqb z second) k ∙ blank
 
-single_before : (second : ℕ) (both single : Item) (other : List ℕ) → IfSome (first other) (λ c. eqb c second ≡ false) → (seen : ℕ) × (pair_by second both single (first other) ≡ piece single 1 seen)
+single_before : (second : ℕ) (both single : Item) (other : List ℕ) → IfSome (first other) (λ c. eqb c second ≡ false)
+    → (seen : ℕ) × (pair_by second both single (first other) ≡ piece single 1 seen)
 single_before second both single [] h = (1, refl)
 single_before second both single (c ∷ cs) h = (2, rw h refl)
 
-pair_again : (s : Start) (second : ℕ) (both single : Item) (b : ℕ) (bs : List ℕ) (x : Piece Item) → eqb 32 second ≡ false → ((z : List ℕ) → item_by s b (b ∷ z) ≡ pair_by second both single (first z)) → pair_by second both single (first bs) ≡ Ok x → Item-again s b bs x
+pair_again : (s : Start) (second : ℕ) (both single : Item) (b : ℕ) (bs : List ℕ) (x : Piece Item) → eqb 32 second ≡ false
+    → ((z : List ℕ) → item_by s b (b ∷ z) ≡ pair_by second both single (first z)) → pair_by second both single (first bs) ≡ Ok x → Item-again s b bs x
 pair_again s second both single b [] x blank spelled e =
     let value : single ≡ x.value = cc in
     record {
@@ -336,7 +356,9 @@ pair_again s second both single b [] x blank spelled e =
       rest = [];
       parts = refl;
       count = let k : 1 ≡ x.count = cc in sym k;
-      again = λ other f. let a = single_before second both single other (first_not second blank [] other tt f) in (a.0, spelled other ∙ a.1 ∙ same_piece value refl);
+      again =
+          λ other f. let a =
+          single_before second both single other (first_not second blank [] other tt f) in (a.0, spelled other ∙ a.1 ∙ same_piece value refl);
     }
 pair_again s second both single b (c ∷ cs) x blank spelled e = by (eqb c second) refl e
   where
@@ -351,13 +373,16 @@ pair_again s second both single b (c ∷ cs) x blank spelled e = by (eqb c secon
           rest = c ∷ cs;
           parts = refl;
           count = let k : 1 ≡ x.count = cc in sym k;
-          again = λ other f. let a = single_before second both single other (first_not second blank (c ∷ cs) other is f) in (a.0, spelled other ∙ a.1 ∙ same_piece value refl);
+          again =
+              λ other f. let a =
+              single_before second both single other (first_not second blank (c ∷ cs) other is f) in (a.0, spelled other ∙ a.1 ∙ same_piece value refl);
         }
 
 piece_is : (x : Piece Item) (n : ℕ) → x.count ≡ n → Ok x ≡ piece x.value n x.seen
 piece_is x n e = ap (λ (k : ℕ). piece x.value k x.seen) e
 
-slash_before : (other : List ℕ) (behind : List ℕ) → IfSome (first other) (λ c. eqb c 47 ≡ false) → IfSome (first other) (λ c. eqb c 42 ≡ false) → (seen : ℕ) × (slash_by (first other) behind ≡ piece (Token (Symbol 47)) 1 seen)
+slash_before : (other : List ℕ) (behind : List ℕ) → IfSome (first other) (λ c. eqb c 47 ≡ false) → IfSome (first other) (λ c. eqb c 42 ≡ false)
+    → (seen : ℕ) × (slash_by (first other) behind ≡ piece (Token (Symbol 47)) 1 seen)
 slash_before [] behind h k = (1, refl)
 slash_before (c ∷ cs) behind h k = (2, rw (h, k) refl)
 
@@ -369,11 +394,14 @@ slash_again b [] x e =
       rest = [];
       parts = refl;
       count = let k : 1 ≡ x.count = cc in sym k;
-      again = λ other f. let a = slash_before other _ (first_not 47 refl [] other tt f) (first_not 42 refl [] other tt f) in (a.0, a.1 ∙ same_piece value refl);
+      again =
+          λ other f. let a =
+          slash_before other _ (first_not 47 refl [] other tt f) (first_not 42 refl [] other tt f) in (a.0, a.1 ∙ same_piece value refl);
     }
 slash_again b (c ∷ cs) x e = by_line (eqb c 47) refl e
   where
-    by_comment : (t : Bool) → eqb c 47 ≡ false → eqb c 42 ≡ t → cond t (comment_at false 2 cs) (piece (Token (Symbol 47)) 1 2) ≡ Ok x → Item-again start.Slash b (c ∷ cs) x
+    by_comment : (t : Bool) → eqb c 47 ≡ false → eqb c 42 ≡ t → cond t (comment_at false 2 cs) (piece (Token (Symbol 47)) 1 2) ≡ Ok x
+        → Item-again start.Slash b (c ∷ cs) x
     by_comment true other is e =
         let s = comment_reads false 2 cs x e in
         let counted = s.count in
@@ -392,10 +420,13 @@ slash_again b (c ∷ cs) x e = by_line (eqb c 47) refl e
           rest = c ∷ cs;
           parts = refl;
           count = let k : 1 ≡ x.count = cc in sym k;
-          again = λ z f. let a = slash_before z _ (first_not 47 refl (c ∷ cs) z other f) (first_not 42 refl (c ∷ cs) z is f) in (a.0, a.1 ∙ same_piece value refl);
+          again =
+              λ z f. let a =
+              slash_before z _ (first_not 47 refl (c ∷ cs) z other f) (first_not 42 refl (c ∷ cs) z is f) in (a.0, a.1 ∙ same_piece value refl);
         }
 
-    by_line : (t : Bool) → eqb c 47 ≡ t → cond t (piece Line 2 2) (cond (eqb c 42) (comment_at false 2 cs) (piece (Token (Symbol 47)) 1 2)) ≡ Ok x → Item-again start.Slash b (c ∷ cs) x
+    by_line : (t : Bool) → eqb c 47 ≡ t → cond t (piece Line 2 2) (cond (eqb c 42) (comment_at false 2 cs) (piece (Token (Symbol 47)) 1 2)) ≡ Ok x
+        → Item-again start.Slash b (c ∷ cs) x
     by_line true is e =
         let value : Line ≡ x.value = cc in
         record { tail = c ∷ []; rest = cs; parts = refl; count = let k : 2 ≡ x.count = cc in sym k; again = λ other f. (2, rw is (same_piece value refl)) }

@@ -52,7 +52,8 @@ all_bytes class each (b ∷ bs) h = let p = and_true (class b) (list_all class b
 simple_bytes : (w : List ℕ) → is_simple w ≡ true → AreBytes w
 unfolding is_simple
 simple_bytes [] h = tt
-simple_bytes (b ∷ bs) h = let p = and_true (is_ascii_alphabetic b || b == 95) (list_all is_name_byte bs) h in (first_small b p.0, all_bytes is_name_byte name_byte_small bs p.1)
+simple_bytes (b ∷ bs) h =
+    let p = and_true (is_ascii_alphabetic b || b == 95) (list_all is_name_byte bs) h in (first_small b p.0, all_bytes is_name_byte name_byte_small bs p.1)
 
 graphic_bytes : (bs : List ℕ) → AllByRecursion (λ b. (33 ≤ b) × (b ≤ 126)) bs → AreBytes bs
 graphic_bytes [] h = tt
@@ -71,7 +72,8 @@ digit_small : (d : ℕ) → d < 10 → 48 + d < 256
 digit_small d h = omega (arith, h)
 
 decimal_bytes : (n : ℕ) → n < 2 ^ 64 → AreBytes (decimal n)
-decimal_bytes = decimal_by_steps (λ m ds. AreBytes ds) (λ m l. (digit_small m l, tt)) (λ m ds l h. bytes_both ds ((48 + m % 10) ∷ []) h (digit_small (m % 10) (omega arith), tt))
+decimal_bytes =
+    decimal_by_steps (λ m ds. AreBytes ds) (λ m l. (digit_small m l, tt)) (λ m ds l h. bytes_both ds ((48 + m % 10) ∷ []) h (digit_small (m % 10) (omega arith), tt))
 
 number_bytes : (z : ℤ) → IsNumber z → AreBytes (signed_decimal z)
 number_bytes (pos n) good = decimal_bytes n (omega (arith, good))
@@ -94,7 +96,8 @@ hex_small d h = grind (arith, nat_tests)
 open_small : (d : ℕ) → IsTrue (is_open d) → d < 256
 open_small d h = grind (arith, nat_tests)
 
-digits_bytes : (base : Base) → ((d : ℕ) → IsTrue (is_digit base d) → d < 256) → (ds : List ℕ) → AllByRecursion (λ d. IsTrue (is_digit base d)) ds → AreBytes ds
+digits_bytes : (base : Base) → ((d : ℕ) → IsTrue (is_digit base d) → d < 256) → (ds : List ℕ) → AllByRecursion (λ d. IsTrue (is_digit base d)) ds
+    → AreBytes ds
 digits_bytes base each [] h = tt
 digits_bytes base each (d ∷ ds) h = (each d h.0, digits_bytes base each ds h.1)
 
@@ -164,7 +167,8 @@ operator_small : (b : ℕ) → is_operator b ≡ true → b < 256
 operator_small b h = grind (arith, nat_tests)
 
 directive_bytes : (w : List ℕ) → IsDirective w → AreBytes w
-directive_bytes w good = subst AreBytes (sym good.spelled) (omega arith, (first_small good.first good.begins, all_bytes is_word_byte word_byte_small good.rest good.follows))
+directive_bytes w good =
+    subst AreBytes (sym good.spelled) (omega arith, (first_small good.first good.begins, all_bytes is_word_byte word_byte_small good.rest good.follows))
 
 token_bytes : (x : VToken) (rest : List ℕ) → IsOfBytes x → AreBytes rest → AreBytes (token_text x rest)
 token_bytes (t.Name n) rest good h = named_bytes n rest good h

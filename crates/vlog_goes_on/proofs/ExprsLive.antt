@@ -39,13 +39,15 @@ same_token_self (end p) = tt
 abbrev pub Lives : {A : Type 0} → Vlog A → Type 0
 Lives p = LivesAlike CanStand SameToken tt p
 
-token_alike : {A : Type 0} (f : VToken → Result A Reason) (x y : Terminal VFound Place) → SameToken x y → of_token (λ x. f x.token) x ≡ of_token (λ x. f x.token) y
+token_alike : {A : Type 0} (f : VToken → Result A Reason) (x y : Terminal VFound Place) → SameToken x y
+    → of_token (λ x. f x.token) x ≡ of_token (λ x. f x.token) y
 token_alike f (proper x) (proper y) e = ap f e
 token_alike f (proper x) (end q) e = absurd e
 token_alike f (end p) (proper y) e = absurd e
 token_alike f (end p) (end q) e = refl
 
-pub look_alike : {C : Type 0} (f : VToken → Glance C Reason) (x y : Terminal VFound Place) → SameToken x y → at_token (λ x. f x.token) x ≡ at_token (λ x. f x.token) y
+pub look_alike : {C : Type 0} (f : VToken → Glance C Reason) (x y : Terminal VFound Place) → SameToken x y
+    → at_token (λ x. f x.token) x ≡ at_token (λ x. f x.token) y
 look_alike f (proper x) (proper y) e = ap f e
 look_alike f (proper x) (end q) e = absurd e
 look_alike f (end p) (proper y) e = absurd e
@@ -59,11 +61,13 @@ pub one_lives : {A : Type 0} (f : VToken → Result A Reason) (t : VToken) (a : 
 unfolding one
 one_lives f t a h is = ((proper (found t), a, h, is), token_alike f)
 
-pub if_lives : {A C : Type 0} (f : VToken → Glance C Reason) (p : C → Vlog A) (q : Vlog A) → ((c : C) → Lives (p c)) → Lives q → Lives (if_next (λ _ x. f x.token) p q)
+pub if_lives : {A C : Type 0} (f : VToken → Glance C Reason) (p : C → Vlog A) (q : Vlog A) → ((c : C) → Lives (p c)) → Lives q
+    → Lives (if_next (λ _ x. f x.token) p q)
 unfolding if_next
 if_lives f p q h l = (look_alike f, λ x c i. h c, l)
 
-pub while_lives : {A C S : Type 0} (f : VToken → Glance C Reason) (q : S → C → Vlog S) (e : S → Vlog A) (s : S) → ((s : S) (c : C) → Lives (q s c)) → ((s : S) → Lives (e s)) → Lives (while_next (λ _ _ x. f x.token) q e s)
+pub while_lives : {A C S : Type 0} (f : VToken → Glance C Reason) (q : S → C → Vlog S) (e : S → Vlog A) (s : S) → ((s : S) (c : C) → Lives (q s c))
+    → ((s : S) → Lives (e s)) → Lives (while_next (λ _ _ x. f x.token) q e s)
 unfolding while_next
 while_lives f q e s h l = (λ s. look_alike f, λ s x c i. h s c, l)
 
@@ -108,7 +112,8 @@ after_lives due p q h l = if_lives (say.at_mark due) (λ _. p) q (λ _. h) l
 
 pub commas_lives : {A : Type 0} (p : Vlog A) (close : Vlog (Unit {0})) (so_far : List A) → Lives p → Lives close → Lives (commas p close so_far)
 unfolding commas
-commas_lives p close so_far h l = while_lives (say.at_mark 44) (λ so_far _. sequence p (λ a. gives (so_far ++ a ∷ []))) (λ so_far. sequence close (λ _. gives so_far)) so_far (λ s c. (h, λ _. tt)) (λ s. (l, λ _. tt))
+commas_lives p close so_far h l =
+    while_lives (say.at_mark 44) (λ so_far _. sequence p (λ a. gives (so_far ++ a ∷ []))) (λ so_far. sequence close (λ _. gives so_far)) so_far (λ s c. (h, λ _. tt)) (λ s. (l, λ _. tt))
 
 pub list_lives : {A : Type 0} (p : Vlog A) (close : Vlog (Unit {0})) → Lives p → Lives close → Lives (list p close)
 unfolding list
@@ -160,7 +165,8 @@ rep_lives p n h = (list_lives p (mark 125) h (mark_lives 125 refl), λ es. (mark
 braced_lives : (p inner : Vlog Expr) (start : ExprStart) → Lives p → Lives inner → Lives (braced p inner start)
 unfolding braced
 braced_lives p inner (starts.Name n) h l = (rest_lives inner (starts.Name n) l, λ e. cat_lives p e h)
-braced_lives p inner (starts.Number n) h l = after_lives 123 (rep_rest p n) (sequence (sized n) (cat_rest p)) (rep_lives p n h) (sized_lives n, λ e. cat_lives p e h)
+braced_lives p inner (starts.Number n) h l =
+    after_lives 123 (rep_rest p n) (sequence (sized n) (cat_rest p)) (rep_lives p n h) (sized_lives n, λ e. cat_lives p e h)
 braced_lives p inner (starts.Based b) h l = (rest_lives inner (starts.Based b) l, λ e. cat_lives p e h)
 braced_lives p inner starts.Brace h l = (rest_lives inner starts.Brace l, λ e. cat_lives p e h)
 
@@ -171,7 +177,8 @@ by_lives left room inner h = (expr_start_lives left room, λ start. rest_lives i
 inside_lives : (left : Bool) (room : ℕ) → Lives (inside left room)
 unfolding inside
 inside_lives left zero = tt
-inside_lives left (suc room) = (expr_start_lives left room, λ start. braced_lives (expr_by left room (inside left room)) (inside left room) start (by_lives left room (inside left room) (inside_lives left room)) (inside_lives left room))
+inside_lives left (suc room) =
+    (expr_start_lives left room, λ start. braced_lives (expr_by left room (inside left room)) (inside left room) start (by_lives left room (inside left room) (inside_lives left room)) (inside_lives left room))
 
 pub expr_lives : (left : Bool) (room : ℕ) → Lives (expr left room)
 unfolding expr
@@ -179,7 +186,8 @@ expr_lives left room = by_lives left room (inside left room) (inside_lives left 
 
 pub maybe_expr_lives : Lives maybe_expr
 unfolding maybe_expr
-maybe_expr_lives = if_lives say.at_expr (λ start. sequence (expr_rest (inside false 64) start) (λ e. gives (Some e))) (gives None) (λ start. (rest_lives (inside false 64) start (inside_lives false 64), λ _. tt)) tt
+maybe_expr_lives =
+    if_lives say.at_expr (λ start. sequence (expr_rest (inside false 64) start) (λ e. gives (Some e))) (gives None) (λ start. (rest_lives (inside false 64) start (inside_lives false 64), λ _. tt)) tt
 
 -- ---- constants and attributes
 

@@ -49,11 +49,13 @@ dir_lives = one_lives (say.choice_of dir_words) (token.Keyword (codes "input")) 
 
 port_decl_lives : Lives port_decl
 unfolding port_decl port_rest
-port_decl_lives = (groups_lives [], λ a. (dir_lives, λ d. (port_kind_lives, λ k. (signed_lives, λ s. (maybe_range_lives, λ r. (name_lives, λ n. tt))))))
+port_decl_lives =
+    (groups_lives [], λ a. (dir_lives, λ d. (port_kind_lives, λ k. (signed_lives, λ s. (maybe_range_lives, λ r. (name_lives, λ n. tt))))))
 
 port_turn_lives : (ds : PortDecls) → Lives (port_turn ds)
 unfolding port_turn
-port_turn_lives ds = if_lives say.at_name (λ n. gives (with_name ds n)) (sequence port_decl (λ d. gives (with_decl ds d))) (λ n. tt) (port_decl_lives, λ d. tt)
+port_turn_lives ds =
+    if_lives say.at_name (λ n. gives (with_name ds n)) (sequence port_decl (λ d. gives (with_decl ds d))) (λ n. tt) (port_decl_lives, λ d. tt)
 
 port_decls_lives : (ds : PortDecls) → Lives (port_decls ds)
 unfolding port_decls while_next
@@ -90,7 +92,8 @@ more_set_lives gs n = (mark_lives 61 refl, λ _. (constant_lives, λ v. tt))
 
 param_turn_lives : (gs : ParamGroups) → Lives (param_turn gs)
 unfolding param_turn
-param_turn_lives gs = if_lives say.at_name (more_set gs) (sequence param_group (λ g. gives (with_group gs g))) (more_set_lives gs) (param_group_lives, λ g. tt)
+param_turn_lives gs =
+    if_lives say.at_name (more_set gs) (sequence param_group (λ g. gives (with_group gs g))) (more_set_lives gs) (param_group_lives, λ g. tt)
 
 param_groups_lives : (gs : ParamGroups) → Lives (param_groups gs)
 unfolding param_groups while_next
@@ -121,7 +124,8 @@ endmodule_lives = one_lives (say.keyword_of (codes "endmodule")) (token.Keyword 
 
 items_lives : (so_far : List ItemV) → Lives (items so_far)
 unfolding items
-items_lives so_far = while_lives at_item (λ so_far start. sequence (item_rest start) (λ i. gives (so_far ++ i ∷ []))) (λ so_far. sequence (keyword (codes "endmodule")) (λ _. gives so_far)) so_far (λ s start. (item_rest_lives start, λ i. tt)) (λ s. (endmodule_lives, λ _. tt))
+items_lives so_far =
+    while_lives at_item (λ so_far start. sequence (item_rest start) (λ i. gives (so_far ++ i ∷ []))) (λ so_far. sequence (keyword (codes "endmodule")) (λ _. gives so_far)) so_far (λ s start. (item_rest_lives start, λ i. tt)) (λ s. (endmodule_lives, λ _. tt))
 
 module_rest_lives : (implicit : Bool) (attrs : List Attr) → Lives (module_rest implicit attrs)
 unfolding module_rest
@@ -147,10 +151,12 @@ directive_lives s w =
 
 piece_lives : (s : SoFar) (t : VToken) (start : PieceStart) → at_piece t ≡ takes start → Lives (piece_rest s start)
 unfolding piece_rest
-piece_lives s = piece_cases (λ start. Lives (piece_rest s start)) (directive_lives s) ((behind_lives, λ a. module_lives s.implicit a), λ m. tt) (module_rest_lives s.implicit [], λ m. tt)
+piece_lives s =
+    piece_cases (λ start. Lives (piece_rest s start)) (directive_lives s) ((behind_lives, λ a. module_lives s.implicit a), λ m. tt) (module_rest_lives s.implicit [], λ m. tt)
 
 -- a directive or a module, by its first token
-turn_lives : (s : SoFar) (x : Terminal VFound Place) (start : PieceStart) → at_token (λ (x : VFound). at_piece x.token) x ≡ takes start → Lives (piece_rest s start)
+turn_lives : (s : SoFar) (x : Terminal VFound Place) (start : PieceStart) → at_token (λ (x : VFound). at_piece x.token) x ≡ takes start
+    → Lives (piece_rest s start)
 turn_lives s (proper x) start e = piece_lives s x.token start e
 turn_lives s (end p) start e = absurd cc
 

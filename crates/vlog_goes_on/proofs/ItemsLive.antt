@@ -43,7 +43,8 @@ param_set_lives = (name_lives, λ n. (mark_lives 61 refl, λ _. (constant_lives,
 
 port_item_lives : (attrs : List Attr) (dir : Dir) → Lives (port_item attrs dir)
 unfolding port_item
-port_item_lives attrs dir = (port_kind_lives, λ k. (signed_lives, λ s. (maybe_range_lives, λ r. (list_lives name (mark 59) name_lives (mark_lives 59 refl), λ ns. tt))))
+port_item_lives attrs dir =
+    (port_kind_lives, λ k. (signed_lives, λ s. (maybe_range_lives, λ r. (list_lives name (mark 59) name_lives (mark_lives 59 refl), λ ns. tt))))
 
 net_item_lives : (attrs : List Attr) (kind : NetKind) → Lives (net_item attrs kind)
 unfolding net_item
@@ -91,7 +92,8 @@ override_lives = (mark_lives 46 refl, λ _. (name_lives, λ n. (mark_lives 40 re
 
 overrides_lives : Lives overrides
 unfolding overrides
-overrides_lives = after_lives 35 (sequence (mark 40) (λ _. list override_set (mark 41))) (gives []) (mark_lives 40 refl, λ _. list_lives override_set (mark 41) override_lives (mark_lives 41 refl)) tt
+overrides_lives =
+    after_lives 35 (sequence (mark 40) (λ _. list override_set (mark 41))) (gives []) (mark_lives 40 refl, λ _. list_lives override_set (mark 41) override_lives (mark_lives 41 refl)) tt
 
 instances_lives : (attrs : List Attr) (m : List ℕ) → Lives (instances attrs m)
 unfolding instances
@@ -123,4 +125,5 @@ instances_item_lives attrs m = (instances_lives attrs m, λ s. tt)
 
 pub item_lives : (attrs : List Attr) → Lives (item attrs)
 unfolding item
-item_lives attrs = if_lives say.at_name (instances_item attrs) (sequence (choice item_words) (word_item attrs)) (λ m. instances_item_lives attrs m) (word_lives, λ word. word_item_lives attrs word)
+item_lives attrs =
+    if_lives say.at_name (instances_item attrs) (sequence (choice item_words) (word_item attrs)) (λ m. instances_item_lives attrs m) (word_lives, λ word. word_item_lives attrs word)

@@ -86,7 +86,8 @@ tokens_alone ts v h = text_has Fits IsToken tt file file_fit ts v h
 cons_is : {A : Type 0} (y z : A) (ys zs : List A) → y ≡ z → ys ≡ zs → y ∷ ys ≡ z ∷ zs
 cons_is y z ys zs e f = cc
 
-more_tokens : (more before : Tokens) (p : Place) → AllOf IsToken before → more ≡ before ++ end p ∷ [] → (xs : List VFound) × (more ≡ map proper xs ++ end p ∷ [])
+more_tokens : (more before : Tokens) (p : Place) → AllOf IsToken before → more ≡ before ++ end p ∷ []
+    → (xs : List VFound) × (more ≡ map proper xs ++ end p ∷ [])
 more_tokens more [] p all e = ([], e)
 more_tokens more (end q ∷ before) p all e = absurd all.0
 more_tokens [] (proper x ∷ before) p all e = absurd cc
@@ -95,7 +96,8 @@ more_tokens (y ∷ more) (proper x ∷ before) p all e =
     let is : y ≡ proper x = cc in
     (x ∷ r.0, cons_is y (proper x) more (map proper r.0 ++ end p ∷ []) is r.1)
 
-behind_front : (front : List VFound) (more before : Tokens) (p : Place) → AllOf IsToken before → map proper front ++ more ≡ before ++ end p ∷ [] → (xs : List VFound) × (more ≡ map proper xs ++ end p ∷ [])
+behind_front : (front : List VFound) (more before : Tokens) (p : Place) → AllOf IsToken before → map proper front ++ more ≡ before ++ end p ∷ []
+    → (xs : List VFound) × (more ≡ map proper xs ++ end p ∷ [])
 behind_front [] more before p all e = more_tokens more before p all e
 behind_front (x ∷ front) more [] p all e = absurd cc
 behind_front (x ∷ front) more (y ∷ before) p all e = behind_front front more before p all.1 cc
@@ -189,14 +191,16 @@ module _ (bs : List ℕ) (front : List VFound) (s : Splits place_at_start bs fro
       subst (λ (z : Ahead VFound). IsText tt text z v) (sym there.2) is
 
   bytes_text : AreBytes bs → AreBytes whole_text
-  bytes_text all = bytes_both s.used (32 ∷ tokens_text (values xs)) (front_bytes s.used s.rest (subst AreBytes s.parts all)) (omega arith, tokens_bytes (values xs) good)
+  bytes_text all =
+      bytes_both s.used (32 ∷ tokens_text (values xs)) (front_bytes s.used s.rest (subst AreBytes s.parts all)) (omega arith, tokens_bytes (values xs) good)
 
   to_file : (p : Place) (v : VlogFile) → Spells tt text (map proper front ++ (map proper xs ++ end p ∷ [])) v → GoesOnToFile bs front
   to_file p v h = let spelled = spells_text p v h in (whole_text, v, goes_on_from, bytes_text, spelled, λ le. (reads whole_text v).1 (spelled, le))
 
 -- ---- the laws
 
-pub goes_on : (bs : List ℕ) (front : List VFound) (rest : Tokens) → (all_tokens bs).tokens ≡ map proper front ++ rest → Begins tt text (map proper front) → GoesOnToFile bs front
+pub goes_on : (bs : List ℕ) (front : List VFound) (rest : Tokens) → (all_tokens bs).tokens ≡ map proper front ++ rest
+    → Begins tt text (map proper front) → GoesOnToFile bs front
 goes_on bs front rest e begun =
     let h = goes_on_by (map proper front) begun in
     let n = one_end trailing tt file tokens_alone (map proper front ++ h.0) h.1 h.3 in
@@ -210,13 +214,15 @@ begins bs front h =
     let same : Begins tt text (map proper on.same) = (on.others, h.1, subst (λ (z : Tokens). Spells tt text z h.1) on.tokens h.4.0) in
     begins_alike SameToken tt text text_alike same_token_self (map proper on.same) (map proper front) (same_back front on.same on.are_same) same
 
-pub fronts : (bs : List ℕ) (front : List VFound) (rest : Tokens) → (all_tokens bs).tokens ≡ map proper front ++ rest → Begins tt text (map proper front) ↔ GoesOnToFile bs front
+pub fronts : (bs : List ℕ) (front : List VFound) (rest : Tokens) → (all_tokens bs).tokens ≡ map proper front ++ rest
+    → Begins tt text (map proper front) ↔ GoesOnToFile bs front
 fronts bs front rest e = (λ h. goes_on bs front rest e h, λ h. begins bs front h)
 
 -- ---- before a first fault
 
 -- what stands before another token has no end
-no_end_before : (n : ℕ) (ts before after : Tokens) (x : Terminal VFound Place) (finish : Finish TextFault) → Rises n ts finish → ts ≡ before ++ x ∷ after → (front : List VFound) × (before ≡ map proper front)
+no_end_before : (n : ℕ) (ts before after : Tokens) (x : Terminal VFound Place) (finish : Finish TextFault) → Rises n ts finish
+    → ts ≡ before ++ x ∷ after → (front : List VFound) × (before ≡ map proper front)
 no_end_before n ts [] after x finish h e = ([], refl)
 no_end_before n [] (y ∷ before) after x finish h e = absurd cc
 no_end_before n (end p ∷ ts) (y ∷ before) after x finish h e = let tail : ts ≡ before ++ x ∷ after = cc in absurd (by before (sym h.1 ∙ tail))
@@ -231,12 +237,14 @@ no_end_before n (proper z ∷ ts) (y ∷ before) after x finish h e =
     (z ∷ r.0, cons_is y (proper z) before (map proper r.0) is r.1)
 
 -- where bytes that are no token stand behind them, no token is the end
-no_end : (n : ℕ) (ts : Tokens) (finish : Finish TextFault) (f : TextFault) → Rises n ts finish → finish ≡ Bad f → (front : List VFound) × (ts ≡ map proper front)
+no_end : (n : ℕ) (ts : Tokens) (finish : Finish TextFault) (f : TextFault) → Rises n ts finish → finish ≡ Bad f
+    → (front : List VFound) × (ts ≡ map proper front)
 no_end n [] finish f h e = ([], refl)
 no_end n (end p ∷ ts) finish f h e = let done : finish ≡ Done = h.2 in absurd cc
 no_end n (proper x ∷ ts) finish f h e = let r = no_end x.stop ts finish f h.1 e in (x ∷ r.0, ap (λ (z : Tokens). proper x ∷ z) r.1)
 
-at_fault : (x : Terminal VFound Place) (reason : Reason) (f : TextFault) (rest : Tokens) (finish : Finish TextFault) → f ≡ fault_at vlog x reason → StandsAt f (x ∷ rest) finish
+at_fault : (x : Terminal VFound Place) (reason : Reason) (f : TextFault) (rest : Tokens) (finish : Finish TextFault) → f ≡ fault_at vlog x reason
+    → StandsAt f (x ∷ rest) finish
 at_fault (proper x) reason f rest finish e = (ap (λ (z : TextFault). z.place) e, ap (λ (z : TextFault). z.stop) e)
 at_fault (end p) reason f rest finish e = (ap (λ (z : TextFault). z.place) e, ap (λ (z : TextFault). z.stop) e)
 

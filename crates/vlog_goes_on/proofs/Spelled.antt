@@ -69,7 +69,8 @@ directive_ends : (c : ℕ) → is_apart c ≡ true → next_step phase.Directive
 unfolding next_step
 directive_ends c h = rw (stops c h).word refl
 
-directive_read : (b : ℕ) (bs rest : List ℕ) → (is_ascii_alphabetic b || b == 95) ≡ true → list_all is_word_byte bs ≡ true → 2 + length bs ≤ 1024 → directive_item (96 ∷ b ∷ bs) ≡ Token (t.Directive (96 ∷ b ∷ bs)) → Apart rest
+directive_read : (b : ℕ) (bs rest : List ℕ) → (is_ascii_alphabetic b || b == 95) ≡ true → list_all is_word_byte bs ≡ true → 2 + length bs ≤ 1024
+    → directive_item (96 ∷ b ∷ bs) ≡ Token (t.Directive (96 ∷ b ∷ bs)) → Apart rest
     → item_at 96 ((b ∷ bs) ++ rest) ≡ piece (Token (t.Directive (96 ∷ b ∷ bs))) (2 + length bs) (2 + length bs + one_if (first rest))
 unfolding item_at kept item_of is_complete most_of
 directive_read b bs rest begins all short item h =
@@ -109,11 +110,13 @@ abbrev pub tokens_text : List VToken → List ℕ
 tokens_text [] = []
 tokens_text (x ∷ xs) = token_text x (32 ∷ tokens_text xs)
 
-number_lexes : (n : ℤ) (rest : List ℕ) (ts : List VToken) → IsCount n → Apart rest → Lexes rest ts → Lexes (signed_decimal n ++ rest) (t.Number n ∷ ts)
+number_lexes : (n : ℤ) (rest : List ℕ) (ts : List VToken) → IsCount n → Apart rest → Lexes rest ts
+    → Lexes (signed_decimal n ++ rest) (t.Number n ∷ ts)
 number_lexes (pos n) rest ts good h l = lexes_number (pos n) rest ts good.number h l
 number_lexes (negsuc n) rest ts good h l = let sign = good.sign in absurd (grind arith)
 
-real_lexes : (m e : ℤ) (rest : List ℕ) (ts : List VToken) → pos 0 ≤ℤ m → IsNumber m → IsNumber e → Apart rest → Lexes rest ts → Lexes (signed_decimal m ++ (101 ∷ (signed_decimal e ++ rest))) (t.Real (record { mantissa = m; exponent = e }) ∷ ts)
+real_lexes : (m e : ℤ) (rest : List ℕ) (ts : List VToken) → pos 0 ≤ℤ m → IsNumber m → IsNumber e → Apart rest → Lexes rest ts
+    → Lexes (signed_decimal m ++ (101 ∷ (signed_decimal e ++ rest))) (t.Real (record { mantissa = m; exponent = e }) ∷ ts)
 real_lexes (pos n) e rest ts sign small near h l = lexes_real (pos n) e rest ts small near h l
 real_lexes (negsuc n) e rest ts sign small near h l = absurd (grind arith)
 

@@ -34,7 +34,8 @@ record Next (p : Place) (bs : List ℕ) (x : VFound) (others : List (Terminal VF
   rest : List ℕ
   parts : bs ≡ one ∷ (more ++ rest)
   behind : (tokens_from 0 (place_past p (one ∷ more)) rest).tokens ≡ others
-  again : (other : List ℕ) → Fits rest other → (y : VFound) × IsSame x y × (tokens_from 0 p (one ∷ (more ++ other)) ≡ follow y (tokens_from 0 (place_past p (one ∷ more)) other))
+  again : (other : List ℕ) → Fits rest other
+      → (y : VFound) × IsSame x y × (tokens_from 0 p (one ∷ (more ++ other)) ≡ follow y (tokens_from 0 (place_past p (one ∷ more)) other))
 
 tokens_behind : (p : Place) (used rest : List ℕ) → tokens_from (length used) p (used ++ rest) ≡ tokens_from 0 (place_past p used) rest
 unfolding tokens_from
@@ -42,7 +43,8 @@ tokens_behind p [] rest = refl
 tokens_behind p (b ∷ bs) rest = tokens_behind (place_after p b) bs rest
 
 -- what stands at a place, and the tokens behind it
-at_item : (p : Place) (b : ℕ) (bs : List ℕ) (item : Item) (count seen : ℕ) → item_at b bs ≡ piece item count seen → tokens_from 0 p (b ∷ bs) ≡ then_tokens item p (b ∷ bs) count seen (λ n. tokens_from (n - 1) (place_after p b) bs)
+at_item : (p : Place) (b : ℕ) (bs : List ℕ) (item : Item) (count seen : ℕ) → item_at b bs ≡ piece item count seen
+    → tokens_from 0 p (b ∷ bs) ≡ then_tokens item p (b ∷ bs) count seen (λ n. tokens_from (n - 1) (place_after p b) bs)
 unfolding tokens_from
 at_item p b bs item count seen e = rw e refl
 
@@ -50,8 +52,10 @@ less_one : (n : ℕ) → suc n - 1 ≡ n
 less_one n = omega arith
 
 -- behind so many bytes and the first
-past_tail : (p : Place) (b : ℕ) (tail rest : List ℕ) → tokens_from (suc (length tail) - 1) (place_after p b) (tail ++ rest) ≡ tokens_from 0 (place_past p (b ∷ tail)) rest
-past_tail p b tail rest = ap (λ (n : ℕ). tokens_from n (place_after p b) (tail ++ rest)) (less_one (length tail)) ∙ tokens_behind (place_after p b) tail rest
+past_tail : (p : Place) (b : ℕ) (tail rest : List ℕ)
+    → tokens_from (suc (length tail) - 1) (place_after p b) (tail ++ rest) ≡ tokens_from 0 (place_past p (b ∷ tail)) rest
+past_tail p b tail rest =
+    ap (λ (n : ℕ). tokens_from n (place_after p b) (tail ++ rest)) (less_one (length tail)) ∙ tokens_behind (place_after p b) tail rest
 
 -- ---- a line
 
@@ -59,7 +63,8 @@ one_more : (n : ℕ) → 1 + n ≡ suc n
 one_more n = omega arith
 
 -- a run is as long where the byte behind it is the same
-run_again : (class : ℕ → Bool) (bs z : List ℕ) → first (drop (prefix_len class bs) bs) ≡ first z → prefix_len class (take (prefix_len class bs) bs ++ z) ≡ prefix_len class bs
+run_again : (class : ℕ → Bool) (bs z : List ℕ) → first (drop (prefix_len class bs) bs) ≡ first z
+    → prefix_len class (take (prefix_len class bs) bs ++ z) ≡ prefix_len class bs
 run_again class [] [] e = refl
 run_again class [] (c ∷ cs) e = absurd cc
 run_again class (b ∷ bs) z e = by (class b) refl (run_again class bs z) e
@@ -68,8 +73,10 @@ run_again class (b ∷ bs) z e = by (class b) refl (run_again class bs z) e
     none [] is e = absurd cc
     none (c ∷ cs) is e = let same : c ≡ b = cc in let no : class c ≡ false = ap class same ∙ is in rw no refl
 
-    by : (t : Bool) → class b ≡ t → (first (drop (prefix_len class bs) bs) ≡ first z → prefix_len class (take (prefix_len class bs) bs ++ z) ≡ prefix_len class bs)
-        → first (drop (cond t (1 + prefix_len class bs) 0) (b ∷ bs)) ≡ first z → prefix_len class (take (cond t (1 + prefix_len class bs) 0) (b ∷ bs) ++ z) ≡ cond t (1 + prefix_len class bs) 0
+    by : (t : Bool) → class b ≡ t
+        → (first (drop (prefix_len class bs) bs) ≡ first z → prefix_len class (take (prefix_len class bs) bs ++ z) ≡ prefix_len class bs)
+        → first (drop (cond t (1 + prefix_len class bs) 0) (b ∷ bs)) ≡ first z
+        → prefix_len class (take (cond t (1 + prefix_len class bs) 0) (b ∷ bs) ++ z) ≡ cond t (1 + prefix_len class bs) 0
     by true is rest e =
         let here : first (drop (prefix_len class bs) bs) ≡ first z = subst (λ (n : ℕ). first (drop n (b ∷ bs)) ≡ first z) (one_more (prefix_len class bs)) e in
         rw (one_more (prefix_len class bs), is) (ap (λ (n : ℕ). 1 + n) (rest here) ∙ one_more (prefix_len class bs))
@@ -83,17 +90,21 @@ line_count b tail rest = ap (λ (z : List ℕ). suc (length tail) + prefix_len i
     behind (c ∷ cs) = behind cs
 
 -- behind a line's bytes
-past_line : (p : Place) (b : ℕ) (tail line rest : List ℕ) (n : ℕ) → n ≡ suc (length tail) + length line → tokens_from (n - 1) (place_after p b) (tail ++ (line ++ rest)) ≡ tokens_from 0 (place_past p (b ∷ (tail ++ line))) rest
+past_line : (p : Place) (b : ℕ) (tail line rest : List ℕ) (n : ℕ) → n ≡ suc (length tail) + length line
+    → tokens_from (n - 1) (place_after p b) (tail ++ (line ++ rest)) ≡ tokens_from 0 (place_past p (b ∷ (tail ++ line))) rest
 past_line p b tail line rest n e =
     let long : n - 1 ≡ length (tail ++ line) = omega (arith, e, length-append tail line) in
     ap (λ (n : ℕ). tokens_from n (place_after p b) (tail ++ (line ++ rest))) long
-    ∙ ap (λ (z : List ℕ). tokens_from (length (tail ++ line)) (place_after p b) z) (sym (append_assoc tail line rest)) ∙ tokens_behind (place_after p b) (tail ++ line) rest
+    ∙ ap (λ (z : List ℕ). tokens_from (length (tail ++ line)) (place_after p b) z) (sym (append_assoc tail line rest))
+    ∙ tokens_behind (place_after p b) (tail ++ line) rest
 
 -- ---- the next token
 
 -- the bytes of what stands at a place and of the next token behind it
-after_gap : (p : Place) (b : ℕ) (gap rest : List ℕ) (x : VFound) (others : List (Terminal VFound Place)) → (n : Next (place_past p (b ∷ gap)) rest x others)
-    → ((other : List ℕ) → Fits n.rest other → tokens_from 0 p (b ∷ (gap ++ (n.one ∷ (n.more ++ other)))) ≡ tokens_from 0 (place_past p (b ∷ gap)) (n.one ∷ (n.more ++ other))) → Next p (b ∷ (gap ++ rest)) x others
+after_gap : (p : Place) (b : ℕ) (gap rest : List ℕ) (x : VFound) (others : List (Terminal VFound Place))
+    → (n : Next (place_past p (b ∷ gap)) rest x others)
+    → ((other : List ℕ) → Fits n.rest other → tokens_from 0 p (b ∷ (gap ++ (n.one ∷ (n.more ++ other)))) ≡ tokens_from 0 (place_past p (b ∷ gap)) (n.one ∷ (n.more ++ other)))
+    → Next p (b ∷ (gap ++ rest)) x others
 after_gap p b gap rest x others n passes =
     let past : place_past (place_past p (b ∷ gap)) (n.one ∷ n.more) ≡ place_past p (b ∷ (gap ++ (n.one ∷ n.more))) = sym (place_past-append p (b ∷ gap) (n.one ∷ n.more)) in
     record {
@@ -106,7 +117,8 @@ after_gap p b gap rest x others n passes =
           let a = n.again other f in (
             a.0,
             a.1,
-            ap (λ (z : List ℕ). tokens_from 0 p (b ∷ z)) (append_assoc gap (n.one ∷ n.more) other) ∙ passes other f ∙ a.2 ∙ ap (λ (q : Place). follow a.0 (tokens_from 0 q other)) past,
+            ap (λ (z : List ℕ). tokens_from 0 p (b ∷ z)) (append_assoc gap (n.one ∷ n.more) other) ∙ passes other f ∙ a.2
+                ∙ ap (λ (q : Place). follow a.0 (tokens_from 0 q other)) past,
           );
     }
 
@@ -123,8 +135,10 @@ as_terminal x = proper x
 same_found : (x y : VFound) → as_terminal x ≡ as_terminal y → x ≡ y
 same_found x y e = cc
 
-of_token : (p : Place) (b : ℕ) (bs : List ℕ) (x : VFound) (others : List (Terminal VFound Place)) (token : VToken) (count seen : ℕ) → item_at b bs ≡ piece (Token token) count seen
-    → proper (record { place = p; stop = p.offset + seen; token = token }) ∷ (tokens_from (count - 1) (place_after p b) bs).tokens ≡ proper x ∷ others → Next p (b ∷ bs) x others
+of_token : (p : Place) (b : ℕ) (bs : List ℕ) (x : VFound) (others : List (Terminal VFound Place)) (token : VToken) (count seen : ℕ)
+    → item_at b bs ≡ piece (Token token) count seen
+    → proper (record { place = p; stop = p.offset + seen; token = token }) ∷ (tokens_from (count - 1) (place_after p b) bs).tokens ≡ proper x ∷ others
+    → Next p (b ∷ bs) x others
 unfolding item_at
 of_token p b bs x others token count seen spelled e =
     let here : VFound = record { place = p; stop = p.offset + seen; token = token } in
@@ -132,7 +146,8 @@ of_token p b bs x others token count seen spelled e =
     let is = head_is (proper here) (proper x) (tokens_from (count - 1) (place_after p b) bs).tokens others e in
     let same = same_found here x is.0 in
     let behind : tokens_from (count - 1) (place_after p b) bs ≡ tokens_from 0 (place_past p (b ∷ t.tail)) t.rest =
-    ap (λ (n : ℕ). tokens_from (n - 1) (place_after p b) bs) t.count ∙ ap (λ (z : List ℕ). tokens_from (suc (length t.tail) - 1) (place_after p b) z) t.parts ∙ past_tail p b t.tail t.rest in
+    ap (λ (n : ℕ). tokens_from (n - 1) (place_after p b) bs) t.count
+    ∙ ap (λ (z : List ℕ). tokens_from (suc (length t.tail) - 1) (place_after p b) z) t.parts ∙ past_tail p b t.tail t.rest in
     record {
       one = b;
       more = t.tail;
@@ -144,7 +159,8 @@ of_token p b bs x others token count seen spelled e =
           let y : VFound = record { place = p; stop = p.offset + a.0; token = token } in (
             y,
             record { token = ap (λ (f : VFound). f.token) (sym same); place = ap (λ (f : VFound). f.place) (sym same) },
-            at_item p b (t.tail ++ other) (Token token) (suc (length t.tail)) a.0 a.1 ∙ ap (λ (s : Ahead VFound). follow y s) (past_tail p b t.tail other),
+            at_item p b (t.tail ++ other) (Token token) (suc (length t.tail)) a.0 a.1
+                ∙ ap (λ (s : Ahead VFound). follow y s) (past_tail p b t.tail other),
           );
     }
 
@@ -155,20 +171,25 @@ Onward n x others = (p : Place) (bs : List ℕ) → length bs ≤ n → (tokens_
 shorter : (bs tail rest : List ℕ) (n : ℕ) → bs ≡ tail ++ rest → suc (length bs) ≤ suc n → length rest ≤ n
 shorter bs tail rest n e le = let l = ap length e ∙ length-append tail rest in omega (arith, l, le)
 
-of_blank : (p : Place) (b : ℕ) (bs : List ℕ) (x : VFound) (others : List (Terminal VFound Place)) (n count seen : ℕ) → Onward n x others → suc (length bs) ≤ suc n → item_at b bs ≡ piece Blank count seen
+of_blank : (p : Place) (b : ℕ) (bs : List ℕ) (x : VFound) (others : List (Terminal VFound Place)) (n count seen : ℕ) → Onward n x others
+    → suc (length bs) ≤ suc n → item_at b bs ≡ piece Blank count seen
     → (tokens_from (count - 1) (place_after p b) bs).tokens ≡ proper x ∷ others → Next p (b ∷ bs) x others
 unfolding item_at
 of_blank p b bs x others n count seen on le spelled e =
     let t = item_again (start_of b) b bs (record { value = Blank; count = count; seen = seen }) spelled in
     let behind : tokens_from (count - 1) (place_after p b) bs ≡ tokens_from 0 (place_past p (b ∷ t.tail)) t.rest =
-    ap (λ (n : ℕ). tokens_from (n - 1) (place_after p b) bs) t.count ∙ ap (λ (z : List ℕ). tokens_from (suc (length t.tail) - 1) (place_after p b) z) t.parts ∙ past_tail p b t.tail t.rest in
+    ap (λ (n : ℕ). tokens_from (n - 1) (place_after p b) bs) t.count
+    ∙ ap (λ (z : List ℕ). tokens_from (suc (length t.tail) - 1) (place_after p b) z) t.parts ∙ past_tail p b t.tail t.rest in
     let next = on (place_past p (b ∷ t.tail)) t.rest (shorter bs t.tail t.rest n t.parts le) (sym (ap (λ (s : Ahead VFound). s.tokens) behind) ∙ e) in
     subst (λ (z : List ℕ). Next p (b ∷ z) x others) (sym t.parts)
     (after_gap p b t.tail t.rest x others next
-    (λ other f. let a = t.again (next.one ∷ (next.more ++ other)) (begins_so t.rest next.one (next.more ++ next.rest) (next.more ++ other) next.parts) in
-    at_item p b (t.tail ++ (next.one ∷ (next.more ++ other))) Blank (suc (length t.tail)) a.0 a.1 ∙ past_tail p b t.tail (next.one ∷ (next.more ++ other))))
+    (λ other f. let a =
+    t.again (next.one ∷ (next.more ++ other)) (begins_so t.rest next.one (next.more ++ next.rest) (next.more ++ other) next.parts) in
+    at_item p b (t.tail ++ (next.one ∷ (next.more ++ other))) Blank (suc (length t.tail)) a.0 a.1
+    ∙ past_tail p b t.tail (next.one ∷ (next.more ++ other))))
 
-of_line : (p : Place) (b : ℕ) (bs : List ℕ) (x : VFound) (others : List (Terminal VFound Place)) (n count seen : ℕ) → Onward n x others → suc (length bs) ≤ suc n → item_at b bs ≡ piece Line count seen
+of_line : (p : Place) (b : ℕ) (bs : List ℕ) (x : VFound) (others : List (Terminal VFound Place)) (n count seen : ℕ) → Onward n x others
+    → suc (length bs) ≤ suc n → item_at b bs ≡ piece Line count seen
     → (tokens_from (with_line count (b ∷ bs) - 1) (place_after p b) bs).tokens ≡ proper x ∷ others → Next p (b ∷ bs) x others
 unfolding item_at
 of_line p b bs x others n count seen on le spelled e =
@@ -180,9 +201,11 @@ of_line p b bs x others n count seen on le spelled e =
     let long : length line ≡ prefix_len is_line_byte t.rest = omega (arith, length-take (prefix_len is_line_byte t.rest) t.rest, prefix_len-le-length is_line_byte t.rest) in
     let all : bs ≡ (t.tail ++ line) ++ rest = t.parts ∙ ap (λ (z : List ℕ). t.tail ++ z) whole ∙ sym (append_assoc t.tail line rest) in
     let counted : with_line count (b ∷ bs) ≡ suc (length t.tail) + length line =
-    ap (λ (m : ℕ). with_line m (b ∷ bs)) t.count ∙ ap (λ (z : List ℕ). with_line (suc (length t.tail)) (b ∷ z)) t.parts ∙ line_count b t.tail t.rest ∙ ap (λ (m : ℕ). suc (length t.tail) + m) (sym long) in
+    ap (λ (m : ℕ). with_line m (b ∷ bs)) t.count ∙ ap (λ (z : List ℕ). with_line (suc (length t.tail)) (b ∷ z)) t.parts ∙ line_count b t.tail t.rest
+    ∙ ap (λ (m : ℕ). suc (length t.tail) + m) (sym long) in
     let behind : tokens_from (with_line count (b ∷ bs) - 1) (place_after p b) bs ≡ tokens_from 0 (place_past p (b ∷ (t.tail ++ line))) rest =
-    ap (λ (z : List ℕ). tokens_from (with_line count (b ∷ bs) - 1) (place_after p b) z) (t.parts ∙ ap (λ (z : List ℕ). t.tail ++ z) whole) ∙ past_line p b t.tail line rest (with_line count (b ∷ bs)) counted in
+    ap (λ (z : List ℕ). tokens_from (with_line count (b ∷ bs) - 1) (place_after p b) z) (t.parts ∙ ap (λ (z : List ℕ). t.tail ++ z) whole)
+    ∙ past_line p b t.tail line rest (with_line count (b ∷ bs)) counted in
     let next = on (place_past p (b ∷ (t.tail ++ line))) rest (shorter bs (t.tail ++ line) rest n all le) (sym (ap (λ (s : Ahead VFound). s.tokens) behind) ∙ e) in
     subst (λ (z : List ℕ). Next p (b ∷ z) x others) (sym all)
     (after_gap p b (t.tail ++ line) rest x others next
@@ -197,8 +220,10 @@ of_line p b bs x others n count seen on le spelled e =
     line_starts [] rest z whole e s = ap first e ∙ s
     line_starts (c ∷ line) rest z whole e s = ap first e
 
-of_item : (p : Place) (b : ℕ) (bs : List ℕ) (x : VFound) (others : List (Terminal VFound Place)) (n : ℕ) (i : Item) (count seen : ℕ) → Onward n x others → suc (length bs) ≤ suc n → item_at b bs ≡ piece i count seen
-    → (then_tokens i p (b ∷ bs) count seen (λ count. tokens_from (count - 1) (place_after p b) bs)).tokens ≡ proper x ∷ others → Next p (b ∷ bs) x others
+of_item : (p : Place) (b : ℕ) (bs : List ℕ) (x : VFound) (others : List (Terminal VFound Place)) (n : ℕ) (i : Item) (count seen : ℕ)
+    → Onward n x others → suc (length bs) ≤ suc n → item_at b bs ≡ piece i count seen
+    → (then_tokens i p (b ∷ bs) count seen (λ count. tokens_from (count - 1) (place_after p b) bs)).tokens ≡ proper x ∷ others
+    → Next p (b ∷ bs) x others
 of_item p b bs x others n Blank count seen on le is e = of_blank p b bs x others n count seen on le is e
 of_item p b bs x others n Line count seen on le is e = of_line p b bs x others n count seen on le is e
 of_item p b bs x others n (Token token) count seen on le is e = of_token p b bs x others token count seen is e
@@ -209,7 +234,8 @@ next n x others p [] le e = absurd cc
 next zero x others p (b ∷ bs) le e = absurd (omega (arith, le))
 next (suc n) x others p (b ∷ bs) le e = by (item_at b bs) refl (next n x others) e
   where
-    by : (r : Result (Piece Item) Flaw) → item_at b bs ≡ r → Onward n x others → (then_items p (b ∷ bs) r (λ count. tokens_from (count - 1) (place_after p b) bs)).tokens ≡ proper x ∷ others → Next p (b ∷ bs) x others
+    by : (r : Result (Piece Item) Flaw) → item_at b bs ≡ r → Onward n x others
+        → (then_items p (b ∷ bs) r (λ count. tokens_from (count - 1) (place_after p b) bs)).tokens ≡ proper x ∷ others → Next p (b ∷ bs) x others
     by (Err f) is on e = absurd cc
     by (Ok item) is on e = of_item p b bs x others n item.value item.count item.seen on le is e
 
@@ -220,7 +246,8 @@ pub record Splits (p : Place) (bs : List ℕ) (front : List VFound) : Type 0 whe
   pub used : List ℕ
   pub rest : List ℕ
   pub parts : bs ≡ used ++ rest
-  pub again : (other : List ℕ) → Fits rest other → (same : List VFound) × AreAlike IsSame front same × (tokens_from 0 p (used ++ other) ≡ followed same (tokens_from 0 (place_past p used) other))
+  pub again : (other : List ℕ) → Fits rest other
+      → (same : List VFound) × AreAlike IsSame front same × (tokens_from 0 p (used ++ other) ≡ followed same (tokens_from 0 (place_past p used) other))
 
 fits_on : (used rest other : List ℕ) → Fits rest other → Fits (used ++ rest) (used ++ other)
 fits_on [] rest other f = f
@@ -231,7 +258,8 @@ abbrev pub fronted : List VFound → List (Terminal VFound Place) → List (Term
 fronted [] ts = ts
 fronted (x ∷ xs) ts = proper x ∷ fronted xs ts
 
-pub splits : (front : List VFound) (others : List (Terminal VFound Place)) (p : Place) (bs : List ℕ) → (tokens_from 0 p bs).tokens ≡ fronted front others → Splits p bs front
+pub splits : (front : List VFound) (others : List (Terminal VFound Place)) (p : Place) (bs : List ℕ)
+    → (tokens_from 0 p bs).tokens ≡ fronted front others → Splits p bs front
 splits [] others p bs e = record { used = []; rest = bs; parts = refl; again = λ other f. ([], tt, refl) }
 splits (x ∷ front) others p bs e =
     let n = next (length bs) x (fronted front others) p bs (omega arith) e in

@@ -1,4 +1,5 @@
--- Tokens that some bytes spell, and what can be gone on with by such tokens (IEEE 1364-2005, 3 and A.1.2).
+-- Tokens that some bytes spell, and what can be gone on with by such tokens (IEEE 1364-2005, 3 and
+-- A.1.2).
 use Rattle.std.specs.Prelude.{◌≡◌, ⊤, ◌≤◌, ◌||◌, ◌==◌, ℕ, Bool, true, List, ◌∷◌, length}
 use Rattle.std.specs.Char.{is_ascii_alphabetic}
 use Rattle.std.specs.List.{list_all}
@@ -19,11 +20,13 @@ use Rattle.vlog_exprs.specs.Reasons.{trailing}
 use Rattle.vlog_modules.specs.Grammar.{file}
 use Rattle.vlog_lexing.specs.Tokens.{IsWord, is_punctuation}
 
--- a symbol of an operator: a byte that is no punctuation; `*` and `/` are such where they begin no `*)` and no comment
+-- a symbol of an operator: a byte that is no punctuation; `*` and `/` are such where they begin no
+-- `*)` and no comment
 abbrev pub is_operator : ℕ → Bool
 is_operator b = is_symbol b || b == 42 || b == 47
 
--- a directive: a backtick, and a simple name without `$` of at most 1,024 bytes in all; some directives are white space and no token (19)
+-- a directive: a backtick, and a simple name without `$` of at most 1,024 bytes in all; some
+-- directives are white space and no token (19)
 pub record IsDirective (w : List ℕ) : Type 0 where
   pub first : ℕ
   pub rest : List ℕ
