@@ -4,9 +4,10 @@ use Rattle.std.specs.Prelude.{None}
 use Rattle.edif_design.specs.Design.{edif_design}
 use Rattle.edif_design.specs.FileRules.{first_E}
 use Rattle.edif_design_laws.proofs.Designs.{answered_sound}
+use Rattle.edif_library.specs.Text.{EdifReads}
 use Rattle.edif_library.specs.declared.file.EdifFile.{EdifFile}
-use Rattle.edif_rereading.specs.Values.{IsEdifValue}
 use Rattle.edif_resolve.specs.Answers.{IsDesignOf}
+use Rattle.edif_writer.specs.Forms.{edif_text}
 use Rattle.net_bits.specs.Names.{has_name}
 use Rattle.net_hier.specs.Design.{Design}
 use Rattle.net_hier.specs.Units.{units}
@@ -17,9 +18,10 @@ use Rattle.vectors.specs.Files.{generated}
 use Rattle.vectors_laws.proofs.Values.{file_is}
 use Rattle.vectors_laws.proofs.Whole.{design_fits, no_target_rule, none_broken}
 use Rattle.vectors_line.specs.Lines.{no_params}
+use Rattle.vectors_texts.proofs.Whole.{text_reads_back}
 
-pub file_value : (seed cells : ℕ) (file : EdifFile) → file ≡ generated seed cells → cells < 2 ^ 32 → IsEdifValue file
-file_value seed cells file same small = subst IsEdifValue (sym same) (file_is seed cells (omega (arith, small)))
+pub file_reads : (seed cells : ℕ) (file : EdifFile) → file ≡ generated seed cells → cells ≤ 100000 → EdifReads (edif_text file) file
+file_reads seed cells file same few = subst (λ (f : EdifFile). EdifReads (edif_text f) f) (sym same) (text_reads_back seed cells few)
 
 pub file_clean : (seed cells : ℕ) (file : EdifFile) → file ≡ generated seed cells → 0 < cells → cells ≤ 100000 → first_E file ≡ None
 file_clean seed cells file same some few = ap first_E same ∙ none_broken seed cells some (omega (arith, few))

@@ -1,3 +1,4 @@
 pub mod Again
 pub mod Doubling
 pub mod Generated
+pub mod Room

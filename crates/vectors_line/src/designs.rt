@@ -3,8 +3,9 @@ ghost use Rattle.std.specs.Prelude.{◌≡◌, ◌<◌, ◌≤◌, ◌^◌, None
 ghost use Rattle.edif_design.specs.Design.{edif_design};
 ghost use Rattle.edif_design.specs.FileRules.{first_E};
 ghost use Rattle.edif_library.specs.Sizes.{edif_size};
-ghost use Rattle.edif_rereading.specs.Values.{IsEdifValue};
+ghost use Rattle.edif_library.specs.Text.{EdifReads};
 ghost use Rattle.edif_resolve.specs.Answers.{IsDesignOf};
+ghost use Rattle.edif_writer.specs.Forms.{edif_text};
 ghost use Rattle.net_bits.specs.Names.{has_name};
 ghost use Rattle.net_hier.specs.Units.{units};
 ghost use Rattle.net_hier.specs.Valid.{count_limit, unit_limit};
@@ -27,9 +28,9 @@ use vectors::generate;
 use vlog_values::VlogFile;
 
 /// The file that the text of a file reads as, which is the file itself.
-#[tactic(auto, using(crate::proofs::Again::same_file))]
+#[tactic(auto, using(crate::proofs::Again::same_file, crate::proofs::Again::text_short, crate::proofs::Again::text_is_one))]
 fn read_again(alloc: Global, file: &EdifFile) -> Result<EdifFile, NoMemory>
-    requires { IsEdifValue file.now }
+    requires { EdifReads (edif_text file.now) file.now }
     ensures same { IfOk result (λ read. read ≡ file.now) }
     ensures small { IfOk result (λ read. edif_size read ≤ count_limit) }
 {
@@ -74,9 +75,10 @@ fn modules_of(alloc: Global, design: &Hier) -> Result<VlogFile, NoMemory>
 }
 
 /// The generated file, as its text reads.
-#[tactic(auto, using(crate::proofs::Generated::file_value))]
+#[tactic(auto, using(crate::proofs::Generated::file_reads))]
 fn generated_again(alloc: Global, seed: u64, cells: u32) -> Result<EdifFile, NoMemory>
-    requires { 0 < cells }
+    requires some { 0 < cells }
+    requires few { cells ≤ 100000 }
     ensures same { IfOk result (λ file. file ≡ generated seed cells) }
     ensures small { IfOk result (λ file. edif_size file ≤ count_limit) }
 {

@@ -55,9 +55,8 @@ fn line_of(
 /// The line of the generated file of a seed and so many cells: the file is written to memory, read again, resolved and translated.
 ///
 /// # Errors
-/// `NoMemory`: memory ran out. That the text of the file reads as the file, that the file and its design break no rule, and that the design is
-/// within its limit is proved, so nothing else is answered. It would also be answered for a text past the limit of an input, as `file_of` says;
-/// 100,000 cells do not make one, which is not proved.
+/// `NoMemory`: memory ran out. Nothing else is answered: that the text of the file is within the limit of an input and reads as the file, that
+/// the file and its design break no rule, and that the design is within its limit is proved.
 pub fn generated_line(alloc: Global, seed: u64, cells: u32) -> Result<Text, NoMemory>
     requires some { 0 < cells }
     requires few { cells ≤ 100000 }

@@ -2,16 +2,20 @@
 ghost use Rattle.std.specs.Prelude.{◌≡◌, ◌≤◌, length, IfOk};
 ghost use Rattle.edif_library.specs.Sizes.{edif_size};
 ghost use Rattle.edif_library.specs.Text.{EdifReads};
+ghost use Rattle.edif_library.specs.declared.file.EdifFile.{EdifFile};
 ghost use Rattle.edif_writer.specs.Forms.{edif_text};
 ghost use Rattle.net_hier.specs.Valid.{count_limit};
+ghost use Rattle.nl_base.specs.declared.fault.ReadError.TheVariants as errors;
+ghost use Rattle.nl_bytes.specs.declared.bytes.TheConstants.{LIMIT};
 ghost use Rattle.vectors_line.specs.Lines.{saturated};
 ghost use Rattle.vlog_writer.specs.Forms.{vlog_text};
 
+use crate::source::TextSource;
 use edif_library::EdifFile;
 use edif_sizes::read_sized_edif;
 use edif_writer::write_edif;
-use nl_base::NoMemory;
-use nl_io::{CountSink, MemSink, MemSource};
+use nl_base::{NoMemory, ReadError};
+use nl_io::{CountSink, MemSink};
 use std::alloc::Global;
 use vlog_values::VlogFile;
 use vlog_writer::write_vlog;
@@ -38,8 +42,9 @@ pub(crate) fn vlog_length(file: &VlogFile) -> u64
     }
 }
 
-/// The text of a file. A text that has more bytes than a `u64` counts finds no memory.
+/// The text of a file that is within the limit of an input: the sink has room for all of it.
 pub(crate) fn text_of(alloc: Global, file: &EdifFile) -> Result<Vec<u8>, NoMemory>
+    requires { length (edif_text file.now) ≤ LIMIT }
     ensures { IfOk result (λ text. text.items ≡ edif_text file.now) }
 {
     let room = vec![in alloc; 0; edif_length(file) as usize]?;
@@ -49,24 +54,30 @@ pub(crate) fn text_of(alloc: Global, file: &EdifFile) -> Result<Vec<u8>, NoMemor
             let text = Vec::from_slice(alloc, sink.taken())?;
             Ok(text)
         }
-        Err(_) => Err(NoMemory),
+        Err(_) => unreachable!(),
     }
 }
 
-/// The file that a text reads as, which is the text of a file and so has no fault.
-///
-/// # Errors
-/// `NoMemory`: memory ran out. It is also answered for a text that is longer than an input may be, and where the source fails, as no source in
-/// memory does that is not told to; the clauses of a reader do not say that.
+/// An error that is want of memory.
+fn want_of_memory(error: ReadError) -> NoMemory
+    requires { error ≡ errors.NoMemory }
+{
+    match error {
+        ReadError::NoMemory => NoMemory,
+        _ => unreachable!(),
+    }
+}
+
+/// The file that a text reads as, where it reads as one: no other error than want of memory comes.
+#[tactic(auto, using(crate::proofs::Again::want_alone))]
 pub(crate) fn file_of(alloc: Global, text: Vec<u8>) -> Result<EdifFile, NoMemory>
+    requires { (file : EdifFile) × EdifReads text.items file }
     ensures reads { IfOk result (EdifReads text.items) }
     ensures small { IfOk result (λ file. edif_size file ≤ count_limit) }
 {
-    let mut pieces = Vec::new(alloc);
-    pieces.push(text)?;
-    let mut source = MemSource::new(pieces, Vec::new(alloc));
+    let mut source = TextSource::new(alloc, text)?;
     match read_sized_edif(alloc, &mut source) {
         Ok(file) => Ok(file),
-        Err(_) => Err(NoMemory),
+        Err(error) => Err(want_of_memory(error)),
     }
 }
