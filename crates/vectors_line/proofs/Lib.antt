@@ -1,4 +1,3 @@
 pub mod Again
 pub mod Doubling
 pub mod Generated
-pub mod Room

@@ -5,8 +5,8 @@ ghost use Rattle.std.specs.Io.KnownBytes.{ReadConsumes};
 ghost use Rattle.nl_io.specs.Causes.{HasCause};
 ghost use Rattle.nl_io.specs.Sources.{left_past, count_of};
 
-use nl_io::{Failed, MemSource, Source};
 use nl_base::NoMemory;
+use nl_io::{Failed, MemSource, Source};
 use std::alloc::Global;
 use std::marker::Model;
 
