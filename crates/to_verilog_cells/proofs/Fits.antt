@@ -1,5 +1,5 @@
 -- The sizes of a cell, and the parts of its module.
-use Rattle.std.proofs.Common.{◌≡◌, ℕ, zero, suc, ◌+◌, ◌==◌, ◌<◌, ◌≤◌, ◌^◌, Bool, true, false, List, [], ◌∷◌, ◌++◌, Option, Some, None, map, length, get_or, slice_get, refl, sym, ◌∙◌, ap, arith, sum_by, append_assoc}
+use Rattle.std.proofs.Common.{◌≡◌, ℕ, zero, suc, ◌+◌, ◌<◌, ◌≤◌, ◌^◌, true, List, [], ◌∷◌, ◌++◌, Some, None, Result, Ok, Err, IfOk, map, length, get_or, slice_get, refl, sym, ◌∙◌, ap, arith, sum_by, append_assoc}
 use Rattle.std.specs.Option.{option_map_or}
 use Rattle.std.proofs.lemmas.List.Sums.{sum_by-cons}
 use Rattle.std.proofs.lemmas.Option.{get_or_from_slice_get}
@@ -7,24 +7,23 @@ use Rattle.net_bits.specs.Names.{NameSet}
 use Rattle.net_hier.specs.Cells.{width_of}
 use Rattle.net_hier.specs.Design.{Design, IsCell}
 use Rattle.net_hier.specs.Units.{cell_units, port_bits}
-use Rattle.net_hier.specs.Valid.{Each, IsHier, IsPortWidth, count_limit}
+use Rattle.net_hier.specs.Valid.{Each, IsHier, IsPortWidth}
 use Rattle.net_hier.specs.declared.cells.HCell.{HCell}
 use Rattle.net_hier.specs.declared.cells.HInst.{HInst}
 use Rattle.net_hier.specs.declared.cells.HPort.{HPort}
 use Rattle.to_verilog_wires.specs.IsWiring.{IsWiring}
 use Rattle.to_verilog_wires.specs.Wiring.{WiringTable}
 use Rattle.vlog_values.specs.declared.module.ItemV.{ItemV}
-use Rattle.vlog_values.specs.declared.module.Module.{Module}
 use Rattle.vlog_values.specs.declared.declaration.ParamDecl.{ParamDecl}
 use Rattle.vlog_values.specs.declared.expression.Attr.{Attr}
 use Rattle.vlog_values.specs.declared.module.Header.{Header}
-use Rattle.vlog_written.specs.Written.{assign_item, instance_item, plain_header, plain_module, wire_item}
+use Rattle.vlog_written.specs.Written.{assign_item, instance_item, plain_header}
 use Rattle.to_verilog_props.specs.Written.{attrs_of}
 use Rattle.net_hier.specs.Facts.{cell_props}
 use Rattle.to_verilog_items.specs.Assigns.{assigns_of}
 use Rattle.to_verilog_items.specs.Header.{plain_port}
 use Rattle.to_verilog_items.specs.Instances.{below_ports, instances_of}
-use Rattle.to_verilog_cells.specs.Modules.{AreItems, IsModuleOf, plain_of}
+use Rattle.to_verilog_cells.specs.Modules.{AreItems, IsModuleOf}
 use Rattle.to_verilog_cells.proofs.Listed.{there_below}
 
 -- ---- sizes
@@ -60,20 +59,34 @@ few_below design hier number cell is instance h =
     omega (arith, e, le)
 
 -- ---- the items and the module
-pub items_are : (design : Design) (params : NameSet) (number : ℕ) (cell : HCell) (wiring : WiringTable) (decls with_assigns with_instances : List ItemV) (ports : List HPort) (cells : List HCell) →
-    IsWiring design.cells cell wiring decls → ports ≡ cell.ports → cells ≡ design.cells → with_assigns ≡ decls ++ map assign_item (assigns_of ports wiring) →
-    with_instances ≡ with_assigns ++ map instance_item (instances_of cells cell wiring params) → AreItems design params number cell with_instances
-items_are design params number cell wiring decls with_assigns with_instances ports cells w of_ports of_cells e f = record {
+-- the assigns and the instances behind the declarations
+pub added_items : (ports : List HPort) (cells : List HCell) (cell : HCell) (params : NameSet) (wiring : WiringTable) (decls with_assigns with_instances : List ItemV) →
+    ports ≡ cell.ports → with_assigns ≡ decls ++ map assign_item (assigns_of ports wiring) →
+    with_instances ≡ with_assigns ++ map instance_item (instances_of cells cell wiring params) →
+    with_instances ≡ (decls ++ map assign_item (assigns_of cell.ports wiring)) ++ map instance_item (instances_of cells cell wiring params)
+added_items ports cells cell params wiring decls with_assigns with_instances of_ports e f =
+    f ∙ ap (λ l. l ++ map instance_item (instances_of cells cell wiring params)) (e ∙ ap (λ l. decls ++ map assign_item (assigns_of l wiring)) of_ports)
+
+items_are : (design : Design) (params : NameSet) (number : ℕ) (cell : HCell) (wiring : WiringTable) (decls items : List ItemV) (cells : List HCell) →
+    IsWiring design.cells cell wiring decls → cells ≡ design.cells →
+    items ≡ (decls ++ map assign_item (assigns_of cell.ports wiring)) ++ map instance_item (instances_of cells cell wiring params) → AreItems design params number cell items
+items_are design params number cell wiring decls items cells w of_cells e = record {
   wiring = wiring;
   decls = decls;
   is_wiring = w;
   items_are =
       let assigns : List ItemV = map assign_item (assigns_of cell.ports wiring) in
       let instances : List ItemV = map instance_item (instances_of design.cells cell wiring params) in
-      let g : with_assigns ≡ decls ++ assigns = e ∙ ap (λ l. decls ++ map assign_item (assigns_of l wiring)) of_ports in
-      let h : with_instances ≡ with_assigns ++ instances = f ∙ ap (λ l. with_assigns ++ map instance_item (instances_of l cell wiring params)) of_cells in
-      h ∙ (ap (λ l. l ++ instances) g ∙ (append_assoc decls assigns instances ∙ ap (λ l. l ++ (assigns ++ instances)) w.decls_are));
+      let f : items ≡ (decls ++ assigns) ++ instances = e ∙ ap (λ l. (decls ++ assigns) ++ map instance_item (instances_of l cell wiring params)) of_cells in
+      f ∙ (append_assoc decls assigns instances ∙ ap (λ l. l ++ (assigns ++ instances)) w.decls_are);
 }
+
+pub made_items : {E : Type 0} (design : Design) (params : NameSet) (number : ℕ) (cell : HCell) (wiring : WiringTable) (decls : List ItemV) (cells : List HCell) →
+    IsWiring design.cells cell wiring decls → cells ≡ design.cells → (answer : Result (List ItemV) E) →
+    IfOk answer (λ items. items ≡ (decls ++ map assign_item (assigns_of cell.ports wiring)) ++ map instance_item (instances_of cells cell wiring params)) →
+    IfOk answer (AreItems design params number cell)
+made_items design params number cell wiring decls cells w of_cells (Ok items) e = items_are design params number cell wiring decls items cells w of_cells e
+made_items design params number cell wiring decls cells w of_cells (Err fault) e = tt
 
 pub cell_there : (cells : List HCell) (seen : List HCell) (number : ℕ) (cell : HCell) → seen ≡ cells → number < length cells → cell ≡ get_or seen number cell → IsCell cells number cell
 cell_there cells seen number cell e h is =

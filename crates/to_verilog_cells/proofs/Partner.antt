@@ -1,20 +1,19 @@
 -- The module of a cell is one that is written for it.
-use Rattle.std.proofs.Common.{◌≡◌, ◌≢◌, ℕ, zero, suc, ◌+◌, ◌<◌, ◌≤◌, ◌⊎◌, ◌↔◌, inl, inr, Bool, true, false, ◌==◌, if◌then◌else◌, List, [], ◌++◌, Option, Some, None, map, flat_map, length, slice_get, slice_index_or, refl, sym, ◌∙◌, ap, subst, arith, Contains, option_to_list, option_map}
-use Rattle.std.specs.List.{enumerate_from, range_with_len}
+use Rattle.std.proofs.Common.{◌≡◌, ℕ, zero, suc, ◌+◌, ◌<◌, ◌≤◌, ◌⊎◌, ◌↔◌, inl, inr, Bool, true, false, ◌==◌, if◌then◌else◌, List, [], ◌++◌, Option, Some, None, map, slice_get, slice_index_or, refl, sym, ◌∙◌, ap, subst, arith, Contains, option_to_list, option_map}
+use Rattle.std.specs.List.{range_with_len}
 use Rattle.std.specs.Option.{option_and_then, option_map_or}
 use Rattle.std.proofs.lemmas.Bool.Decides.{nat_tests}
 use Rattle.std.proofs.lemmas.List.FromFn.{get_or-range_with_len, length-range_with_len}
 use Rattle.std.proofs.lemmas.List.Elements.{Contains-append_cases, Contains-append_left, Contains-append_right}
-use Rattle.nl_base.specs.declared.value.PropValue.{PropValue}
 use Rattle.net_bits.specs.Classes.{class_of, members_of}
 use Rattle.net_bits.specs.Names.{NameSet}
 use Rattle.net_bits.proofs.CallerLaws.{member_of_class}
 use Rattle.vlog_written.proofs.Contents.{image_of, part_of, there_in_parts}
 use Rattle.vlog_written.proofs.Members.{nothing_there}
-use Rattle.net_hier.specs.Cells.{IsBitOrConstant, IsPinBit, IsPortBit, width_of}
+use Rattle.net_hier.specs.Cells.{IsBitOrConstant, IsPinBit, width_of}
 use Rattle.net_hier.specs.Design.{Design, IsCell}
 use Rattle.net_hier.specs.Facts.{HasLastValue, HasNetValue, SameValues, cell_props}
-use Rattle.net_hier.specs.SameDesign.{Face, face_of}
+use Rattle.net_hier.specs.SameDesign.{face_of}
 use Rattle.net_hier.specs.Valid.{IsGoodCell, IsNode, IsValid}
 use Rattle.net_hier.specs.declared.cells.HCell.{HCell}
 use Rattle.net_hier.specs.declared.cells.HInst.{HInst}
@@ -24,10 +23,10 @@ use Rattle.net_hier.specs.declared.nodes.Node.{Node}
 use Rattle.net_hier.specs.declared.nodes.Node.TheVariants.{Port, Pin, Net, Zero, One}
 use Rattle.net_live.specs.Last.{last_of}
 use Rattle.net_live.proofs.LiveLaws.{joined_node}
-use Rattle.net_stars.specs.Stars.{AreWires, IsBit}
-use Rattle.to_verilog_props.specs.Written.{attrs_of, given_attrs, given_params}
+use Rattle.net_stars.specs.Stars.{IsBit}
+use Rattle.to_verilog_props.specs.Written.{given_params}
 use Rattle.to_verilog_props.proofs.Meanings.{attributes_keep, given_keep, given_once}
-use Rattle.vlog_design.specs.Design.{attr_props, param_props}
+use Rattle.vlog_design.specs.Design.{attr_props}
 use Rattle.vlog_design.specs.Names.{Name}
 use Rattle.vlog_partners.specs.Partners.{AreSides, HasAssignOf, HasWire, IsHubAssign, IsInstanceFor, IsModuleFor, IsPinOf, IsWritten, each_hub, face_of_plain, no_hub, one_hub}
 use Rattle.vlog_partners.proofs.Lists.{distinct_both, distinct_names, none_shared, own_names}
@@ -48,13 +47,13 @@ use Rattle.to_verilog_wires.specs.IsWiring.{IsWiring, wire_net}
 use Rattle.to_verilog_classes.specs.Roots.{of_live, pin_port}
 use Rattle.to_verilog_wires.specs.Wiring.{WiringTable, hub_node_of, hub_of, is_written}
 use Rattle.to_verilog_wires.specs.declared.hubs.Hub.{Hub}
-use Rattle.to_verilog_items.specs.Assigns.{assign_of, assigns_among, assigns_of, member_assign}
+use Rattle.to_verilog_items.specs.Assigns.{assign_of, assigns_among, member_assign}
 use Rattle.to_verilog_items.specs.Exprs.{hub_expr}
 use Rattle.to_verilog_items.specs.Header.{plain_port}
-use Rattle.to_verilog_items.specs.Instances.{below_name, below_ports, conn_of, connected, conns_of, instance_of, pin_expr, pin_exprs}
+use Rattle.to_verilog_items.specs.Instances.{below_ports, conn_of, connected, instance_of, pin_expr, pin_exprs}
 use Rattle.to_verilog_cells.specs.Modules.{IsModuleOf, IsWritable, plain_of}
 use Rattle.to_verilog_cells.proofs.Listed.{all_given, from_mapped, given_at, made_at, made_count, made_names, mapped_item, one_item, same_names, there_at, there_below}
-use Rattle.to_verilog_cells.proofs.Sides.{HasExpr, HasSides, IsSelf, hub_found, outer_sides}
+use Rattle.to_verilog_cells.proofs.Sides.{HasExpr, hub_found, outer_sides}
 
 -- a node of a class that is written
 class_of_live : (groups : GroupTable) (o : Option ℕ) (class : ℕ) → option_and_then (if_live groups) o ≡ Some class → (o ≡ Some class) × (slice_index_or groups.live class false ≡ true)

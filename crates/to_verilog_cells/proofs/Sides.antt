@@ -1,12 +1,11 @@
 -- The expressions of the nodes of a module, and the two sides of its assigns.
-use Rattle.std.proofs.Common.{◌≡◌, ℕ, suc, ◌<◌, ◌⊎◌, inl, inr, Bool, true, false, ◌==◌, ◌&&◌, if◌then◌else◌, nat_lt, List, [], ◌∷◌, Option, Some, None, map, length, slice_get, refl, sym, ◌∙◌, ap, subst, arith, Contains, option_to_list, option_map}
+use Rattle.std.proofs.Common.{◌≡◌, ℕ, suc, ◌<◌, ◌⊎◌, inl, inr, Bool, true, false, ◌==◌, ◌&&◌, if◌then◌else◌, nat_lt, List, [], ◌∷◌, Option, Some, None, map, length, slice_get, refl, ◌∙◌, ap, subst, arith, option_map}
 use Rattle.std.specs.Option.{option_and_then}
 use Rattle.std.proofs.lemmas.Bool.Decides.{nat_tests}
 use Rattle.net_bits.specs.Names.{NameSet}
 use Rattle.net_hier.specs.Cells.{IsBitOrConstant, IsPortBit, width_of}
-use Rattle.net_hier.specs.Design.{Design, IsCell}
+use Rattle.net_hier.specs.Design.{Design}
 use Rattle.net_hier.specs.declared.cells.HCell.{HCell}
-use Rattle.net_hier.specs.declared.cells.HPort.{HPort}
 use Rattle.net_hier.specs.declared.nodes.Node.{Node}
 use Rattle.net_hier.specs.declared.nodes.Node.TheVariants.{Port, Pin, Net, Zero, One}
 use Rattle.net_stars.specs.StandIns.{itself}

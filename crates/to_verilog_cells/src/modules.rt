@@ -1,11 +1,15 @@
 // The module of a cell.
-ghost use Rattle.std.specs.Prelude.{◌≡◌, ◌<◌, length, IfOk};
+ghost use Rattle.std.specs.Prelude.{◌≡◌, ◌++◌, ◌<◌, ◌≤◌, ◌^◌, length, map, IfOk};
 ghost use Rattle.net_hier.specs.Design.{IsCell};
 ghost use Rattle.net_hier.specs.Facts.{cell_props};
+ghost use Rattle.net_hier.specs.Valid.{Each, count_limit};
 ghost use Rattle.net_hier.specs.declared.cells.HCell.{HCell as CellValue};
+ghost use Rattle.to_verilog_items.specs.Assigns.{assigns_of};
+ghost use Rattle.to_verilog_items.specs.Instances.{below_ports, instances_of};
 ghost use Rattle.to_verilog_props.specs.Written.{attrs_of};
 ghost use Rattle.to_verilog_cells.specs.Modules.{AreItems, IsModuleOf, IsWritable};
 ghost use Rattle.vlog_partners.specs.Partners.{IsWritten};
+ghost use Rattle.vlog_written.specs.Written.{assign_item, instance_item};
 
 use net_bits::Names;
 use net_hier::{HCell, Hier};
@@ -32,6 +36,29 @@ fn cell_attrs(alloc: Global, hier: &Hier, number: u32, cell: &HCell) -> Result<S
     Ok(attrs)
 }
 
+/// The items of a cell over its wiring: its wires, whose declarations these are, its assigns, its instances.
+fn items_over(
+    alloc: Global,
+    cells: &[HCell],
+    cell: &HCell,
+    wiring: &Wiring,
+    params: &Names,
+    decls: Seq<ItemV>,
+) -> Result<Seq<ItemV>, NoMemory>
+    requires few { length cell.now.instances ≤ count_limit }
+    requires cells { Each (λ instance. instance.cell < length cells.now) cell.now.instances }
+    requires ports { Each (λ instance. length (below_ports cells.now instance) ≤ 2 ^ 32)
+        cell.now.instances }
+    ensures { IfOk result (λ items. items
+        ≡ (decls ++ map assign_item (assigns_of cell.now.ports wiring.now))
+        ++ map instance_item (instances_of cells.now cell.now wiring.now params.now)) }
+{
+    let mut items = decls;
+    add_assigns(alloc, cell.ports.items(), wiring, &mut items)?;
+    add_instances(alloc, cells, cell, wiring, params, &mut items)?;
+    Ok(items)
+}
+
 /// The items of a cell: its wires, its assigns, its instances.
 fn items_of(
     alloc: Global,
@@ -45,10 +72,7 @@ fn items_of(
 {
     let cells = hier.cells();
     let (wiring, decls) = Wiring::of_cell(alloc, hier, cell)?;
-    let mut items = decls;
-    add_assigns(alloc, cell.ports.items(), &wiring, &mut items)?;
-    add_instances(alloc, cells, cell, &wiring, params, &mut items)?;
-    Ok(items)
+    items_over(alloc, cells, cell, &wiring, params, decls)
 }
 
 /// The module of the cell of this number, where the properties of these names are parameters of instances.

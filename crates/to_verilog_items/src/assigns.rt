@@ -1,7 +1,6 @@
 // The assigns of classes.
 ghost use Rattle.std.specs.Prelude.{◌≡◌, ◌++◌, ◌<◌, Some, map, option_to_list, IfOk, OnOk};
 ghost use Rattle.to_verilog_classes.specs.Roots.{of_live};
-ghost use Rattle.vlog_values.specs.declared.statement.Assignment.{Assignment as AssignmentValue};
 ghost use Rattle.vlog_written.specs.Written.{assign_item};
 ghost use Rattle.to_verilog_items.specs.Assigns.{assign_of, assigned, assigns_among, assigns_of, constant_assign, feeds, is_input, is_port, member_assign, port_assign};
 

@@ -6,7 +6,7 @@ ghost use Rattle.to_verilog_items.specs.Instances.{below_ports, conns_of, instan
 
 use crate::connections::conns_of;
 use net_bits::Names;
-use net_hier::{HCell, HInst, HPort, Hier};
+use net_hier::{HCell, HInst, HPort};
 use nl_base::{NoMemory, Seq, Text};
 use std::alloc::Global;
 use to_verilog_props::given_of;

@@ -1,0 +1,7 @@
+use Rattle.to_verilog_cells.proofs.Fits.{added_items}
+use Rattle.to_verilog_cells.proofs.modules.items_over.Goals as goal
+
+pub returns : goal.returns
+returns c =
+    added_items _ c.args.cells.now c.args.cell.now c.args.params.now c.args.wiring.now _ _ _
+    c.items.ensures c.in_ok-add_assigns.ensures c.in_ok-add_instances.ensures
