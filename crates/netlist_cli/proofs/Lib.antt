@@ -4,6 +4,8 @@ pub mod Unread
 pub mod SpiceSaid
 pub mod Verdicts
 pub mod Flattened
+pub mod FileCells
+pub mod FlatSaid
 pub mod Results
 pub mod Halting
 pub mod Reading

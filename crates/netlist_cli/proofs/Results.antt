@@ -1,6 +1,7 @@
 -- Of the same bytes one thing comes.
 use Rattle.std.proofs.Common.{◌≡◌, ℕ, List, [], Option, Some, None, refl, sym, ap, subst, ◌∙◌}
 use Rattle.nl_base.specs.declared.fault.TextFault.{TextFault}
+use Rattle.nl_base.specs.declared.rule.Refusal.{Refusal}
 use Rattle.nl_io.specs.Causes.{Rose}
 use Rattle.readers.specs.Sources.{Supply}
 use Rattle.edif_library.proofs.AtMostOne as edif_laws
@@ -14,12 +15,16 @@ use Rattle.net_hier.specs.declared.cells.HProp.{HProp}
 use Rattle.to_spice_rules.proofs.One.{broken, one_refusal}
 use Rattle.to_verilog_rules.specs.Rules.{first_V}
 use Rattle.vlog_design.specs.Names.{Name}
+use Rattle.vlog_kept.proofs.Modules.{file_is_value}
+use Rattle.vlog_kept.proofs.SizeLaw.{file_within}
+use Rattle.vlog_kept.specs.Proper.{AreBytes}
 use Rattle.netlist_words.specs.declared.command.Command.{Command}
 use Rattle.netlist_words.specs.declared.command.Command.TheVariants as commands
-use Rattle.netlist_cli.specs.Meanings.{IsEdifOf, IsFlatEdifOf, IsFlatVerilogOf, IsNoFlattening, IsVerilogOf, Judgement, SaysFlattened, any_design, edif, edif_first, flat_rules, meaning_of, no_input, of_design, params_of, plain_target, spice_rules, verilog, verilog_first}
+use Rattle.netlist_cli.specs.Meanings.{IsEdifOf, IsFlatEdifOf, IsFlatVerilogOf, FlattensNoVerilog, IsVerilogOf, Judgement, SaysFlattened, any_design, edif, edif_first, flat_rules, meaning_of, no_input, of_design, params_of, plain_target, spice_rules, verilog, verilog_first}
 use Rattle.netlist_cli.specs.Outcomes.{FileLanguage, Question, SaidThen, or_refused, or_too_flat, said_of_count, Verdict, fine, breaks, breaks_of_tool, exceeds, exceeds_flat, Outcome, faulty, too_long, judged, Gives}
 use Rattle.netlist_cli.specs.Tools.{BreaksSpice, spice_refusal}
 use Rattle.netlist_cli.specs.declared.tools.ToolRefusal.{ToolRefusal}
+use Rattle.netlist_cli.proofs.FlatSaid.{edif_said, verilog_said}
 use Rattle.netlist_cli.proofs.Flattened.{one_of_flattened}
 use Rattle.netlist_cli.proofs.SpiceSaid.{spice_said}
 
@@ -116,8 +121,15 @@ any_said cells top props = fine
 abbrev few_said : List HCell → ℕ → List HProp → Verdict
 few_said cells top props = or_too_flat (flat_count cells top) fine
 
+abbrev target_found : List Name → List HCell → ℕ → List HProp → Option Refusal
+target_found names cells top props = first_V cells top props (has_name (params_of names))
+
 abbrev target_said : List Name → List HCell → ℕ → List HProp → Verdict
-target_said names cells top props = or_refused (first_V cells top props (has_name (params_of names))) fine
+target_said names cells top props = or_refused (target_found names cells top props) fine
+
+-- no rule of a target
+abbrev no_rules : List HCell → ℕ → List HProp → Option Refusal
+no_rules cells top props = None
 
 -- a judgement of the flattened design
 flat_one : (names : ConstantNames) (judge : Judgement) → SaysOne judge → SaysOne (flat_rules names judge)
@@ -156,8 +168,8 @@ settled_of (commands.Flatten (Some top) names) = design_settled (Some top) _ (Is
 settled_of (commands.ToSpice top) = design_settled top _ _ one_of_spice
 settled_of (commands.Generate seed cells) = record { exact = no_input_exact; one_said = λ file. same_said fine }
 
--- what is said by each command that does not flatten
-pub said_of : (c : Command) → IsNoFlattening c → HasSaid (meaning_of c).question
+-- what is said by each command but one that flattens a Verilog file
+pub said_of : (c : Command) → FlattensNoVerilog c → HasSaid (meaning_of c).question
 said_of commands.Format never = λ file none. none (fine, refl)
 said_of commands.Vformat never = λ file none. none (fine, refl)
 said_of (commands.Check top) never = design_said top _ _ (some_by_function any_said)
@@ -165,9 +177,24 @@ said_of (commands.Report top names) never = design_said top _ _ (some_by_functio
 said_of (commands.Lint top names) never = design_said top _ _ (some_by_function few_said)
 said_of (commands.ToVerilog names) never = design_said None _ IsVerilogOf (some_by_function (target_said names))
 said_of (commands.ToEdif top names) never = design_said (Some top) _ (IsEdifOf names) (some_by_function any_said)
-said_of (commands.Flatten top names) never = absurd never
+said_of (commands.Flatten None names) never = edif_said names no_rules
+said_of (commands.Flatten (Some top) names) never = absurd never
 said_of (commands.ToSpice top) never = design_said top _ _ spice_said
 said_of (commands.Generate seed cells) never = λ file none. none (fine, refl)
+
+-- what is said of each file as which bytes read
+pub said_of_read : (c : Command) (bs : List ℕ) → AreBytes bs → (file : (meaning_of c).question.language.File) → (meaning_of c).question.language.reads bs file → ¬ ¬ ((verdict : Verdict) × (meaning_of c).question.IsSaid file verdict)
+said_of_read (commands.Flatten (Some top) names) bs all file reads = verilog_said names (target_found []) top file (file_is_value bs file all reads) (file_within bs file reads)
+said_of_read (commands.Flatten None names) bs all file reads = said_of (commands.Flatten None names) tt file
+said_of_read commands.Format bs all file reads = said_of commands.Format tt file
+said_of_read commands.Vformat bs all file reads = said_of commands.Vformat tt file
+said_of_read (commands.Check top) bs all file reads = said_of (commands.Check top) tt file
+said_of_read (commands.Report top names) bs all file reads = said_of (commands.Report top names) tt file
+said_of_read (commands.Lint top names) bs all file reads = said_of (commands.Lint top names) tt file
+said_of_read (commands.ToVerilog names) bs all file reads = said_of (commands.ToVerilog names) tt file
+said_of_read (commands.ToEdif top names) bs all file reads = said_of (commands.ToEdif top names) tt file
+said_of_read (commands.ToSpice top) bs all file reads = said_of (commands.ToSpice top) tt file
+said_of_read (commands.Generate seed cells) bs all file reads = said_of (commands.Generate seed cells) tt file
 
 module _ (q : Question) (settled : IsSettled q) (bs : List ℕ) where
   abbrev exact : IsExact q.language

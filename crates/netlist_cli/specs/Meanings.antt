@@ -222,7 +222,7 @@ meaning_of (commands.Flatten (Some top) names) = of_design (Some top) (flat_rule
 meaning_of (commands.ToSpice top) = of_design top spice_rules IsSpiceOf
 meaning_of (commands.Generate seed cells) = meaning no_input (λ file verdict. fine ≡ verdict) (λ file text. IsGeneratedLine seed cells text)
 
--- the command does not flatten
-abbrev pub IsNoFlattening : Command → Type 0
-IsNoFlattening (commands.Flatten top names) = ⊥
-IsNoFlattening c = ⊤
+-- the command does not flatten a Verilog file
+abbrev pub FlattensNoVerilog : Command → Type 0
+FlattensNoVerilog (commands.Flatten (Some top) names) = ⊥
+FlattensNoVerilog c = ⊤

@@ -48,7 +48,8 @@ fn flat_design(alloc: Global, hier: &Hier, constants: &Constants) -> Result<Hier
 ///
 /// # Errors
 /// Want of memory is also answered where names or values of the design are not within their limits, which is asked for sources that do not
-/// tell their bytes.
+/// tell their bytes: no flattened design is such of a design whose file bytes below 256 read as (`flattened_files_fit` of the crate
+/// `net_flatten_fits`).
 fn edif_of(alloc: Global, flat: &Hier, constants: &Constants) -> Result<EdifFile, NoMemory>
     ensures { IfOk result (IsFileFor constants.now flat.now) }
 {
