@@ -3,6 +3,10 @@ pub mod ItemsLive
 pub mod FilesLive
 pub mod Spelled
 pub mod Bytes
+pub mod Scanned
+pub mod Known
+pub mod Reading
+pub mod Scans
 pub mod Again
 pub mod Splits
 pub mod Law

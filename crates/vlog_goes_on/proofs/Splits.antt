@@ -20,7 +20,8 @@ use Rattle.vlog_tokens.specs.Language.{with_line, then_tokens, then_items, token
 use Rattle.vlog_tokens.specs.Spelling.{item_at, start_of}
 use Rattle.vlog_lexing.proofs.Scanning.{piece}
 use Rattle.vlog_goes_on.specs.Onward.{IsSame}
-use Rattle.vlog_goes_on.proofs.Again.{Fits, item_again}
+use Rattle.vlog_goes_on.proofs.Scans.{Fits}
+use Rattle.vlog_goes_on.proofs.Again.{item_again}
 
 -- tokens, and a stream behind them
 abbrev pub followed : List VFound → Ahead VFound → Ahead VFound
