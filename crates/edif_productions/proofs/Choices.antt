@@ -44,7 +44,9 @@ module _ {A : Type 0} (s : List ℕ) (a : A) (rows : List (List ℕ × A)) where
   abbrev all : List (List ℕ × A)
   all = (s, a) ∷ rows
 
-  first_by : (w : List ℕ) (v : A) (b : Bool) → same_up_to_case w s ≡ b → option_map (λ (row : List ℕ × A). row.1) (cond b (Some (s, a)) (find (λ row. same_up_to_case w row.0) rows)) ≡ Some v → ((same_up_to_case w s ≡ true) × (v ≡ a)) ⊎ (meant_by rows w ≡ Some v)
+  first_by : (w : List ℕ) (v : A) (b : Bool) → same_up_to_case w s ≡ b
+      → option_map (λ (row : List ℕ × A). row.1) (cond b (Some (s, a)) (find (λ row. same_up_to_case w row.0) rows)) ≡ Some v
+      → ((same_up_to_case w s ≡ true) × (v ≡ a)) ⊎ (meant_by rows w ≡ Some v)
   unfolding meant_by
   first_by w v true e h = let m : a ≡ v = cc in inl (e, sym m)
   first_by w v false e h = inr h
@@ -66,7 +68,8 @@ module _ {A : Type 0} (s : List ℕ) (a : A) (rows : List (List ℕ × A)) where
         let none : meant_by rows w ≡ None = ap (small_meaning rows) same ∙ apart in
         let clash = sym none ∙ h in absurd cc
 
-    other_by : (w : List ℕ) (v : A) (b : Bool) → same_up_to_case w s ≡ b → meant_by rows w ≡ Some v → option_map (λ (row : List ℕ × A). row.1) (cond b (Some (s, a)) (find (λ row. same_up_to_case w row.0) rows)) ≡ Some v
+    other_by : (w : List ℕ) (v : A) (b : Bool) → same_up_to_case w s ≡ b → meant_by rows w ≡ Some v
+        → option_map (λ (row : List ℕ × A). row.1) (cond b (Some (s, a)) (find (λ row. same_up_to_case w row.0) rows)) ≡ Some v
     unfolding meant_by
     other_by w v true e h = absurd (not_both w v e h)
     other_by w v false e h = h
@@ -75,13 +78,15 @@ module _ {A : Type 0} (s : List ℕ) (a : A) (rows : List (List ℕ × A)) where
     unfolding meant_by
     is_other w v h = other_by w v (same_up_to_case w s) refl h
 
-    choice_text : {Q : Production A} → HasTextsOf (choice rows) Q → (k : List Alias) (ts : Tokens) (v : A) → Texts k (single (λ _ t v. Means all t v)) ts v → Texts k (either (capitals s a) Q) ts v
+    choice_text : {Q : Production A} → HasTextsOf (choice rows) Q → (k : List Alias) (ts : Tokens) (v : A)
+        → Texts k (single (λ _ t v. Means all t v)) ts v → Texts k (either (capitals s a) Q) ts v
     choice_text h k ts v (x, e, (w, is, m)) = elim (first_or w v m) [
       | inl f ↦ inl (x, e, (w, is, f.0, f.1))
       | inr o ↦ inr (h.is_text k ts v ((choices rows).is_spelled k ts v (x, e, (w, is, o))))
     ]
 
-    text_choice : {Q : Production A} → HasTextsOf (choice rows) Q → (k : List Alias) (ts : Tokens) (v : A) → Texts k (either (capitals s a) Q) ts v → Texts k (single (λ _ t v. Means all t v)) ts v
+    text_choice : {Q : Production A} → HasTextsOf (choice rows) Q → (k : List Alias) (ts : Tokens) (v : A) → Texts k (either (capitals s a) Q) ts v
+        → Texts k (single (λ _ t v. Means all t v)) ts v
     text_choice h k ts v (inl (x, e, (w, is, f, g))) = (x, e, (w, is, is_first w v f g))
     text_choice h k ts v (inr t) = let o = (choices rows).is_text k ts v (h.is_spelled k ts v t) in (o.0, o.1, (o.2.0, o.2.1, is_other o.2.0 v o.2.2))
 

@@ -1,10 +1,10 @@
 -- The texts of a part that is read, by how it is made: one fact for each way.
-use Rattle.std.proofs.Common.{◌≡◌, ◌∙◌, sym, ap, subst, refl, inl, inr, true, List, [], ◌∷◌, ◌++◌, append_assoc, append-nil, Option, Some, None}
+use Rattle.std.proofs.Common.{◌≡◌, ◌∙◌, sym, ap, subst, refl, true, List, [], ◌∷◌, ◌++◌, append_assoc, append-nil}
 use Rattle.grammar.specs.Part.{gives, sequence, takes}
 use Rattle.grammar.specs.Texts.{Spells}
 use Rattle.grammar.specs.Whole.{Terminal, proper, end}
 use Rattle.nl_base.specs.declared.place.Place.{Place}
-use Rattle.readers.specs.Parts.{at_token, if_next}
+use Rattle.readers.specs.Parts.{at_token}
 use Rattle.edif_tokens.specs.declared.token.Found.{Found}
 use Rattle.edif_tokens.specs.declared.token.Token.TheVariants.{LeftParen, RightParen}
 use Rattle.edif_keywords.specs.declared.keyword.Keyword.{Keyword}
@@ -12,9 +12,9 @@ use Rattle.edif_keywords.specs.Keywords.{has}
 use Rattle.edif_keywords.specs.Aliases.{Alias}
 use Rattle.edif_keywords.specs.Language.{Edif}
 use Rattle.edif_keywords.specs.Reasons as say
-use Rattle.edif_keywords.specs.Grammar.{closing, keyword, begin, item, form_or}
-use Rattle.edif_productions.specs.Production.{Production, both, either, optional, form, meaning, Tokens, IsToken, left_out, there, IsKeyword, Texts, HasTextsOf, form_of}
-use Rattle.edif_productions.proofs.OneToken.{alone, taken_is, opening_text, text_opening, closing_text, text_closing, keyword_text, text_keyword, has_first_or, has_only, has_first, has_later}
+use Rattle.edif_keywords.specs.Grammar.{closing, keyword, begin, item}
+use Rattle.edif_productions.specs.Production.{Production, both, form, meaning, Tokens, IsToken, IsKeyword, Texts, HasTextsOf, form_of}
+use Rattle.edif_productions.proofs.OneToken.{alone, taken_is, opening_text, text_opening, closing_text, text_closing, keyword_text, text_keyword, has_only, has_first}
 
 -- a text of the production, and `)` behind it
 pub record EndedText {A : Type 0} (k : List Alias) (q : Production A) (ts : Tokens) (v : A) : Type 0 where
@@ -32,11 +32,18 @@ pub record ReadsOn {A : Type 0} (p : Edif A) (q : Production A) : Type 0 where
 -- ---- sequences
 
 -- a part, and what is read on behind it
-pub then_on : {A B C : Type 0} {p : Edif A} {q : A → Edif C} {P : Production A} {Q : Production B} (f : A → B → C) → HasTextsOf p P → ((u : A) → ReadsOn (q u) (meaning (f u) Q)) → ReadsOn (sequence p q) (meaning (λ x. f x.0 x.1) (both P Q))
+pub then_on : {A B C : Type 0} {p : Edif A} {q : A → Edif C} {P : Production A} {Q : Production B} (f : A → B → C) → HasTextsOf p P
+    → ((u : A) → ReadsOn (q u) (meaning (f u) Q)) → ReadsOn (sequence p q) (meaning (λ x. f x.0 x.1) (both P Q))
 then_on f h l = record {
   is_text = λ k ts v s.
       let r = (l s.0).is_text k s.2 v s.5 in
-      record { inside = s.1 ++ r.inside; behind = r.behind; is = s.3 ∙ ap (λ z. s.1 ++ z) r.is ∙ sym (append_assoc s.1 r.inside r.behind); text = ((s.0, r.text.0), (s.1, r.inside, refl, h.is_text k s.1 s.0 s.4, r.text.1), r.text.2); closes = r.closes };
+      record {
+        inside = s.1 ++ r.inside;
+        behind = r.behind;
+        is = s.3 ∙ ap (λ z. s.1 ++ z) r.is ∙ sym (append_assoc s.1 r.inside r.behind);
+        text = ((s.0, r.text.0), (s.1, r.inside, refl, h.is_text k s.1 s.0 s.4, r.text.1), r.text.2);
+        closes = r.closes;
+      };
   is_spelled = λ k ts v t.
       let m = t.text.1 in (
         t.text.0.0,
@@ -44,25 +51,41 @@ then_on f h l = record {
         m.1 ++ t.behind,
         t.is ∙ ap (λ z. z ++ t.behind) m.2 ∙ append_assoc m.0 m.1 t.behind,
         h.is_spelled k m.0 t.text.0.0 m.3,
-        (l t.text.0.0).is_spelled k (m.1 ++ t.behind) v (record { inside = m.1; behind = t.behind; is = refl; text = (t.text.0.1, m.4, t.text.2); closes = t.closes }),
+        (l t.text.0.0).is_spelled k (m.1 ++ t.behind) v
+            (record { inside = m.1; behind = t.behind; is = refl; text = (t.text.0.1, m.4, t.text.2); closes = t.closes }),
       );
 }
 
 -- a part, and then the end
-pub ends_on : {A B : Type 0} {p : Edif A} {P : Production A} (f : A → B) → HasTextsOf p P → ReadsOn (sequence p (λ u. sequence closing (λ _. gives (f u)))) (meaning f P)
+pub ends_on : {A B : Type 0} {p : Edif A} {P : Production A} (f : A → B) → HasTextsOf p P
+    → ReadsOn (sequence p (λ u. sequence closing (λ _. gives (f u)))) (meaning f P)
 ends_on f h = record {
   is_text = λ k ts v s.
       let c = s.5 in
-      record { inside = s.1; behind = c.1; is = s.3 ∙ ap (λ z. s.1 ++ z) (c.3 ∙ alone c.1 c.2 c.5.0); text = (s.0, h.is_text k s.1 s.0 s.4, c.5.1); closes = closing_text k c.1 c.0 c.4 };
-  is_spelled = λ k ts v t.
-      (t.text.0, t.inside, t.behind, t.is, h.is_spelled k t.inside t.text.0 t.text.1, (tt, t.behind, [], sym (append-nil t.behind), text_closing k t.behind t.closes, (refl, t.text.2)));
+      record {
+        inside = s.1;
+        behind = c.1;
+        is = s.3 ∙ ap (λ z. s.1 ++ z) (c.3 ∙ alone c.1 c.2 c.5.0);
+        text = (s.0, h.is_text k s.1 s.0 s.4, c.5.1);
+        closes = closing_text k c.1 c.0 c.4;
+      };
+  is_spelled = λ k ts v t. (
+    t.text.0,
+    t.inside,
+    t.behind,
+    t.is,
+    h.is_spelled k t.inside t.text.0 t.text.1,
+    (tt, t.behind, [], sym (append-nil t.behind), text_closing k t.behind t.closes, (refl, t.text.2)),
+  );
 }
 
 -- the same, where what is read is the value of the part
 pub ends_plainly : {A : Type 0} {p : Edif A} {P : Production A} → HasTextsOf p P → ReadsOn (sequence p (λ u. sequence closing (λ _. gives u))) P
 ends_plainly {A = A} {P = P} h = let r = ends_on (λ (u : A). u) h in record {
-  is_text = λ k ts v s. let e = r.is_text k ts v s in record { inside = e.inside; behind = e.behind; is = e.is; text = subst (λ z. Texts k P e.inside z) (sym e.text.2) e.text.1; closes = e.closes };
-  is_spelled = λ k ts v t. r.is_spelled k ts v (record { inside = t.inside; behind = t.behind; is = t.is; text = (v, t.text, refl); closes = t.closes });
+  is_text = λ k ts v s. let e = r.is_text k ts v s in
+      record { inside = e.inside; behind = e.behind; is = e.is; text = subst (λ z. Texts k P e.inside z) (sym e.text.2) e.text.1; closes = e.closes };
+  is_spelled = λ k ts v t. r.is_spelled k ts v
+      (record { inside = t.inside; behind = t.behind; is = t.is; text = (v, t.text, refl); closes = t.closes });
 }
 
 -- the same, where no value is read
@@ -78,8 +101,15 @@ gives_on f h = record {
   is_text = λ k ts v s.
       let r = h.is_text k s.1 s.0 s.4 in
       record { inside = r.inside; behind = r.behind; is = s.3 ∙ alone s.1 s.2 s.5.0 ∙ r.is; text = (s.0, r.text, s.5.1); closes = r.closes };
-  is_spelled = λ k ts v t.
-      (t.text.0, ts, [], sym (append-nil ts), h.is_spelled k ts t.text.0 (record { inside = t.inside; behind = t.behind; is = t.is; text = t.text.1; closes = t.closes }), (refl, t.text.2));
+  is_spelled = λ k ts v t. (
+    t.text.0,
+    ts,
+    [],
+    sym (append-nil ts),
+    h.is_spelled k ts t.text.0
+        (record { inside = t.inside; behind = t.behind; is = t.is; text = t.text.1; closes = t.closes }),
+    (refl, t.text.2),
+  );
 }
 
 -- a part, for another value
@@ -108,18 +138,46 @@ module _ {I : Type 0} (k : List Alias) (allowed : List Keyword) (rest : Keyword 
   unfolding begin
   item_text ts v (q, a, b, e, (u, c, d, f, o, w), t) =
       let m = keyword_text allowed k d q w in
-      record { key = q; before = c; word = d; behind = b; is = e ∙ ap (λ z. z ++ b) f ∙ append_assoc c d b; opens = opening_text k c u o; means_key = m.0; may = m.1; text = t }
+      record {
+        key = q;
+        before = c;
+        word = d;
+        behind = b;
+        is = e ∙ ap (λ z. z ++ b) f ∙ append_assoc c d b;
+        opens = opening_text k c u o;
+        means_key = m.0;
+        may = m.1;
+        text = t;
+      }
 
   pub text_item : (ts : Tokens) (v : I) → ItemText k allowed rest ts v → Spells k (item allowed rest) ts v
   unfolding begin
-  text_item ts v i =
-      (i.key, i.before ++ i.word, i.behind, i.is ∙ sym (append_assoc i.before i.word i.behind), (tt, i.before, i.word, refl, text_opening k i.before i.opens, text_keyword allowed k i.word i.key i.means_key i.may), i.text)
+  text_item ts v i = (
+    i.key,
+    i.before ++ i.word,
+    i.behind,
+    i.is
+        ∙ sym (append_assoc i.before i.word i.behind),
+    (tt, i.before, i.word, refl, text_opening k i.before i.opens, text_keyword allowed k i.word i.key i.means_key i.may),
+    i.text,
+  )
 
   -- behind a `(` that was taken
-  pub taken_item : (x : Terminal Found Place) (u : Unit {0}) (ts : Tokens) (v : I) → at_token (λ y. say.at_opening y.token) x ≡ takes u → Spells k (sequence (keyword allowed) rest) ts v → ItemText k allowed rest (x ∷ ts) v
+  pub taken_item : (x : Terminal Found Place) (u : Unit {0}) (ts : Tokens) (v : I) → at_token (λ y. say.at_opening y.token) x ≡ takes u
+      → Spells k (sequence (keyword allowed) rest) ts v → ItemText k allowed rest (x ∷ ts) v
   taken_item (proper y) u ts v h (q, a, b, e, w, t) =
       let m = keyword_text allowed k a q w in
-      record { key = q; before = proper y ∷ []; word = a; behind = b; is = ap (λ z. proper y ∷ z) e; opens = (y, refl, taken_is y.token u h); means_key = m.0; may = m.1; text = t }
+      record {
+        key = q;
+        before = proper y ∷ [];
+        word = a;
+        behind = b;
+        is = ap (λ z. proper y ∷ z) e;
+        opens = (y, refl, taken_is y.token u h);
+        means_key = m.0;
+        may = m.1;
+        text = t;
+      }
   taken_item (end p) u ts v h t = absurd cc
 
   -- a `(` that is taken, and what stands behind it
@@ -140,9 +198,21 @@ module _ {I : Type 0} (k : List Alias) (allowed : List Keyword) (rest : Keyword 
   }
 
 -- the same form with another list of keywords that may stand there, and another way of reading on
-pub other_item : {A B : Type 0} (k : List Alias) (allowed others : List Keyword) (rest : Keyword → Edif A) (more : Keyword → Edif B) (ts : Tokens) (u : A) (v : B) (i : ItemText k allowed rest ts u) (q : Keyword) → i.key ≡ q → has others q ≡ true
+pub other_item : {A B : Type 0} (k : List Alias) (allowed others : List Keyword) (rest : Keyword → Edif A) (more : Keyword → Edif B) (ts : Tokens)
+    (u : A) (v : B) (i : ItemText k allowed rest ts u) (q : Keyword) → i.key ≡ q → has others q ≡ true
     → Spells k (more q) i.behind v → ItemText k others more ts v
-other_item k allowed others rest more ts u v i q same may text = record { key = q; before = i.before; word = i.word; behind = i.behind; is = i.is; opens = i.opens; means_key = subst (λ z. IsKeyword k z i.word) same i.means_key; may = may; text = text }
+other_item k allowed others rest more ts u v i q same may text =
+    record {
+      key = q;
+      before = i.before;
+      word = i.word;
+      behind = i.behind;
+      is = i.is;
+      opens = i.opens;
+      means_key = subst (λ z. IsKeyword k z i.word) same i.means_key;
+      may = may;
+      text = text;
+    }
 
 -- a form with a keyword
 pub whole_form : {A : Type 0} {p : Edif A} {P : Production A} (q : Keyword) → ReadsOn p P → HasTextsOf (form_of q p) (form q P)
@@ -157,7 +227,13 @@ whole_form {A = A} {p = p} {P = P} q h = record { is_text = λ k ts v s. to k ts
           behind = r.behind;
           is = i.is ∙ ap (λ z. i.before ++ z) (ap (λ z. i.word ++ z) r.is ∙ sym (append_assoc i.word r.inside r.behind));
           opens = i.opens;
-          text = record { word = i.word; rest = r.inside; is = refl; key = subst (λ z. IsKeyword k z i.word) (has_only q i.key i.may) i.means_key; text = r.text };
+          text = record {
+            word = i.word;
+            rest = r.inside;
+            is = refl;
+            key = subst (λ z. IsKeyword k z i.word) (has_only q i.key i.may) i.means_key;
+            text = r.text;
+          };
           closes = r.closes;
         }
 
@@ -183,125 +259,23 @@ module _ {A B : Type 0} (allowed : List Keyword) {rest : Keyword → Edif A} {P 
 
   made_text : (k : List Alias) (ts : Tokens) (v : B) → ItemText k allowed made ts v → Texts k (meaning f P) ts v
   made_text k ts v i =
-      let s = i.text in
-      (s.0, h.is_text k ts s.0 (text_item k allowed rest ts s.0 (other_item k allowed allowed made rest ts v s.0 i i.key refl i.may (subst (λ z. Spells k (rest i.key) z s.0) (sym (s.3 ∙ alone s.1 s.2 s.5.0)) s.4))), s.5.1)
+      let s = i.text in (
+        s.0,
+        h.is_text k ts s.0
+            (text_item k allowed rest ts s.0
+            (other_item k allowed allowed made rest ts v s.0 i i.key refl i.may
+            (subst (λ z. Spells k (rest i.key) z s.0) (sym (s.3 ∙ alone s.1 s.2 s.5.0)) s.4))),
+        s.5.1,
+      )
 
   text_made : (k : List Alias) (ts : Tokens) (v : B) (u : A) → ItemText k allowed rest ts u → v ≡ f u → Spells k (item allowed made) ts v
-  text_made k ts v u i e = text_item k allowed made ts v (other_item k allowed allowed rest made ts u v i i.key refl i.may (u, i.behind, [], sym (append-nil i.behind), i.text, (refl, e)))
+  text_made k ts v u i e =
+      text_item k allowed made ts v
+      (other_item k allowed allowed rest made ts u v i i.key refl i.may (u, i.behind, [], sym (append-nil i.behind), i.text, (refl, e)))
 
   pub meant : HasTextsOf (item allowed (λ q. sequence (rest q) (λ x. gives (f x)))) (meaning f P)
-  meant = record { is_text = λ k ts v s. made_text k ts v (item_text k allowed made ts v s); is_spelled = λ k ts v t. text_made k ts v t.0 (item_text k allowed rest ts t.0 (h.is_spelled k ts t.0 t.1)) t.2 }
-
--- ---- choices
-
--- the form with one keyword is the form with that one of some
-module _ {I : Type 0} (rest : Keyword → Edif I) (a : Keyword) where
-  chosen : (k : List Alias) (allowed : List Keyword) (ts : Tokens) (v : I) → Spells k (form_of a (rest a)) ts v → Spells k (item (a ∷ allowed) rest) ts v
-  chosen k allowed ts v s =
-      let i = item_text k (a ∷ []) (λ _. rest a) ts v s in
-      text_item k (a ∷ allowed) rest ts v (other_item k (a ∷ []) (a ∷ allowed) (λ _. rest a) rest ts v v i a (has_only a i.key i.may) (has_first a allowed) i.text)
-
-  first_of_them : (k : List Alias) (allowed : List Keyword) (ts : Tokens) (v : I) (i : ItemText k allowed rest ts v) → i.key ≡ a → Spells k (form_of a (rest a)) ts v
-  first_of_them k allowed ts v i same =
-      text_item k (a ∷ []) (λ _. rest a) ts v (other_item k allowed (a ∷ []) rest (λ _. rest a) ts v v i a same (has_first a []) (subst (λ z. Spells k (rest z) i.behind v) same i.text))
-
-  -- one keyword alone
-  pub one_form : {P : Production I} → HasTextsOf (form_of a (rest a)) P → HasTextsOf (item (a ∷ []) rest) P
-  one_form h = record {
-    is_text = λ k ts v s. let i = item_text k (a ∷ []) rest ts v s in h.is_text k ts v (first_of_them k (a ∷ []) ts v i (has_only a i.key i.may));
-    is_spelled = λ k ts v t. chosen k [] ts v (h.is_spelled k ts v t);
-  }
-
-  -- one keyword, or one of the others
-  pub or_form : {P Q : Production I} (allowed : List Keyword) → HasTextsOf (form_of a (rest a)) P → HasTextsOf (item allowed rest) Q → HasTextsOf (item (a ∷ allowed) rest) (either P Q)
-  or_form {P = P} {Q = Q} allowed h l = record { is_text = λ k ts v s. to k ts v (item_text k (a ∷ allowed) rest ts v s); is_spelled = from }
-    where
-      to : (k : List Alias) (ts : Tokens) (v : I) → ItemText k (a ∷ allowed) rest ts v → Texts k (either P Q) ts v
-      to k ts v i = elim (has_first_or a allowed i.key i.may) [
-        | inl same ↦ inl (h.is_text k ts v (first_of_them k (a ∷ allowed) ts v i same))
-        | inr may ↦ inr (l.is_text k ts v (text_item k allowed rest ts v (other_item k (a ∷ allowed) allowed rest rest ts v v i i.key refl may i.text)))
-      ]
-
-      from : (k : List Alias) (ts : Tokens) (v : I) → Texts k (either P Q) ts v → Spells k (item (a ∷ allowed) rest) ts v
-      from k ts v (inl t) = chosen k allowed ts v (h.is_spelled k ts v t)
-      from k ts v (inr t) =
-          let i = item_text k allowed rest ts v (l.is_spelled k ts v t) in
-          text_item k (a ∷ allowed) rest ts v (other_item k allowed (a ∷ allowed) rest rest ts v v i i.key refl (has_later a allowed i.key i.may) i.text)
-
--- a form, or a part that is none
-module _ {A : Type 0} (allowed : List Keyword) {rest : Keyword → Edif A} {other : Edif A} {P Q : Production A} (h : HasTextsOf other P) (l : HasTextsOf (item allowed rest) Q) where
-  part_text : (k : List Alias) (ts : Tokens) (v : A) → Spells k (form_or allowed rest other) ts v → Texts k (either P Q) ts v
-  unfolding form_or if_next
-  part_text k ts v (inl (x, u, r, m, taken, s)) = inr (l.is_text k ts v (text_item k allowed rest ts v (subst (λ z. ItemText k allowed rest z v) (sym m) (taken_item k allowed rest x u r v taken s))))
-  part_text k ts v (inr s) = inl (h.is_text k ts v s)
-
-  text_part : (k : List Alias) (ts : Tokens) (v : A) → Texts k (either P Q) ts v → Spells k (form_or allowed rest other) ts v
-  unfolding form_or if_next
-  text_part k ts v (inl t) = inr (h.is_spelled k ts v t)
-  text_part k ts v (inr t) =
-      let y = item_taken k allowed rest ts v (item_text k allowed rest ts v (l.is_spelled k ts v t)) in
-      inl (proper y.first, tt, y.rest_of, y.is, y.taken, y.text)
-
-  pub form_or_part : HasTextsOf (form_or allowed rest other) (either P Q)
-  form_or_part = record { is_text = part_text; is_spelled = text_part }
-
--- what is read of a form around an optional last form: that form and both ends, or the end
-abbrev pub last_form : {A : Type 0} → Keyword → Edif A → Edif (Option A)
-last_form q p = form_or (q ∷ []) (λ _. sequence p (λ w. sequence closing (λ _. sequence closing (λ _. gives (Some w))))) (sequence closing (λ _. gives None))
-
-module _ {A : Type 0} {p : Edif A} {P : Production A} (q : Keyword) (h : HasTextsOf p P) where
-  -- what is read behind the keyword
-  abbrev inner : Edif (Option A)
-  inner = sequence p (λ w. sequence closing (λ _. sequence closing (λ _. gives (Some w))))
-
-  last_text : (k : List Alias) (ts : Tokens) (v : Option A) → ItemText k (q ∷ []) (λ _. inner) ts v → EndedText k (optional (form q P)) ts v
-  last_text k ts v i =
-      let s = i.text in
-      let c = s.5 in
-      let d = c.5 in
-      let behind_is : i.behind ≡ s.1 ++ (c.1 ++ d.1) = s.3 ∙ ap (λ z. s.1 ++ z) (c.3 ∙ ap (λ z. c.1 ++ z) (d.3 ∙ alone d.1 d.2 d.5.0)) in
-      let inside_is : i.word ++ i.behind ≡ ((i.word ++ s.1) ++ c.1) ++ d.1 = ap (λ z. i.word ++ z) behind_is ∙ sym (append_assoc i.word s.1 (c.1 ++ d.1)) ∙ sym (append_assoc (i.word ++ s.1) c.1 d.1) in
+  meant =
       record {
-        inside = i.before ++ ((i.word ++ s.1) ++ c.1);
-        behind = d.1;
-        is = i.is ∙ ap (λ z. i.before ++ z) inside_is ∙ sym (append_assoc i.before ((i.word ++ s.1) ++ c.1) d.1);
-        text = there s.0 (record {
-          before = i.before;
-          inside = i.word ++ s.1;
-          behind = c.1;
-          is = refl;
-          opens = i.opens;
-          text = record { word = i.word; rest = s.1; is = refl; key = subst (λ z. IsKeyword k z i.word) (has_only q i.key i.may) i.means_key; text = h.is_text k s.1 s.0 s.4 };
-          closes = closing_text k c.1 c.0 c.4;
-        }) d.5.1;
-        closes = closing_text k d.1 d.0 d.4;
+        is_text = λ k ts v s. made_text k ts v (item_text k allowed made ts v s);
+        is_spelled = λ k ts v t. text_made k ts v t.0 (item_text k allowed rest ts t.0 (h.is_spelled k ts t.0 t.1)) t.2;
       }
-
-  text_last : (k : List Alias) (ts a b : Tokens) (v : Option A) → ts ≡ a ++ b → Texts k (optional (form q P)) a v → IsToken RightParen b → Spells k (last_form q p) ts v
-  unfolding form_or if_next
-  text_last k ts a b v e (left_out n m) close = inr (tt, b, [], e ∙ ap (λ z. z ++ b) n ∙ sym (append-nil b), text_closing k b close, (refl, m))
-  text_last k ts a b v e (there u l m) close =
-      let w = l.text in
-      let inside_is : (l.inside ++ l.behind) ++ b ≡ w.word ++ (w.rest ++ (l.behind ++ b)) = append_assoc l.inside l.behind b ∙ ap (λ z. z ++ (l.behind ++ b)) w.is ∙ append_assoc w.word w.rest (l.behind ++ b) in
-      let i : ItemText k (q ∷ []) (λ _. inner) ts v = record {
-        key = q;
-        before = l.before;
-        word = w.word;
-        behind = w.rest ++ (l.behind ++ b);
-        is = e ∙ ap (λ z. z ++ b) l.is ∙ append_assoc l.before (l.inside ++ l.behind) b ∙ ap (λ z. l.before ++ z) inside_is;
-        opens = l.opens;
-        means_key = w.key;
-        may = has_first q [];
-        text = (u, w.rest, l.behind ++ b, refl, h.is_spelled k w.rest u w.text, (tt, l.behind, b, refl, text_closing k l.behind l.closes, (tt, b, [], sym (append-nil b), text_closing k b close, (refl, m))));
-      } in
-      let y = item_taken k (q ∷ []) (λ _. inner) ts v i in
-      inl (proper y.first, tt, y.rest_of, y.is, y.taken, y.text)
-
-  last_form_text : (k : List Alias) (ts : Tokens) (v : Option A) → Spells k (last_form q p) ts v → EndedText k (optional (form q P)) ts v
-  unfolding form_or if_next
-  last_form_text k ts v (inl (x, u, r, m, taken, s)) = last_text k ts v (subst (λ z. ItemText k (q ∷ []) (λ _. inner) z v) (sym m) (taken_item k (q ∷ []) (λ _. inner) x u r v taken s))
-  last_form_text k ts v (inr (u, a, b, e, c, (n, m))) = record { inside = []; behind = a; is = e ∙ alone a b n; text = left_out refl m; closes = closing_text k a u c }
-
-  -- an optional last form, with the end of the form around it
-  pub optional_form : ReadsOn (last_form q p) (optional (form q P))
-  optional_form = record { is_text = last_form_text; is_spelled = λ k ts v t. text_last k ts t.inside t.behind v t.is t.text t.closes }

@@ -24,7 +24,8 @@ use Rattle.edif_productions.specs.Notes.{note, status}
 use Rattle.edif_productions.specs.Libraries.{library_of, library, design}
 use Rattle.edif_productions.specs.File.{file_item, file, IsFileText}
 use Rattle.edif_productions.proofs.OneToken.{alone, has_only, has_first}
-use Rattle.edif_productions.proofs.Combining.{ReadsOn, item_text, text_item, whole_form, meant, or_form}
+use Rattle.edif_productions.proofs.Combining.{ReadsOn, item_text, text_item, whole_form, meant}
+use Rattle.edif_productions.proofs.Alternatives.{or_form}
 use Rattle.edif_productions.proofs.Alike.{has_same, choice_of_two}
 use Rattle.edif_productions.proofs.Repeating.{many_forms}
 use Rattle.edif_productions.proofs.NameTexts.{names}
@@ -40,10 +41,13 @@ pub all_file_items : HasTextsOf (item file_keywords grammar.file_item) file_item
 unfolding file_item library file_library file_design file_status file_note
 all_file_items =
     has_same (choice_of_two (λ l. file_items.Library l) (form k.Library (library_of false)) (form k.External (library_of true)) OtherItem)
-    (or_form grammar.file_item k.Library (k.External ∷ k.Design ∷ k.Status ∷ note_keywords) (meant (k.Library ∷ []) (λ l. file_items.Library l) (whole_form k.Library (library_bodies false)))
-    (or_form grammar.file_item k.External (k.Design ∷ k.Status ∷ note_keywords) (meant (k.External ∷ []) (λ l. file_items.Library l) (whole_form k.External (library_bodies true)))
+    (or_form grammar.file_item k.Library (k.External ∷ k.Design ∷ k.Status ∷ note_keywords)
+    (meant (k.Library ∷ []) (λ l. file_items.Library l) (whole_form k.Library (library_bodies false)))
+    (or_form grammar.file_item k.External (k.Design ∷ k.Status ∷ note_keywords)
+    (meant (k.External ∷ []) (λ l. file_items.Library l) (whole_form k.External (library_bodies true)))
     (or_form grammar.file_item k.Design (k.Status ∷ note_keywords) (meant (k.Design ∷ []) (λ d. file_items.Design d) designs)
-    (or_form grammar.file_item k.Status note_keywords (meant (k.Status ∷ []) (λ s. file_items.Status s) status_forms) (note_among (λ n. file_items.Note n) grammar.file_item refl refl)))))
+    (or_form grammar.file_item k.Status note_keywords (meant (k.Status ∷ []) (λ s. file_items.Status s) status_forms)
+    (note_among (λ n. file_items.Note n) grammar.file_item refl refl)))))
 
 items_on : ReadsOn (file_rest []) (many file_item)
 unfolding file_rest
@@ -65,7 +69,8 @@ module _ (table : List Alias) where
       let r = items_on.is_text h.0 b.1 b.0 b.4 in
       let inside : Tokens = n.1 ++ (h.1 ++ r.inside) in
       let behind_is : i.behind ≡ inside ++ r.behind =
-      n.3 ∙ ap (λ z. n.1 ++ z) (h.3 ∙ ap (λ z. h.1 ++ z) (b.3 ∙ alone b.1 b.2 b.5.0 ∙ r.is) ∙ sym (append_assoc h.1 r.inside r.behind)) ∙ sym (append_assoc n.1 (h.1 ++ r.inside) r.behind) in
+      n.3 ∙ ap (λ z. n.1 ++ z) (h.3 ∙ ap (λ z. h.1 ++ z) (b.3 ∙ alone b.1 b.2 b.5.0 ∙ r.is) ∙ sym (append_assoc h.1 r.inside r.behind))
+      ∙ sym (append_assoc n.1 (h.1 ++ r.inside) r.behind) in
       record {
         before = i.before;
         inside = i.word ++ inside;
@@ -77,7 +82,17 @@ module _ (table : List Alias) where
           rest = inside;
           is = refl;
           key = subst (λ z. IsKeyword table z i.word) (has_only k.Edif i.key i.may) i.means_key;
-          text = ((n.0, b.0), (n.1, h.1 ++ r.inside, refl, names.is_text table n.1 n.0 n.4, (made.0, h.1, r.inside, refl, made.2, subst (λ z. Texts z (many file_item) r.inside b.0) made.1 r.text)), b.5.1);
+          text = (
+            (n.0, b.0),
+            (
+              n.1,
+              h.1 ++ r.inside,
+              refl,
+              names.is_text table n.1 n.0 n.4,
+              (made.0, h.1, r.inside, refl, made.2, subst (λ z. Texts z (many file_item) r.inside b.0) made.1 r.text),
+            ),
+            b.5.1,
+          );
         };
         closes = r.closes;
       }
@@ -90,7 +105,8 @@ module _ (table : List Alias) where
       let n = m.text.1 in
       let a = n.4 in
       let all : List Alias = table ++ a.0 in
-      let behind_is : m.rest ++ l.behind ≡ n.0 ++ (a.1 ++ (a.2 ++ l.behind)) = ap (λ z. z ++ l.behind) n.2 ∙ append_assoc n.0 n.1 l.behind ∙ ap (λ z. n.0 ++ z) (ap (λ z. z ++ l.behind) a.3 ∙ append_assoc a.1 a.2 l.behind) in
+      let behind_is : m.rest ++ l.behind ≡ n.0 ++ (a.1 ++ (a.2 ++ l.behind)) = ap (λ z. z ++ l.behind) n.2 ∙ append_assoc n.0 n.1 l.behind
+      ∙ ap (λ z. n.0 ++ z) (ap (λ z. z ++ l.behind) a.3 ∙ append_assoc a.1 a.2 l.behind) in
       text_item table (k.Edif ∷ []) (λ _. rest_of table) ts f (record {
         key = k.Edif;
         before = l.before;
@@ -112,7 +128,15 @@ module _ (table : List Alias) where
             a.2 ++ l.behind,
             refl,
             (headers table a.1 all).1 (a.0, refl, a.4),
-            (x.1, a.2 ++ l.behind, [], sym (append-nil (a.2 ++ l.behind)), items_on.is_spelled all (a.2 ++ l.behind) x.1 (record { inside = a.2; behind = l.behind; is = refl; text = a.5; closes = l.closes }), (refl, m.text.2)),
+            (
+              x.1,
+              a.2 ++ l.behind,
+              [],
+              sym (append-nil (a.2 ++ l.behind)),
+              items_on.is_spelled all (a.2 ++ l.behind) x.1
+                  (record { inside = a.2; behind = l.behind; is = refl; text = a.5; closes = l.closes }),
+              (refl, m.text.2),
+            ),
           ),
         );
       })
@@ -130,12 +154,19 @@ end_is (end p) u h = (p, refl)
 whole_text : (s : Ahead Found) (f : EdifFile) → IsText [] (whole trailing (grammar.file [])) s f → IsFileText s f
 unfolding whole the_end
 whole_text s f ((u, a, b, e, t, (w, c, d, g, (x, m, h), (n, is))), finish) =
-    let at = end_is x w h in
-    (a, at.0, e ∙ ap (λ z. a ++ z) (g ∙ alone c d n ∙ m ∙ ap (λ z. z ∷ []) at.1), subst (λ z. Texts [] file a z) (sym is) ((files [] a u).0 t), finish)
+    let at = end_is x w h in (
+      a,
+      at.0,
+      e ∙ ap (λ z. a ++ z) (g ∙ alone c d n ∙ m ∙ ap (λ z. z ∷ []) at.1),
+      subst (λ z. Texts [] file a z) (sym is)
+          ((files [] a u).0 t),
+      finish,
+    )
 
 text_whole : (s : Ahead Found) (f : EdifFile) → IsFileText s f → IsText [] (whole trailing (grammar.file [])) s f
 unfolding whole the_end
-text_whole s f (a, p, e, t, finish) = ((f, a, end p ∷ [], e, (files [] a f).1 t, (tt, end p ∷ [], [], refl, (end p, refl, refl), (refl, refl))), finish)
+text_whole s f (a, p, e, t, finish) =
+    ((f, a, end p ∷ [], e, (files [] a f).1 t, (tt, end p ∷ [], [], refl, (end p, refl, refl), (refl, refl))), finish)
 
 -- The tokens of an input are a file exactly where the extended BNF has them, up to the end of the input.
 pub whole_files : (s : Ahead Found) (f : EdifFile) → IsText [] (whole trailing (grammar.file [])) s f ↔ IsFileText s f

@@ -47,7 +47,9 @@ level_is (Word w) u h = absurd cc
 level_is (Str s) u h = absurd cc
 
 version_numbers : (n : ℕ) → HasTextsOf (version_number (pos n)) (number n)
-version_numbers n = one_token (λ _ t. say.version_of (pos n) t) (λ _ t _. t ≡ Number (pos n)) (λ k t u h. version_is (pos n) t u h) (λ k t u e. ap (say.version_of (pos n)) e ∙ is_due (pos n))
+version_numbers n =
+    one_token (λ _ t. say.version_of (pos n) t) (λ _ t _. t ≡ Number (pos n)) (λ k t u h. version_is (pos n) t u h)
+    (λ k t u e. ap (say.version_of (pos n)) e ∙ is_due (pos n))
 
 level_numbers : HasTextsOf level_number (number 0)
 level_numbers = one_token (λ _ t. say.level_of t) (λ _ t _. t ≡ Number (pos 0)) (λ k t u h. level_is t u h) (λ k t u e. ap say.level_of e)
@@ -81,7 +83,8 @@ second_level : (n : ℤ) (b c : Bool) → int_eq n (pos 1) ≡ b → (if b then 
 second_level n true c e h = let same : true ≡ c = cc in subst (IsLevel (Number n)) same (ap Number ((Decides-int_eq n (pos 1)).0 e))
 second_level n false c e h = absurd cc
 
-first_level : (n : ℤ) (b c : Bool) → int_eq n (pos 0) ≡ b → (if b then Ok false else (if int_eq n (pos 1) then Ok true else Err reasons.KeywordLevel)) ≡ Ok c → IsLevel (Number n) c
+first_level : (n : ℤ) (b c : Bool) → int_eq n (pos 0) ≡ b
+    → (if b then Ok false else (if int_eq n (pos 1) then Ok true else Err reasons.KeywordLevel)) ≡ Ok c → IsLevel (Number n) c
 first_level n true c e h = let same : false ≡ c = cc in subst (IsLevel (Number n)) same (ap Number ((Decides-int_eq n (pos 0)).0 e))
 first_level n false c e h = second_level n (int_eq n (pos 1)) c refl h
 
@@ -97,7 +100,8 @@ is_keyword_level t false e = ap say.keyword_level_of e
 is_keyword_level t true e = ap say.keyword_level_of e
 
 keyword_level_numbers : HasTextsOf keyword_level_number (single (λ _ t b. IsLevel t b))
-keyword_level_numbers = one_token (λ _ t. say.keyword_level_of t) (λ _ t b. IsLevel t b) (λ k t b h. keyword_level_is t b h) (λ k t b e. is_keyword_level t b e)
+keyword_level_numbers =
+    one_token (λ _ t. say.keyword_level_of t) (λ _ t b. IsLevel t b) (λ k t b h. keyword_level_is t b h) (λ k t b e. is_keyword_level t b e)
 
 pub keyword_levels : HasTextsOf grammar.keyword_level (form k.KeywordLevel (single (λ _ t b. IsLevel t b)))
 unfolding grammar.keyword_level
@@ -121,7 +125,9 @@ new_word_is aliases (Number n) v h = absurd cc
 new_word_is aliases (Str s) v h = absurd cc
 
 new_words : HasTextsOf new_word new_ident
-new_words = one_token (λ aliases t. say.new_word_of aliases t) (λ aliases t w. IsNew aliases t w) new_word_is (λ aliases t w m. ap (say.new_word_of aliases) m.0 ∙ ap (say.new_by w) m.1)
+new_words =
+    one_token (λ aliases t. say.new_word_of aliases t) (λ aliases t w. IsNew aliases t w) new_word_is
+    (λ aliases t w m. ap (say.new_word_of aliases) m.0 ∙ ap (say.new_by w) m.1)
 
 known_by_is : (m : Option Keyword) (q : Keyword) → say.known_by m ≡ Ok q → m ≡ Some q
 known_by_is None q h = absurd cc
@@ -139,7 +145,9 @@ known_word_is aliases (Number n) q h = absurd cc
 known_word_is aliases (Str s) q h = absurd cc
 
 known_words : HasTextsOf known_word known_ident
-known_words = one_token (λ aliases t. say.known_word_of aliases t) (λ aliases t q. IsKnown aliases t q) known_word_is (λ aliases t q m. ap (say.known_word_of aliases) m.1 ∙ ap say.known_by m.2)
+known_words =
+    one_token (λ aliases t. say.known_word_of aliases t) (λ aliases t q. IsKnown aliases t q) known_word_is
+    (λ aliases t q m. ap (say.known_word_of aliases) m.1 ∙ ap say.known_by m.2)
 
 -- behind `( keywordAlias`: these aliases and the one that is made
 abbrev Made : List Alias → Production (List Alias)
@@ -151,8 +159,11 @@ aliases_made table = then_on (λ w q. one_more table w q) new_words (λ w. ends_
 
 -- ---- the keywords of a map
 
-map_keyword_is : (allowed : List Keyword) (aliases : List Alias) (t : Token) (q : Keyword) → say.map_keyword_of allowed aliases t ≡ Ok q → KeywordIs allowed aliases t q
-map_keyword_is allowed aliases (Word w) q h = let m = meant_is say.above_level allowed w q (means aliases w) h in record { spelling = w; is = refl; meaning = m.0; may = m.1 }
+map_keyword_is : (allowed : List Keyword) (aliases : List Alias) (t : Token) (q : Keyword) → say.map_keyword_of allowed aliases t ≡ Ok q
+    → KeywordIs allowed aliases t q
+map_keyword_is allowed aliases (Word w) q h =
+    let m = meant_is say.above_level allowed w q (means aliases w) h in
+    record { spelling = w; is = refl; meaning = m.0; may = m.1 }
 map_keyword_is allowed aliases LeftParen q h = absurd cc
 map_keyword_is allowed aliases RightParen q h = absurd cc
 map_keyword_is allowed aliases (Number n) q h = absurd cc
@@ -161,12 +172,16 @@ map_keyword_is allowed aliases (Str s) q h = absurd cc
 module _ (b : Bool) (table : List Alias) where
   pub map_keyword_text : (ts : Tokens) (q : Keyword) → Spells table (map_keyword b) ts q → IsKeyword table q ts × (has (map_keywords b) q ≡ true)
   unfolding one
-  map_keyword_text ts q (proper x, e, h) = let is = map_keyword_is (map_keywords b) table x.token q h in ((is.spelling, (x, e, is.is), is.meaning), is.may)
+  map_keyword_text ts q (proper x, e, h) =
+      let is = map_keyword_is (map_keywords b) table x.token q h in
+      ((is.spelling, (x, e, is.is), is.meaning), is.may)
   map_keyword_text ts q (end p, e, h) = absurd cc
 
   pub text_map_keyword : (ts : Tokens) (q : Keyword) → IsKeyword table q ts → has (map_keywords b) q ≡ true → Spells table (map_keyword b) ts q
   unfolding one
-  text_map_keyword ts q (w, (x, e, is), m) may = let says : say.map_keyword_of (map_keywords b) table (Word w) ≡ Ok q = rw (m, may) refl in (proper x, e, ap (say.map_keyword_of (map_keywords b) table) is ∙ says)
+  text_map_keyword ts q (w, (x, e, is), m) may =
+      let says : say.map_keyword_of (map_keywords b) table (Word w) ≡ Ok q = rw (m, may) refl in
+      (proper x, e, ap (say.map_keyword_of (map_keywords b) table) is ∙ says)
 
 -- {alias | comment}, by the level
 abbrev pub MapItem : Bool → Production (List Alias)
@@ -193,7 +208,8 @@ pub record Step (b : Bool) (table : List Alias) (ts : Tokens) (all : List Alias)
 
 alias_step : (table : List Alias) (ts : Tokens) (all : List Alias) (f : MapForm true table ts all) → f.key ≡ k.KeywordAlias → Step true table ts all
 alias_step table ts all f same =
-    let r = (aliases_made table).is_text table f.behind all (subst (λ z. Spells table (map_form table (same_keyword z k.KeywordAlias)) f.behind all) same f.text) in
+    let r = (aliases_made table).is_text table f.behind all
+    (subst (λ z. Spells table (map_form table (same_keyword z k.KeywordAlias)) f.behind all) same f.text) in
     record {
       made = one_more [] r.text.0.0 r.text.0.1;
       value = r.text.2;
@@ -203,7 +219,13 @@ alias_step table ts all f same =
         behind = r.behind;
         is = f.is ∙ ap (λ z. f.before ++ z) (ap (λ z. f.word ++ z) r.is ∙ sym (append_assoc f.word r.inside r.behind));
         opens = f.opens;
-        text = record { word = f.word; rest = r.inside; is = refl; key = subst (λ z. IsKeyword table z f.word) same f.means_key; text = (r.text.0, r.text.1, refl) };
+        text = record {
+          word = f.word;
+          rest = r.inside;
+          is = refl;
+          key = subst (λ z. IsKeyword table z f.word) same f.means_key;
+          text = (r.text.0, r.text.1, refl);
+        };
         closes = r.closes;
       });
     }
@@ -235,10 +257,13 @@ comment_step b table ts all f same =
     }
 
 pub step_of : (b : Bool) (table : List Alias) (ts : Tokens) (all : List Alias) → MapForm b table ts all → Step b table ts all
-step_of false table ts all f = let r = comment_step false table ts all f (has_only k.Comment f.key f.may) in record { made = []; value = r.same_aliases ∙ sym (append-nil table); text = r.text }
+step_of false table ts all f =
+    let r = comment_step false table ts all f (has_only k.Comment f.key f.may) in
+    record { made = []; value = r.same_aliases ∙ sym (append-nil table); text = r.text }
 step_of true table ts all f = elim (has_first_or k.KeywordAlias (k.Comment ∷ []) f.key f.may) [
   | inl same ↦ alias_step table ts all f same
-  | inr may ↦ let r = comment_step true table ts all f (has_only k.Comment f.key may) in record { made = []; value = r.same_aliases ∙ sym (append-nil table); text = inr r.text }
+  | inr may ↦ let r = comment_step true table ts all f (has_only k.Comment f.key may) in
+      record { made = []; value = r.same_aliases ∙ sym (append-nil table); text = inr r.text }
 ]
 
 -- the other way round
@@ -263,7 +288,8 @@ remark_form b table ts made (u, l, e) =
         m.rest ++ l.behind,
         [],
         sym (append-nil (m.rest ++ l.behind)),
-        many_strings.is_spelled table (m.rest ++ l.behind) u (record { inside = m.rest; behind = l.behind; is = refl; text = m.text; closes = l.closes }),
+        many_strings.is_spelled table (m.rest ++ l.behind) u
+            (record { inside = m.rest; behind = l.behind; is = refl; text = m.text; closes = l.closes }),
         (refl, ap (λ z. table ++ z) e ∙ append-nil table),
       );
     }
@@ -284,7 +310,8 @@ alias_form table ts made l =
           (record { inside = m.rest; behind = l.behind; is = refl; text = (m.text.0, m.text.1, ap (λ z. table ++ z) m.text.2); closes = l.closes });
     }
 
-pub form_for : (b : Bool) (table : List Alias) (ts : Tokens) (made : List Alias) → Texts table (MapItem b) ts made → MapForm b table ts (table ++ made)
+pub form_for : (b : Bool) (table : List Alias) (ts : Tokens) (made : List Alias) → Texts table (MapItem b) ts made
+    → MapForm b table ts (table ++ made)
 form_for false table ts made t = remark_form false table ts made t
 form_for true table ts made (inl t) = alias_form table ts made t
 form_for true table ts made (inr t) = remark_form true table ts made t

@@ -1,5 +1,6 @@
 pub mod OneToken
 pub mod Combining
+pub mod Alternatives
 pub mod Alike
 pub mod Repeating
 pub mod Choices

@@ -25,7 +25,8 @@ use Rattle.edif_productions.specs.Notes.{note, status}
 use Rattle.edif_productions.specs.Nets.{designator, port, instance, net}
 use Rattle.edif_productions.specs.Libraries.{interface, contents, view_part, netlist, view, kind, cell_part, cell, scale, technology, library_of, design}
 use Rattle.edif_productions.proofs.OneToken.{words}
-use Rattle.edif_productions.proofs.Combining.{ReadsOn, then_on, ends_on, ends_plainly, ends_bare, gives_on, whole_form, meant, or_form}
+use Rattle.edif_productions.proofs.Combining.{ReadsOn, then_on, ends_on, ends_plainly, ends_bare, gives_on, whole_form, meant}
+use Rattle.edif_productions.proofs.Alternatives.{or_form}
 use Rattle.edif_productions.proofs.Alike.{on_same, plain_meaning}
 use Rattle.edif_productions.proofs.Repeating.{many_forms, once_forms}
 use Rattle.edif_productions.proofs.Choices.{or_word, one_word, netlists}
@@ -38,14 +39,17 @@ use Rattle.edif_productions.proofs.HeaderTexts.{levels}
 
 -- port | property | designator | note
 abbrev InterfacePart : Production InterfaceItem
-InterfacePart = meaning (λ p. interface_items.Port p) port ∣ meaning (λ p. interface_items.Property p) property ∣ meaning (λ s. interface_items.Designator s) designator ∣ meaning (λ n. interface_items.Note n) note
+InterfacePart =
+    meaning (λ p. interface_items.Port p) port ∣ meaning (λ p. interface_items.Property p) property
+    ∣ meaning (λ s. interface_items.Designator s) designator ∣ meaning (λ n. interface_items.Note n) note
 
 interface_parts : HasTextsOf (item interface_keywords interface_item) InterfacePart
 unfolding interface_port interface_property interface_designator interface_note
 interface_parts =
     or_form interface_item k.Port (k.Property ∷ k.Designator ∷ note_keywords) (meant (k.Port ∷ []) (λ p. interface_items.Port p) ports)
     (or_form interface_item k.Property (k.Designator ∷ note_keywords) (meant (k.Property ∷ []) (λ p. interface_items.Property p) properties)
-    (or_form interface_item k.Designator note_keywords (meant (k.Designator ∷ []) (λ s. interface_items.Designator s) designators) (note_among (λ n. interface_items.Note n) interface_item refl refl)))
+    (or_form interface_item k.Designator note_keywords (meant (k.Designator ∷ []) (λ s. interface_items.Designator s) designators)
+    (note_among (λ n. interface_items.Note n) interface_item refl refl)))
 
 pub interfaces : HasTextsOf grammar.interface interface
 unfolding interface grammar.interface interface_rest
@@ -59,7 +63,8 @@ contents_parts : HasTextsOf (item contents_keywords contents_item) ContentsPart
 unfolding contents_instance contents_net contents_note
 contents_parts =
     or_form contents_item k.Instance (k.Net ∷ note_keywords) (meant (k.Instance ∷ []) (λ u. contents_items.Instance u) instances)
-    (or_form contents_item k.Net note_keywords (meant (k.Net ∷ []) (λ n. contents_items.Net n) nets) (note_among (λ n. contents_items.Note n) contents_item refl refl))
+    (or_form contents_item k.Net note_keywords (meant (k.Net ∷ []) (λ n. contents_items.Net n) nets)
+    (note_among (λ n. contents_items.Note n) contents_item refl refl))
 
 pub all_contents : HasTextsOf (form_of k.Contents (contents_rest [])) contents
 unfolding contents contents_rest
@@ -69,11 +74,15 @@ view_parts : HasTextsOf (item (k.Property ∷ k.Status ∷ note_keywords) view_i
 unfolding view_property view_status view_note
 view_parts =
     or_form view_item k.Property (k.Status ∷ note_keywords) (meant (k.Property ∷ []) (λ p. view_items.Property p) properties)
-    (or_form view_item k.Status note_keywords (meant (k.Status ∷ []) (λ s. view_items.Status s) status_forms) (note_among (λ n. view_items.Note n) view_item refl refl))
+    (or_form view_item k.Status note_keywords (meant (k.Status ∷ []) (λ s. view_items.Status s) status_forms)
+    (note_among (λ n. view_items.Note n) view_item refl refl))
 
-first_view_parts : HasTextsOf (item (k.Contents ∷ k.Property ∷ k.Status ∷ note_keywords) view_item) (meaning (λ is. view_items.Contents is) contents ∣ view_part)
+first_view_parts : HasTextsOf (item (k.Contents ∷ k.Property ∷ k.Status ∷ note_keywords) view_item)
+    (meaning (λ is. view_items.Contents is) contents ∣ view_part)
 unfolding view_contents
-first_view_parts = or_form view_item k.Contents (k.Property ∷ k.Status ∷ note_keywords) (meant (k.Contents ∷ []) (λ is. view_items.Contents is) all_contents) view_parts
+first_view_parts =
+    or_form view_item k.Contents (k.Property ∷ k.Status ∷ note_keywords)
+    (meant (k.Contents ∷ []) (λ is. view_items.Contents is) all_contents) view_parts
 
 no_contents : (aliases : List Alias) (ts : Tokens) (i : ViewItem) → Texts aliases view_part ts i → is_contents i ≡ false
 no_contents aliases ts i (inl (p, t, e)) = ap is_contents e
@@ -90,7 +99,8 @@ views =
     whole_form k.View (then_on (λ n x. record { name = n; interface = x.1.0; items = x.1.1 }) names
     (λ n. then_on (λ _ x. record { name = n; interface = x.0; items = x.1 }) view_types
     (λ _. then_on (λ ps is. record { name = n; interface = ps; items = is }) interfaces
-    (λ ps. gives_on (λ is. record { name = n; interface = ps; items = is }) (once_forms is_contents view_keywords (λ is. view_items.Contents is) first_view_parts view_parts (λ is. refl) no_contents)))))
+    (λ ps. gives_on (λ is. record { name = n; interface = ps; items = is })
+    (once_forms is_contents view_keywords (λ is. view_items.Contents is) first_view_parts view_parts (λ is. refl) no_contents)))))
 
 -- ---- cells
 
@@ -107,7 +117,8 @@ cell_parts : HasTextsOf (item (k.Property ∷ k.Status ∷ note_keywords) cell_i
 unfolding cell_property cell_status cell_note
 cell_parts =
     or_form cell_item k.Property (k.Status ∷ note_keywords) (meant (k.Property ∷ []) (λ p. cell_items.Property p) properties)
-    (or_form cell_item k.Status note_keywords (meant (k.Status ∷ []) (λ s. cell_items.Status s) status_forms) (note_among (λ n. cell_items.Note n) cell_item refl refl))
+    (or_form cell_item k.Status note_keywords (meant (k.Status ∷ []) (λ s. cell_items.Status s) status_forms)
+    (note_among (λ n. cell_items.Note n) cell_item refl refl))
 
 first_cell_parts : HasTextsOf (item (k.View ∷ k.Property ∷ k.Status ∷ note_keywords) cell_item) (meaning (λ v. cell_items.View v) view ∣ cell_part)
 unfolding cell_view
@@ -123,7 +134,8 @@ unfolding cell grammar.cell cell_rest has_view cell_keywords
 cells =
     whole_form k.Cell (then_on (λ n x. record { name = n; kind = x.0; items = x.1 }) names
     (λ n. then_on (λ q is. record { name = n; kind = q; items = is }) cell_types
-    (λ q. gives_on (λ is. record { name = n; kind = q; items = is }) (once_forms is_view cell_keywords (λ v. cell_items.View v) first_cell_parts cell_parts (λ v. refl) no_view))))
+    (λ q. gives_on (λ is. record { name = n; kind = q; items = is })
+    (once_forms is_view cell_keywords (λ v. cell_items.View v) first_cell_parts cell_parts (λ v. refl) no_view))))
 
 -- ---- libraries
 
@@ -135,7 +147,8 @@ pub scales : HasTextsOf (form_of k.Scale grammar.scale) scale
 unfolding scale grammar.scale
 scales =
     whole_form k.Scale (then_on (λ l x. record { left = l; right = x.0; unit = x.1 }) scaled_numbers
-    (λ l. then_on (λ r u. record { left = l; right = r; unit = u }) scaled_numbers (λ r. ends_on (λ u. record { left = l; right = r; unit = u }) units)))
+    (λ l. then_on (λ r u. record { left = l; right = r; unit = u }) scaled_numbers
+    (λ r. ends_on (λ u. record { left = l; right = r; unit = u }) units)))
 
 number_definitions : HasTextsOf number_definition (form k.NumberDefinition (many scale))
 unfolding number_definition scales_rest
@@ -155,7 +168,8 @@ library_parts : HasTextsOf (item library_keywords library_item) LibraryPart
 unfolding library_cell library_status library_note
 library_parts =
     or_form library_item k.Cell (k.Status ∷ note_keywords) (meant (k.Cell ∷ []) (λ c. library_items.Cell c) cells)
-    (or_form library_item k.Status note_keywords (meant (k.Status ∷ []) (λ s. library_items.Status s) status_forms) (note_among (λ n. library_items.Note n) library_item refl refl))
+    (or_form library_item k.Status note_keywords (meant (k.Status ∷ []) (λ s. library_items.Status s) status_forms)
+    (note_among (λ n. library_items.Note n) library_item refl refl))
 
 pub library_bodies : (external : Bool) → ReadsOn (grammar.library external) (library_of external)
 unfolding grammar.library library_rest
@@ -163,7 +177,8 @@ library_bodies external =
     then_on (λ n x. record { external = external; name = n; scales = x.1.0.0; notes = x.1.0.1; items = x.1.1 }) names
     (λ n. then_on (λ _ x. record { external = external; name = n; scales = x.0.0; notes = x.0.1; items = x.1 }) levels
     (λ _. then_on (λ t is. record { external = external; name = n; scales = t.0; notes = t.1; items = is }) technologies
-    (λ t. gives_on (λ is. record { external = external; name = n; scales = t.0; notes = t.1; items = is }) (many_forms library_keywords library_parts))))
+    (λ t. gives_on (λ is. record { external = external; name = n; scales = t.0; notes = t.1; items = is })
+    (many_forms library_keywords library_parts))))
 
 -- ---- designs
 
@@ -173,7 +188,9 @@ library_refs = whole_form k.LibraryRef (ends_plainly words)
 
 cell_refs : HasTextsOf cell_ref (form k.CellRef (ident · form k.LibraryRef ident))
 unfolding cell_ref
-cell_refs = whole_form k.CellRef (on_same (plain_meaning (ident · form k.LibraryRef ident)) (then_on (λ c l. (c, l)) words (λ c. ends_on (λ l. (c, l)) library_refs)))
+cell_refs =
+    whole_form k.CellRef (on_same (plain_meaning (ident · form k.LibraryRef ident))
+    (then_on (λ c l. (c, l)) words (λ c. ends_on (λ l. (c, l)) library_refs)))
 
 -- property | status | note
 abbrev DesignPart : Production DesignItem
@@ -183,10 +200,12 @@ design_parts : HasTextsOf (item design_keywords design_item) DesignPart
 unfolding design_property design_status design_note
 design_parts =
     or_form design_item k.Property (k.Status ∷ note_keywords) (meant (k.Property ∷ []) (λ p. design_items.Property p) properties)
-    (or_form design_item k.Status note_keywords (meant (k.Status ∷ []) (λ s. design_items.Status s) status_forms) (note_among (λ n. design_items.Note n) design_item refl refl))
+    (or_form design_item k.Status note_keywords (meant (k.Status ∷ []) (λ s. design_items.Status s) status_forms)
+    (note_among (λ n. design_items.Note n) design_item refl refl))
 
 pub designs : HasTextsOf (form_of k.Design grammar.design) design
 unfolding design grammar.design design_rest
 designs =
     whole_form k.Design (then_on (λ n x. record { name = n; cell = x.0.0; library = x.0.1; items = x.1 }) names
-    (λ n. then_on (λ c is. record { name = n; cell = c.0; library = c.1; items = is }) cell_refs (λ c. gives_on (λ is. record { name = n; cell = c.0; library = c.1; items = is }) (many_forms design_keywords design_parts))))
+    (λ n. then_on (λ c is. record { name = n; cell = c.0; library = c.1; items = is }) cell_refs
+    (λ c. gives_on (λ is. record { name = n; cell = c.0; library = c.1; items = is }) (many_forms design_keywords design_parts))))

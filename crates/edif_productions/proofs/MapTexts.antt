@@ -21,11 +21,22 @@ use Rattle.edif_productions.proofs.HeaderTexts.{levels, versions, level_of, IsLe
 -- ---- {alias | comment}
 
 -- `(` and what is read of a form of a map behind it
-taken_form : (b : Bool) (table : List Alias) (x : Found) (u : Unit {0}) (ts : Tokens) (all : List Alias) (aliases : List Alias) → say.at_opening x.token ≡ takes u → Spells aliases (map_item b table) ts all → MapForm b table (proper x ∷ ts) all
+taken_form : (b : Bool) (table : List Alias) (x : Found) (u : Unit {0}) (ts : Tokens) (all : List Alias) (aliases : List Alias)
+    → say.at_opening x.token ≡ takes u → Spells aliases (map_item b table) ts all → MapForm b table (proper x ∷ ts) all
 unfolding map_item
 taken_form b table x u ts all aliases h (q, c, d, e, w, t) =
     let m = map_keyword_text b table c q w in
-    record { key = q; before = proper x ∷ []; word = c; behind = d; is = ap (λ z. proper x ∷ z) e; opens = (x, refl, taken_is x.token u h); means_key = m.0; may = m.1; text = t }
+    record {
+      key = q;
+      before = proper x ∷ [];
+      word = c;
+      behind = d;
+      is = ap (λ z. proper x ∷ z) e;
+      opens = (x, refl, taken_is x.token u h);
+      means_key = m.0;
+      may = m.1;
+      text = t;
+    }
 
 -- the other way round
 record Taken (b : Bool) (table : List Alias) (ts : Tokens) (all : List Alias) : Type 0 where
@@ -76,35 +87,64 @@ module _ (b : Bool) (aliases : List Alias) where
         inside = x ++ last.inside;
         behind = last.behind;
         is = w ∙ ap (λ q. x ++ q) last.is ∙ sym (append_assoc x last.inside last.behind);
-        text = grows step.made last.made x last.inside refl (subst (λ q. Texts table (MapItem b) q step.made) (sym m) step.text) (subst (λ q. Texts q (growing (MapItem b)) last.inside last.made) step.value last.text) refl;
+        text = grows step.made last.made x last.inside refl (subst (λ q. Texts table (MapItem b) q step.made) (sym m) step.text)
+            (subst (λ q. Texts q (growing (MapItem b)) last.inside last.made) step.value last.text) refl;
         closes = last.closes;
       }
   ended table ts all (goes next x y (end p, u, r, m, h, s) more w) = absurd cc
 
-  read_map : (table : List Alias) (x y : Tokens) (made : List Alias) → GrowingText (λ t. Texts t (MapItem b)) table x made → IsToken RightParen y → Spells aliases (map_items b table) (x ++ y) (table ++ made)
+  read_map : (table : List Alias) (x y : Tokens) (made : List Alias) → GrowingText (λ t. Texts t (MapItem b)) table x made → IsToken RightParen y
+      → Spells aliases (map_items b table) (x ++ y) (table ++ made)
   unfolding map_items forms while_next
-  read_map table x y made (grown e n) close = ends (tt, y, [], ap (λ z. z ++ y) e ∙ sym (append-nil y), text_closing aliases y close, (refl, ap (λ z. table ++ z) n ∙ append-nil table))
+  read_map table x y made (grown e n) close =
+      ends (tt, y, [], ap (λ z. z ++ y) e ∙ sym (append-nil y), text_closing aliases y close, (refl, ap (λ z. table ++ z) n ∙ append-nil table))
   read_map table x y made (grows first later c d e t more n) close =
       let q = form_taken b table c (table ++ first) (form_for b table c first t) in
       let last = read_map (table ++ first) d y later more close in
       let value : (table ++ first) ++ later ≡ table ++ made = append_assoc table first later ∙ ap (λ z. table ++ z) (sym n) in
-      goes (table ++ first) c (d ++ y) (proper q.first, tt, q.rest, q.is, q.taken, q.text aliases) (subst (λ z. Spells aliases (map_items b (table ++ first)) (d ++ y) z) value last)
+      goes (table ++ first) c (d ++ y) (proper q.first, tt, q.rest, q.is, q.taken, q.text aliases)
+      (subst (λ z. Spells aliases (map_items b (table ++ first)) (d ++ y) z) value last)
       (ap (λ z. z ++ y) e ∙ append_assoc c d y)
 
 -- ---- the map
 
 -- behind `( keywordMap`, by the level
 abbrev Map : Production (List Alias)
-Map = either (meaning (λ x. x.1) (both (keyword_level 0) (growing remark))) (meaning (λ x. x.1) (both (keyword_level 1) (growing (either alias remark))))
+Map =
+    either (meaning (λ x. x.1) (both (keyword_level 0) (growing remark)))
+    (meaning (λ x. x.1) (both (keyword_level 1) (growing (either alias remark))))
 
 -- the level, as its form has it
-level_form : (aliases : List Alias) (b : Bool) (ts : Tokens) → Texts aliases (form k.KeywordLevel (single (λ _ t c. IsLevel t c))) ts b → Texts aliases (keyword_level (level_of b)) ts tt
-level_form aliases b ts l = let m = l.text in record { before = l.before; inside = l.inside; behind = l.behind; is = l.is; opens = l.opens; text = record { word = m.word; rest = m.rest; is = m.is; key = m.key; text = m.text }; closes = l.closes }
+level_form : (aliases : List Alias) (b : Bool) (ts : Tokens) → Texts aliases (form k.KeywordLevel (single (λ _ t c. IsLevel t c))) ts b
+    → Texts aliases (keyword_level (level_of b)) ts tt
+level_form aliases b ts l =
+    let m = l.text in
+    record {
+      before = l.before;
+      inside = l.inside;
+      behind = l.behind;
+      is = l.is;
+      opens = l.opens;
+      text = record { word = m.word; rest = m.rest; is = m.is; key = m.key; text = m.text };
+      closes = l.closes;
+    }
 
-form_level : (aliases : List Alias) (b : Bool) (ts : Tokens) → Texts aliases (keyword_level (level_of b)) ts tt → Texts aliases (form k.KeywordLevel (single (λ _ t c. IsLevel t c))) ts b
-form_level aliases b ts l = let m = l.text in record { before = l.before; inside = l.inside; behind = l.behind; is = l.is; opens = l.opens; text = record { word = m.word; rest = m.rest; is = m.is; key = m.key; text = m.text }; closes = l.closes }
+form_level : (aliases : List Alias) (b : Bool) (ts : Tokens) → Texts aliases (keyword_level (level_of b)) ts tt
+    → Texts aliases (form k.KeywordLevel (single (λ _ t c. IsLevel t c))) ts b
+form_level aliases b ts l =
+    let m = l.text in
+    record {
+      before = l.before;
+      inside = l.inside;
+      behind = l.behind;
+      is = l.is;
+      opens = l.opens;
+      text = record { word = m.word; rest = m.rest; is = m.is; key = m.key; text = m.text };
+      closes = l.closes;
+    }
 
-map_by : (aliases : List Alias) (b : Bool) (a c : Tokens) (made : List Alias) → Texts aliases (keyword_level (level_of b)) a tt → Texts aliases (growing (MapItem b)) c made → Texts aliases Map (a ++ c) made
+map_by : (aliases : List Alias) (b : Bool) (a c : Tokens) (made : List Alias) → Texts aliases (keyword_level (level_of b)) a tt
+    → Texts aliases (growing (MapItem b)) c made → Texts aliases Map (a ++ c) made
 map_by aliases false a c made l g = inl ((tt, made), (a, c, refl, l, g), refl)
 map_by aliases true a c made l g = inr ((tt, made), (a, c, refl, l, g), refl)
 
@@ -118,15 +158,25 @@ record ByLevel (aliases : List Alias) (ts : Tokens) (made : List Alias) : Type 0
   items_text : Texts aliases (growing (MapItem level)) second made
 
 by_map : (aliases : List Alias) (ts : Tokens) (made : List Alias) → Texts aliases Map ts made → ByLevel aliases ts made
-by_map aliases ts made (inl (x, (a, c, e, l, g), f)) = record { level = false; first = a; second = c; is = e; level_text = l; items_text = subst (λ z. Texts aliases (growing remark) c z) (sym f) g }
-by_map aliases ts made (inr (x, (a, c, e, l, g), f)) = record { level = true; first = a; second = c; is = e; level_text = l; items_text = subst (λ z. Texts aliases (growing (either alias remark)) c z) (sym f) g }
+by_map aliases ts made (inl (x, (a, c, e, l, g), f)) =
+    record { level = false; first = a; second = c; is = e; level_text = l; items_text = subst (λ z. Texts aliases (growing remark) c z) (sym f) g }
+by_map aliases ts made (inr (x, (a, c, e, l, g), f)) =
+    record {
+      level = true;
+      first = a;
+      second = c;
+      is = e;
+      level_text = l;
+      items_text = subst (λ z. Texts aliases (growing (either alias remark)) c z) (sym f) g;
+    }
 
 -- what is read behind `( keywordMap`
 abbrev rest_of : List Alias → Edif (List Alias)
 rest_of table = sequence grammar.keyword_level (λ n. map_items n table)
 
 module _ (table : List Alias) where
-  map_text : (ts : Tokens) (all : List Alias) → Spells table (grammar.keyword_map table) ts all → (made : List Alias) × (all ≡ table ++ made) × Texts table keyword_map ts made
+  map_text : (ts : Tokens) (all : List Alias) → Spells table (grammar.keyword_map table) ts all → (made : List Alias) × (all ≡ table ++ made)
+      × Texts table keyword_map ts made
   unfolding grammar.keyword_map
   map_text ts all s =
       let i = item_text table (k.KeywordMap ∷ []) (λ _. rest_of table) ts all s in
@@ -139,9 +189,17 @@ module _ (table : List Alias) where
           before = i.before;
           inside = i.word ++ (t.1 ++ r.inside);
           behind = r.behind;
-          is = i.is ∙ ap (λ z. i.before ++ z) (ap (λ z. i.word ++ z) (t.3 ∙ ap (λ z. t.1 ++ z) r.is ∙ sym (append_assoc t.1 r.inside r.behind)) ∙ sym (append_assoc i.word (t.1 ++ r.inside) r.behind));
+          is = i.is ∙ ap (λ z. i.before ++ z)
+              (ap (λ z. i.word ++ z) (t.3 ∙ ap (λ z. t.1 ++ z) r.is ∙ sym (append_assoc t.1 r.inside r.behind))
+              ∙ sym (append_assoc i.word (t.1 ++ r.inside) r.behind));
           opens = i.opens;
-          text = record { word = i.word; rest = t.1 ++ r.inside; is = refl; key = subst (λ z. IsKeyword table z i.word) (has_only k.KeywordMap i.key i.may) i.means_key; text = map_by table t.0 t.1 r.inside r.made level r.text };
+          text = record {
+            word = i.word;
+            rest = t.1 ++ r.inside;
+            is = refl;
+            key = subst (λ z. IsKeyword table z i.word) (has_only k.KeywordMap i.key i.may) i.means_key;
+            text = map_by table t.0 t.1 r.inside r.made level r.text;
+          };
           closes = r.closes;
         },
       )
@@ -152,7 +210,9 @@ module _ (table : List Alias) where
       let m = l.text in
       let b = by_map table m.rest made m.text in
       let whole : ts ≡ l.before ++ (m.word ++ (b.first ++ (b.second ++ l.behind))) =
-      l.is ∙ ap (λ z. l.before ++ z) (ap (λ z. z ++ l.behind) m.is ∙ append_assoc m.word m.rest l.behind ∙ ap (λ z. m.word ++ z) (ap (λ z. z ++ l.behind) b.is ∙ append_assoc b.first b.second l.behind)) in
+      l.is ∙ ap (λ z. l.before ++ z)
+      (ap (λ z. z ++ l.behind) m.is ∙ append_assoc m.word m.rest l.behind
+      ∙ ap (λ z. m.word ++ z) (ap (λ z. z ++ l.behind) b.is ∙ append_assoc b.first b.second l.behind)) in
       text_item table (k.KeywordMap ∷ []) (λ _. rest_of table) ts (table ++ made) (record {
         key = k.KeywordMap;
         before = l.before;
@@ -162,7 +222,15 @@ module _ (table : List Alias) where
         opens = l.opens;
         means_key = m.key;
         may = has_first k.KeywordMap [];
-        text = (b.level, b.first, b.second ++ l.behind, refl, keyword_levels.is_spelled table b.first b.level (form_level table b.level b.first b.level_text), read_map b.level table table b.second l.behind made b.items_text l.closes);
+        text = (
+          b.level,
+          b.first,
+          b.second ++ l.behind,
+          refl,
+          keyword_levels.is_spelled table b.first b.level
+              (form_level table b.level b.first b.level_text),
+          read_map b.level table table b.second l.behind made b.items_text l.closes,
+        );
       })
 
   header_text : (ts : Tokens) (all : List Alias) → Spells table (grammar.header table) ts all → HeaderText table ts all
@@ -174,8 +242,14 @@ module _ (table : List Alias) where
   text_header : (ts : Tokens) (all made : List Alias) → all ≡ table ++ made → Texts table header ts made → Spells table (grammar.header table) ts all
   unfolding grammar.header header
   text_header ts all made value (x, (a, b, e, v, (c, d, f, l, m)), is) =
-      let same : table ++ x.1.1 ≡ all = ap (λ z. table ++ z) (sym is) ∙ sym value in
-      (tt, a, b, e, versions.is_spelled table a tt v, (tt, c, d, f, levels.is_spelled table c tt l, subst (λ z. Spells table (grammar.keyword_map table) d z) same (text_map d x.1.1 m)))
+      let same : table ++ x.1.1 ≡ all = ap (λ z. table ++ z) (sym is) ∙ sym value in (
+        tt,
+        a,
+        b,
+        e,
+        versions.is_spelled table a tt v,
+        (tt, c, d, f, levels.is_spelled table c tt l, subst (λ z. Spells table (grammar.keyword_map table) d z) same (text_map d x.1.1 m)),
+      )
 
   -- The header is what the extended BNF has.
   pub headers : (ts : Tokens) (all : List Alias) → Spells table (grammar.header table) ts all ↔ HeaderText table ts all

@@ -18,7 +18,8 @@ use Rattle.edif_productions.specs.Names.{property}
 use Rattle.edif_productions.specs.Notes.{note}
 use Rattle.edif_productions.specs.Nets.{designator, direction, port_part, port, view_ref, instance_part, instance, port_or_member, port_ref, net}
 use Rattle.edif_productions.proofs.OneToken.{words, strings, integers}
-use Rattle.edif_productions.proofs.Combining.{ReadsOn, then_on, ends_on, ends_plainly, gives_on, gives_so, whole_form, meant, or_form, form_or_part, optional_form}
+use Rattle.edif_productions.proofs.Combining.{ReadsOn, then_on, ends_on, ends_plainly, gives_on, gives_so, whole_form, meant}
+use Rattle.edif_productions.proofs.Alternatives.{or_form, form_or_part, optional_form}
 use Rattle.edif_productions.proofs.Alike.{has_same, on_same, plain_meaning, meaning_out}
 use Rattle.edif_productions.proofs.Repeating.{many_forms, once_forms}
 use Rattle.edif_productions.proofs.Choices.{or_word, one_word}
@@ -42,15 +43,19 @@ directions =
 
 port_directions : HasTextsOf (form_of k.Direction grammar.direction) (meaning (λ d. port_items.Direction d) direction)
 unfolding direction grammar.direction
-port_directions = has_same (meaning_out k.Direction (λ d. port_items.Direction d) Directions) (whole_form k.Direction (ends_on (λ d. port_items.Direction d) directions))
+port_directions =
+    has_same (meaning_out k.Direction (λ d. port_items.Direction d) Directions)
+    (whole_form k.Direction (ends_on (λ d. port_items.Direction d) directions))
 
 port_parts : HasTextsOf (item (k.Property ∷ k.Designator ∷ note_keywords) port_item) port_part
 unfolding port_item port_property port_designator port_note
 port_parts =
     or_form port_item k.Property (k.Designator ∷ note_keywords) (meant (k.Property ∷ []) (λ p. port_items.Property p) properties)
-    (or_form port_item k.Designator note_keywords (meant (k.Designator ∷ []) (λ s. port_items.Designator s) designators) (note_among (λ n. port_items.Note n) port_item refl refl))
+    (or_form port_item k.Designator note_keywords (meant (k.Designator ∷ []) (λ s. port_items.Designator s) designators)
+    (note_among (λ n. port_items.Note n) port_item refl refl))
 
-first_port_parts : HasTextsOf (item (k.Direction ∷ k.Property ∷ k.Designator ∷ note_keywords) port_item) (meaning (λ d. port_items.Direction d) direction ∣ port_part)
+first_port_parts : HasTextsOf (item (k.Direction ∷ k.Property ∷ k.Designator ∷ note_keywords) port_item)
+    (meaning (λ d. port_items.Direction d) direction ∣ port_part)
 unfolding port_item
 first_port_parts = or_form port_item k.Direction (k.Property ∷ k.Designator ∷ note_keywords) port_directions port_parts
 
@@ -64,7 +69,8 @@ pub ports : HasTextsOf (form_of k.Port grammar.port) port
 unfolding port grammar.port port_rest has_direction port_keywords is_direction
 ports =
     whole_form k.Port (then_on (λ n is. record { name = n; items = is }) port_names_read
-    (λ n. gives_on (λ is. record { name = n; items = is }) (once_forms is_direction port_keywords (λ d. port_items.Direction d) first_port_parts port_parts (λ d. refl) no_direction)))
+    (λ n. gives_on (λ is. record { name = n; items = is })
+    (once_forms is_direction port_keywords (λ d. port_items.Direction d) first_port_parts port_parts (λ d. refl) no_direction)))
 
 -- ---- instances
 
@@ -75,7 +81,8 @@ libraries_named = optional_form k.LibraryRef words
 cells_named : HasTextsOf cell_ref (form k.CellRef (ident · optional (form k.LibraryRef ident)))
 unfolding cell_ref
 cells_named =
-    whole_form k.CellRef (on_same (plain_meaning (ident · optional (form k.LibraryRef ident))) (then_on (λ c l. (c, l)) words (λ c. gives_on (λ l. (c, l)) libraries_named)))
+    whole_form k.CellRef (on_same (plain_meaning (ident · optional (form k.LibraryRef ident)))
+    (then_on (λ c l. (c, l)) words (λ c. gives_on (λ l. (c, l)) libraries_named)))
 
 views_named : HasTextsOf grammar.view_ref view_ref
 unfolding grammar.view_ref
@@ -85,7 +92,8 @@ instance_parts : HasTextsOf (item instance_keywords instance_item) instance_part
 unfolding instance_item instance_property instance_designator instance_note
 instance_parts =
     or_form instance_item k.Property (k.Designator ∷ note_keywords) (meant (k.Property ∷ []) (λ p. instance_items.Property p) properties)
-    (or_form instance_item k.Designator note_keywords (meant (k.Designator ∷ []) (λ s. instance_items.Designator s) designators) (note_among (λ n. instance_items.Note n) instance_item refl refl))
+    (or_form instance_item k.Designator note_keywords (meant (k.Designator ∷ []) (λ s. instance_items.Designator s) designators)
+    (note_among (λ n. instance_items.Note n) instance_item refl refl))
 
 pub instances : HasTextsOf (form_of k.Instance grammar.instance) instance
 unfolding instance grammar.instance instance_rest
@@ -124,10 +132,13 @@ NetPart = meaning (λ p. net_items.Property p) property ∣ meaning (λ n. net_i
 
 net_parts : HasTextsOf (item net_keywords net_item) NetPart
 unfolding net_item net_property net_note
-net_parts = or_form net_item k.Property note_keywords (meant (k.Property ∷ []) (λ p. net_items.Property p) properties) (note_among (λ n. net_items.Note n) net_item refl refl)
+net_parts =
+    or_form net_item k.Property note_keywords (meant (k.Property ∷ []) (λ p. net_items.Property p) properties)
+    (note_among (λ n. net_items.Note n) net_item refl refl)
 
 pub nets : HasTextsOf (form_of k.Net grammar.net) net
 unfolding net grammar.net net_rest
 nets =
     whole_form k.Net (then_on (λ n x. record { name = n; joined = x.0; items = x.1 }) names
-    (λ n. then_on (λ j is. record { name = n; joined = j; items = is }) all_joined (λ j. gives_on (λ is. record { name = n; joined = j; items = is }) (many_forms net_keywords net_parts))))
+    (λ n. then_on (λ j is. record { name = n; joined = j; items = is }) all_joined
+    (λ j. gives_on (λ is. record { name = n; joined = j; items = is }) (many_forms net_keywords net_parts))))

@@ -24,7 +24,8 @@ use Rattle.edif_status.specs.Grammar.{TreeStart, Whole, Opens, tree_of, tree_res
 use Rattle.edif_productions.specs.Production.{Production, optional, many, form, list, meaning, ◌·◌, ◌∣◌, Tokens, IsToken, ManyText, no_more, one_more, Texts, ident, int, str, HasTextsOf, form_of}
 use Rattle.edif_productions.specs.Notes.{leaf, tree, user_data, note, written_item, stamp_of, written, status}
 use Rattle.edif_productions.proofs.OneToken.{alone, words, strings, integers, closing_text, text_closing}
-use Rattle.edif_productions.proofs.Combining.{ReadsOn, then_on, ends_on, gives_on, whole_form, meant, one_form, or_form, optional_form}
+use Rattle.edif_productions.proofs.Combining.{ReadsOn, then_on, ends_on, gives_on, whole_form, meant}
+use Rattle.edif_productions.proofs.Alternatives.{one_form, or_form, optional_form}
 use Rattle.edif_productions.proofs.Alike.{grouped, alike}
 use Rattle.edif_productions.proofs.Repeating.{many_forms}
 use Rattle.edif_productions.proofs.NameTexts.{comments}
@@ -82,19 +83,30 @@ module _ {room : ℕ} {inner : Edif (List UserTree)} {P : Production UserTree} (
       }
   ended before ts all (goes t a b (end p, c, r, m, taken, s) more w) = absurd cc
 
-  read_trees : (before : List UserTree) (a b : Tokens) (later : List UserTree) → ManyText (Texts k P) a later → IsToken RightParen b → Spells k (trees_by room inner before) (a ++ b) (before ++ later)
+  read_trees : (before : List UserTree) (a b : Tokens) (later : List UserTree) → ManyText (Texts k P) a later → IsToken RightParen b
+      → Spells k (trees_by room inner before) (a ++ b) (before ++ later)
   unfolding trees_by while_next
-  read_trees before a b later (no_more e n) close = ends (tt, b, [], ap (λ z. z ++ b) e ∙ sym (append-nil b), text_closing k b close, (refl, ap (λ z. before ++ z) n ∙ append-nil before))
+  read_trees before a b later (no_more e n) close =
+      ends (tt, b, [], ap (λ z. z ++ b) e ∙ sym (append-nil b), text_closing k b close, (refl, ap (λ z. before ++ z) n ∙ append-nil before))
   read_trees before a b later (one_more i is c d e t more n) close =
       let y = h.from k c i t in
       let last = read_trees (before ++ i ∷ []) d b is more close in
       let value : (before ++ i ∷ []) ++ is ≡ before ++ later = append_assoc before (i ∷ []) is ∙ ap (λ z. before ++ z) (sym n) in
-      goes (before ++ i ∷ []) c (d ++ b) (proper y.first, y.start, y.rest, y.is, y.taken, (i, y.rest, [], sym (append-nil y.rest), y.text, (refl, refl))) (subst (λ z. Spells k (trees_by room inner (before ++ i ∷ [])) (d ++ b) z) value last)
+      goes (before ++ i ∷ []) c (d ++ b)
+      (proper y.first, y.start, y.rest, y.is, y.taken, (i, y.rest, [], sym (append-nil y.rest), y.text, (refl, refl)))
+      (subst (λ z. Spells k (trees_by room inner (before ++ i ∷ [])) (d ++ b) z) value last)
       (ap (λ z. z ++ b) e ∙ append_assoc c d b)
 
 trees_on : (room : ℕ) (inner : Edif (List UserTree)) (P : Production UserTree) → AreTreesOf room inner P → ReadsOn (trees_by room inner []) (many P)
 trees_on room inner P h = record {
-  is_text = λ k ts v s. let r = ended h k [] ts v s in record { inside = r.inside; behind = r.behind; is = r.is; text = subst (λ z. Texts k (many P) r.inside z) (sym r.value) r.text; closes = r.closes };
+  is_text = λ k ts v s. let r = ended h k [] ts v s in
+      record {
+        inside = r.inside;
+        behind = r.behind;
+        is = r.is;
+        text = subst (λ z. Texts k (many P) r.inside z) (sym r.value) r.text;
+        closes = r.closes;
+      };
   is_spelled = λ k ts v t. subst (λ z. Spells k (trees_by room inner []) z v) (sym t.is) (read_trees h k [] t.inside t.behind v t.text t.closes);
 }
 
@@ -110,17 +122,28 @@ module _ (k : List Alias) (inner : Edif (List UserTree)) (whole : UserTree) (c :
   whole_tree h s = let same : Whole whole ≡ c = cc in subst (λ z. Spells k (tree_rest inner z) rest t) (sym same) s
 
 -- a leaf, by its token
-leaf_text : (k : List Alias) (room : ℕ) (inner : Edif (List UserTree)) (x : Found) (token : Token) (c : TreeStart) (rest : Tokens) (t : UserTree) → x.token ≡ token → (token ≡ LeftParen → ⊥) → tree_of room token ≡ takes c → Spells k (tree_rest inner c) rest t → Texts k leaf (proper x ∷ rest) t
+leaf_text : (k : List Alias) (room : ℕ) (inner : Edif (List UserTree)) (x : Found) (token : Token) (c : TreeStart) (rest : Tokens) (t : UserTree)
+    → x.token ≡ token → (token ≡ LeftParen → ⊥) → tree_of room token ≡ takes c → Spells k (tree_rest inner c) rest t
+    → Texts k leaf (proper x ∷ rest) t
 leaf_text k room inner x LeftParen c rest t is other h s = absurd (other refl)
 leaf_text k room inner x RightParen c rest t is other h s = absurd cc
-leaf_text k room inner x (Word w) c rest t is other h s = let e = whole_tree k inner (tree_values.Word w) c rest t h s in inl (w, (x, ap (λ z. proper x ∷ z) e.0, is), e.1)
-leaf_text k room inner x (Number n) c rest t is other h s = let e = whole_tree k inner (tree_values.Number n) c rest t h s in inr (inl (n, (x, ap (λ z. proper x ∷ z) e.0, is), e.1))
-leaf_text k room inner x (Str r) c rest t is other h s = let e = whole_tree k inner (tree_values.Str r) c rest t h s in inr (inr (r, (x, ap (λ z. proper x ∷ z) e.0, is), e.1))
+leaf_text k room inner x (Word w) c rest t is other h s =
+    let e = whole_tree k inner (tree_values.Word w) c rest t h s in
+    inl (w, (x, ap (λ z. proper x ∷ z) e.0, is), e.1)
+leaf_text k room inner x (Number n) c rest t is other h s =
+    let e = whole_tree k inner (tree_values.Number n) c rest t h s in
+    inr (inl (n, (x, ap (λ z. proper x ∷ z) e.0, is), e.1))
+leaf_text k room inner x (Str r) c rest t is other h s =
+    let e = whole_tree k inner (tree_values.Str r) c rest t h s in
+    inr (inr (r, (x, ap (λ z. proper x ∷ z) e.0, is), e.1))
 
 text_leaf : (k : List Alias) (room : ℕ) (inner : Edif (List UserTree)) (ts : Tokens) (t : UserTree) → Texts k leaf ts t → Begun k room inner ts t
-text_leaf k room inner ts t (inl (w, (x, e, is), f)) = record { first = x; start = Whole (tree_values.Word w); rest = []; is = e; taken = ap (tree_of room) is; text = (refl, f) }
-text_leaf k room inner ts t (inr (inl (n, (x, e, is), f))) = record { first = x; start = Whole (tree_values.Number n); rest = []; is = e; taken = ap (tree_of room) is; text = (refl, f) }
-text_leaf k room inner ts t (inr (inr (s, (x, e, is), f))) = record { first = x; start = Whole (tree_values.Str s); rest = []; is = e; taken = ap (tree_of room) is; text = (refl, f) }
+text_leaf k room inner ts t (inl (w, (x, e, is), f)) =
+    record { first = x; start = Whole (tree_values.Word w); rest = []; is = e; taken = ap (tree_of room) is; text = (refl, f) }
+text_leaf k room inner ts t (inr (inl (n, (x, e, is), f))) =
+    record { first = x; start = Whole (tree_values.Number n); rest = []; is = e; taken = ap (tree_of room) is; text = (refl, f) }
+text_leaf k room inner ts t (inr (inr (s, (x, e, is), f))) =
+    record { first = x; start = Whole (tree_values.Str s); rest = []; is = e; taken = ap (tree_of room) is; text = (refl, f) }
 
 -- whether a token is `(`
 opens_or_not : (t : Token) → (t ≡ LeftParen) ⊎ (t ≡ LeftParen → ⊥)
@@ -137,7 +160,8 @@ no_list c t e h = let m : tree_of zero LeftParen ≡ takes c = ap (tree_of zero)
 leaves_alone : AreTreesOf zero (gives []) (tree zero)
 unfolding tree
 leaves_alone = record {
-  to = λ k ts t b. subst (λ z. Texts k leaf z t) (sym b.is) (leaf_text k zero (gives []) b.first b.first.token b.start b.rest t refl (λ e. no_list b.start b.first.token e b.taken) b.taken b.text);
+  to = λ k ts t b. subst (λ z. Texts k leaf z t) (sym b.is)
+      (leaf_text k zero (gives []) b.first b.first.token b.start b.rest t refl (λ e. no_list b.start b.first.token e b.taken) b.taken b.text);
   from = λ k ts t x. text_leaf k zero (gives []) ts t x;
 }
 
@@ -147,7 +171,8 @@ module _ (room : ℕ) (inner : Edif (List UserTree)) (P : Production UserTree) (
   abbrev Lists : Production UserTree
   Lists = list (meaning (λ ts. tree_values.List ts) (many P))
 
-  list_text : (x : Found) (c : TreeStart) (rest : Tokens) (t : UserTree) → x.token ≡ LeftParen → tree_of (suc room) x.token ≡ takes c → Spells k (tree_rest inner c) rest t → Texts k Lists (proper x ∷ rest) t
+  list_text : (x : Found) (c : TreeStart) (rest : Tokens) (t : UserTree) → x.token ≡ LeftParen → tree_of (suc room) x.token ≡ takes c
+      → Spells k (tree_rest inner c) rest t → Texts k Lists (proper x ∷ rest) t
   list_text x c rest t is taken s = by (subst (λ z. Spells k (tree_rest inner z) rest t) (sym opens) s)
     where
       opens : Opens ≡ c
@@ -156,7 +181,15 @@ module _ (room : ℕ) (inner : Edif (List UserTree)) (P : Production UserTree) (
       by : Spells k (sequence inner (λ ts. gives (tree_values.List ts))) rest t → Texts k Lists (proper x ∷ rest) t
       by (us, a, b, e, s, (n, f)) =
           let r = h.is_text k a us s in
-          record { before = proper x ∷ []; inside = r.inside; behind = r.behind; is = ap (λ z. proper x ∷ z) (e ∙ alone a b n ∙ r.is); opens = (x, refl, is); text = (us, r.text, f); closes = r.closes }
+          record {
+            before = proper x ∷ [];
+            inside = r.inside;
+            behind = r.behind;
+            is = ap (λ z. proper x ∷ z) (e ∙ alone a b n ∙ r.is);
+            opens = (x, refl, is);
+            text = (us, r.text, f);
+            closes = r.closes;
+          }
 
   text_list : (ts : Tokens) (t : UserTree) → Texts k Lists ts t → Begun k (suc room) inner ts t
   text_list ts t l = record {
@@ -165,7 +198,15 @@ module _ (room : ℕ) (inner : Edif (List UserTree)) (P : Production UserTree) (
     rest = l.inside ++ l.behind;
     is = l.is ∙ ap (λ z. z ++ (l.inside ++ l.behind)) l.opens.1;
     taken = ap (tree_of (suc room)) l.opens.2;
-    text = (l.text.0, l.inside ++ l.behind, [], sym (append-nil (l.inside ++ l.behind)), h.is_spelled k (l.inside ++ l.behind) l.text.0 (record { inside = l.inside; behind = l.behind; is = refl; text = l.text.1; closes = l.closes }), (refl, l.text.2));
+    text = (
+      l.text.0,
+      l.inside ++ l.behind,
+      [],
+      sym (append-nil (l.inside ++ l.behind)),
+      h.is_spelled k (l.inside ++ l.behind) l.text.0
+          (record { inside = l.inside; behind = l.behind; is = refl; text = l.text.1; closes = l.closes }),
+      (refl, l.text.2),
+    );
   }
 
   tree_text : (ts : Tokens) (t : UserTree) → Begun k (suc room) inner ts t → Texts k (leaf ∣ Lists) ts t
@@ -180,7 +221,11 @@ module _ (room : ℕ) (inner : Edif (List UserTree)) (P : Production UserTree) (
 
 leaves_and_lists : (room : ℕ) → ReadsOn (trees room []) (many (tree room)) → AreTreesOf (suc room) (trees room []) (tree (suc room))
 unfolding tree
-leaves_and_lists room h = record { to = λ k ts t b. tree_text room (trees room []) (tree room) h k ts t b; from = λ k ts t x. text_tree room (trees room []) (tree room) h k ts t x }
+leaves_and_lists room h =
+    record {
+      to = λ k ts t b. tree_text room (trees room []) (tree room) h k ts t b;
+      from = λ k ts t x. text_tree room (trees room []) (tree room) h k ts t x;
+    }
 
 all_trees : (room : ℕ) → ReadsOn (trees room []) (many (tree room))
 unfolding trees
@@ -204,7 +249,8 @@ all_notes =
     (one_form grammar.note k.UserData (meant (k.UserData ∷ []) (λ u. notes.User u) user_forms))
 
 -- a note among other forms
-pub note_among : {I : Type 0} (f : Note → I) (rest : Keyword → Edif I) → rest k.Comment ≡ sequence (grammar.note k.Comment) (λ n. gives (f n)) → rest k.UserData ≡ sequence (grammar.note k.UserData) (λ n. gives (f n)) → HasTextsOf (item note_keywords rest) (meaning f note)
+pub note_among : {I : Type 0} (f : Note → I) (rest : Keyword → Edif I) → rest k.Comment ≡ sequence (grammar.note k.Comment) (λ n. gives (f n))
+    → rest k.UserData ≡ sequence (grammar.note k.UserData) (λ n. gives (f n)) → HasTextsOf (item note_keywords rest) (meaning f note)
 note_among f rest c u = alike k.Comment k.UserData rest (λ q. sequence (grammar.note q) (λ n. gives (f n))) c u (meant note_keywords f all_notes)
 
 -- ---- status
@@ -215,7 +261,8 @@ stamps =
     then_on (λ y x. stamp_of (y, x)) integers
     (λ y. then_on (λ m x. stamp_of (y, (m, x))) integers
     (λ m. then_on (λ d x. stamp_of (y, (m, (d, x)))) integers
-    (λ d. then_on (λ h x. stamp_of (y, (m, (d, (h, x))))) integers (λ h. then_on (λ i s. stamp_of (y, (m, (d, (h, (i, s)))))) integers (λ i. ends_on (λ s. stamp_of (y, (m, (d, (h, (i, s)))))) integers)))))
+    (λ d. then_on (λ h x. stamp_of (y, (m, (d, (h, x))))) integers
+    (λ h. then_on (λ i s. stamp_of (y, (m, (d, (h, (i, s)))))) integers (λ i. ends_on (λ s. stamp_of (y, (m, (d, (h, (i, s)))))) integers)))))
 
 versions : ReadsOn maybe_version (optional (form k.Version str))
 unfolding maybe_version version_text no_version
@@ -224,22 +271,27 @@ versions = optional_form k.Version strings
 written_parts : HasTextsOf (item written_keywords grammar.written_item) written_item
 unfolding written_item author program data_origin written_note
 written_parts =
-    or_form grammar.written_item k.Author (k.Program ∷ k.DataOrigin ∷ note_keywords) (whole_form k.Author (ends_on (λ s. written_items.Author s) strings))
+    or_form grammar.written_item k.Author (k.Program ∷ k.DataOrigin ∷ note_keywords)
+    (whole_form k.Author (ends_on (λ s. written_items.Author s) strings))
     (or_form grammar.written_item k.Program (k.DataOrigin ∷ note_keywords)
     (whole_form k.Program (then_on (λ s v. written_items.Program s v) strings (λ s. gives_on (λ v. written_items.Program s v) versions)))
     (or_form grammar.written_item k.DataOrigin note_keywords
     (whole_form k.DataOrigin (then_on (λ s v. written_items.DataOrigin s v) strings (λ s. gives_on (λ v. written_items.DataOrigin s v) versions)))
     (note_among (λ n. written_items.Note n) grammar.written_item refl refl)))
 
-written_bodies : ReadsOn grammar.written (meaning (λ x. record { stamp = x.0; items = x.1 }) (form k.TimeStamp (meaning stamp_of (int · int · int · int · int · int)) · many written_item))
+written_bodies : ReadsOn grammar.written
+    (meaning (λ x. record { stamp = x.0; items = x.1 }) (form k.TimeStamp (meaning stamp_of (int · int · int · int · int · int)) · many written_item))
 unfolding grammar.written written_rest
-written_bodies = grouped (then_on (λ s is. record { stamp = s; items = is }) (whole_form k.TimeStamp stamps) (λ s. gives_on (λ is. record { stamp = s; items = is }) (many_forms written_keywords written_parts)))
+written_bodies =
+    grouped (then_on (λ s is. record { stamp = s; items = is }) (whole_form k.TimeStamp stamps)
+    (λ s. gives_on (λ is. record { stamp = s; items = is }) (many_forms written_keywords written_parts)))
 
 pub written_forms : HasTextsOf (form_of k.Written grammar.written) written
 unfolding written
 written_forms = whole_form k.Written written_bodies
 
-status_parts : HasTextsOf (item status_keywords grammar.status_item) (meaning (λ w. status_items.Written w) written ∣ meaning (λ n. status_items.Note n) note)
+status_parts : HasTextsOf (item status_keywords grammar.status_item)
+    (meaning (λ w. status_items.Written w) written ∣ meaning (λ n. status_items.Note n) note)
 unfolding status_written status_note
 status_parts =
     or_form grammar.status_item k.Written note_keywords (meant (k.Written ∷ []) (λ w. status_items.Written w) written_forms)

@@ -22,17 +22,20 @@ alone a b e = ap (λ z. a ++ z) e ∙ append-nil a
 -- ---- one token
 
 module _ {A : Type 0} (f : List Alias → Token → Result A Reason) (says : List Alias → Token → A → Type 0) where
-  single_text : ((k : List Alias) (t : Token) (v : A) → f k t ≡ Ok v → says k t v) → (k : List Alias) (ts : Tokens) (v : A) → Spells k (one (λ k x. f k x.token)) ts v → Texts k (single says) ts v
+  single_text : ((k : List Alias) (t : Token) (v : A) → f k t ≡ Ok v → says k t v) → (k : List Alias) (ts : Tokens) (v : A)
+      → Spells k (one (λ k x. f k x.token)) ts v → Texts k (single says) ts v
   unfolding one
   single_text to k ts v (proper x, e, h) = (x, e, to k x.token v h)
   single_text to k ts v (end p, e, h) = absurd cc
 
-  text_single : ((k : List Alias) (t : Token) (v : A) → says k t v → f k t ≡ Ok v) → (k : List Alias) (ts : Tokens) (v : A) → Texts k (single says) ts v → Spells k (one (λ k x. f k x.token)) ts v
+  text_single : ((k : List Alias) (t : Token) (v : A) → says k t v → f k t ≡ Ok v) → (k : List Alias) (ts : Tokens) (v : A)
+      → Texts k (single says) ts v → Spells k (one (λ k x. f k x.token)) ts v
   unfolding one
   text_single from k ts v (x, e, h) = (proper x, e, from k x.token v h)
 
   -- what a token says is what the production says of it
-  pub one_token : ((k : List Alias) (t : Token) (v : A) → f k t ≡ Ok v → says k t v) → ((k : List Alias) (t : Token) (v : A) → says k t v → f k t ≡ Ok v) → HasTextsOf (one (λ k x. f k x.token)) (single says)
+  pub one_token : ((k : List Alias) (t : Token) (v : A) → f k t ≡ Ok v → says k t v)
+      → ((k : List Alias) (t : Token) (v : A) → says k t v → f k t ≡ Ok v) → HasTextsOf (one (λ k x. f k x.token)) (single says)
   one_token to from = record { is_text = single_text to; is_spelled = text_single from }
 
 pub word_is : (t : Token) (w : List ℕ) → say.word_of t ≡ Ok w → t ≡ Word w
@@ -128,21 +131,28 @@ pub record KeywordIs (allowed : List Keyword) (k : List Alias) (t : Token) (q : 
 keyword_is : (allowed : List Keyword) (k : List Alias) (t : Token) (q : Keyword) → say.keyword_of allowed k t ≡ Ok q → KeywordIs allowed k t q
 keyword_is allowed k LeftParen q h = absurd cc
 keyword_is allowed k RightParen q h = absurd cc
-keyword_is allowed k (Word w) q h = let m = meant_is say.elsewhere allowed w q (means k w) h in record { spelling = w; is = refl; meaning = m.0; may = m.1 }
+keyword_is allowed k (Word w) q h =
+    let m = meant_is say.elsewhere allowed w q (means k w) h in
+    record { spelling = w; is = refl; meaning = m.0; may = m.1 }
 keyword_is allowed k (Number n) q h = absurd cc
 keyword_is allowed k (Str s) q h = absurd cc
 
-pub keyword_text : (allowed : List Keyword) (k : List Alias) (ts : Tokens) (q : Keyword) → Spells k (keyword allowed) ts q → IsKeyword k q ts × (has allowed q ≡ true)
+pub keyword_text : (allowed : List Keyword) (k : List Alias) (ts : Tokens) (q : Keyword) → Spells k (keyword allowed) ts q → IsKeyword k q ts
+    × (has allowed q ≡ true)
 unfolding one
 keyword_text allowed k ts q (proper x, e, h) = let is = keyword_is allowed k x.token q h in ((is.spelling, (x, e, is.is), is.meaning), is.may)
 keyword_text allowed k ts q (end p, e, h) = absurd cc
 
-pub text_keyword : (allowed : List Keyword) (k : List Alias) (ts : Tokens) (q : Keyword) → IsKeyword k q ts → has allowed q ≡ true → Spells k (keyword allowed) ts q
+pub text_keyword : (allowed : List Keyword) (k : List Alias) (ts : Tokens) (q : Keyword) → IsKeyword k q ts → has allowed q ≡ true
+    → Spells k (keyword allowed) ts q
 unfolding one
-text_keyword allowed k ts q (w, (x, e, is), m) may = let says : say.keyword_of allowed k (Word w) ≡ Ok q = rw (m, may) refl in (proper x, e, ap (say.keyword_of allowed k) is ∙ says)
+text_keyword allowed k ts q (w, (x, e, is), m) may =
+    let says : say.keyword_of allowed k (Word w) ≡ Ok q = rw (m, may) refl in
+    (proper x, e, ap (say.keyword_of allowed k) is ∙ says)
 
 -- one of some keywords is the first of them, or one of the others
-by_first : (a : Keyword) (allowed : List Keyword) (q : Keyword) (b : Bool) → same_keyword a q ≡ b → (b || has allowed q) ≡ true → (q ≡ a) ⊎ (has allowed q ≡ true)
+by_first : (a : Keyword) (allowed : List Keyword) (q : Keyword) (b : Bool) → same_keyword a q ≡ b → (b || has allowed q) ≡ true → (q ≡ a)
+    ⊎ (has allowed q ≡ true)
 by_first a allowed q true e h = inl (sym (spelled_alike a q e))
 by_first a allowed q false e h = inr h
 

@@ -16,13 +16,22 @@ use Rattle.edif_productions.specs.Libraries.{library, design}
 
 -- fileItem  = library | design | status | note
 unfoldable pub file_item : Production FileItem
-file_item = meaning (λ l. file_items.Library l) library ∣ meaning (λ d. file_items.Design d) design ∣ meaning (λ s. file_items.Status s) status ∣ meaning (λ n. file_items.Note n) note
+file_item =
+    meaning (λ l. file_items.Library l) library
+    ∣ meaning (λ d. file_items.Design d) design
+    ∣ meaning (λ s. file_items.Status s) status
+    ∣ meaning (λ n. file_items.Note n) note
 
 -- file      = ( edif NAME ( edifVersion 2 0 0 ) ( edifLevel 0 ) map {fileItem} ) end of input
 -- The end of the input is no part of it.
 unfoldable pub file : Production EdifFile
-file = form k.Edif (meaning (λ x. record { name = x.0; items = x.1 }) (name · aliased header (many file_item)))
+file =
+    form k.Edif (meaning (λ x. record { name = x.0; items = x.1 })
+    (name · aliased header (many file_item)))
 
--- The tokens are a text of the file, and behind it the end of the input. No aliases are in force before it.
+-- The tokens are a text of the file, and behind it the end of the input. No aliases are in force
+-- before it.
 abbrev pub IsFileText : Ahead Found → EdifFile → Type 0
-IsFileText s f = (text : Tokens) × (at : Place) × (s.tokens ≡ text ++ end at ∷ []) × Texts [] file text f × (s.finish ≡ Done)
+IsFileText s f =
+    (text : Tokens) × (at : Place) × (s.tokens ≡ text ++ end at ∷ []) × Texts [] file text f
+    × (s.finish ≡ Done)

@@ -1,5 +1,5 @@
--- Comments and the header of a file in the words of the extended BNF (EDIF 2 0 0, forms comment, edifVersion, edifLevel, keywordMap, keywordLevel,
--- keywordAlias).
+-- Comments and the header of a file in the words of the extended BNF (EDIF 2 0 0, forms comment,
+-- edifVersion, edifLevel, keywordMap, keywordLevel, keywordAlias).
 use Rattle.std.specs.Prelude.{◌≡◌, ℕ, List, [], ◌++◌}
 use Rattle.edif_keywords.specs.declared.keyword.Keyword.TheVariants as k
 use Rattle.edif_keywords.specs.Aliases.{Alias, one_more}
@@ -32,7 +32,9 @@ remark = meaning (λ _. []) comment
 
 -- map       = ( keywordMap ( keywordLevel N ) {alias | comment} )        N is 0 or 1
 abbrev pub keyword_map : Production (List Alias)
-keyword_map = form k.KeywordMap (meaning (λ x. x.1) (keyword_level 0 · growing remark) ∣ meaning (λ x. x.1) (keyword_level 1 · growing (alias ∣ remark)))
+keyword_map =
+    form k.KeywordMap (meaning (λ x. x.1) (keyword_level 0 · growing remark)
+    ∣ meaning (λ x. x.1) (keyword_level 1 · growing (alias ∣ remark)))
 
 -- ( edifVersion 2 0 0 ) ( edifLevel 0 ) map, which makes the aliases of what follows it
 unfoldable pub header : Production (List Alias)
@@ -40,4 +42,5 @@ header = meaning (λ x. x.1.1) (version · level · keyword_map)
 
 -- The tokens are a header under these aliases, and all are these and those that it makes.
 abbrev pub HeaderText : List Alias → Tokens → List Alias → Type 0
-HeaderText aliases ts all = (made : List Alias) × (all ≡ aliases ++ made) × Texts aliases header ts made
+HeaderText aliases ts all =
+    (made : List Alias) × (all ≡ aliases ++ made) × Texts aliases header ts made

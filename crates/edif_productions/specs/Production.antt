@@ -1,4 +1,5 @@
--- The extended BNF over the tokens of EDIF, as data, and which tokens are a text of a production, for which value. No token is looked at ahead here.
+-- The extended BNF over the tokens of EDIF, as data, and which tokens are a text of a production,
+-- for which value. No token is looked at ahead here.
 use Rattle.std.specs.Prelude.{◌≡◌, ◌⊎◌, ◌≤◌, ℕ, ℤ, pos, Bool, true, List, [], ◌∷◌, ◌++◌, length, Option, Some, None}
 use Rattle.std.specs.List.{filter}
 use Rattle.grammar.specs.Texts.{Spells}
@@ -65,18 +66,21 @@ abbrev pub OneText : {A : Type 0} → (Token → A → Type 0) → Tokens → A 
 OneText P ts v = (x : Found) × (ts ≡ proper x ∷ []) × P x.token v
 
 -- a text of P, and behind it one of Q
-abbrev pub BothText : {A B : Type 0} → (Tokens → A → Type 0) → (Tokens → B → Type 0) → Tokens → A × B → Type 0
+abbrev pub BothText : {A B : Type 0} → (Tokens → A → Type 0) → (Tokens → B → Type 0) → Tokens
+    → A × B → Type 0
 BothText P Q ts v = (a : Tokens) × (b : Tokens) × (ts ≡ a ++ b) × P a v.0 × Q b v.1
 
 -- no token, or a text of P
-pub data OptionalText {A : Type 0} (P : Tokens → A → Type 0) (ts : Tokens) (v : Option A) : Type 0 where
+pub data OptionalText {A : Type 0} (P : Tokens → A → Type 0) (ts : Tokens)
+    (v : Option A) : Type 0 where
   left_out : ts ≡ [] → v ≡ None → OptionalText P ts v
   there : (u : A) → P ts u → v ≡ Some u → OptionalText P ts v
 
 -- texts of P one behind the other
 pub data ManyText {A : Type 0} (P : Tokens → A → Type 0) : Tokens → List A → Type 0 where
   no_more : {ts : Tokens} {vs : List A} → ts ≡ [] → vs ≡ [] → ManyText P ts vs
-  one_more : {ts : Tokens} {vs : List A} (v : A) (ws : List A) (a b : Tokens) → ts ≡ a ++ b → P a v → ManyText P b ws → vs ≡ v ∷ ws → ManyText P ts vs
+  one_more : {ts : Tokens} {vs : List A} (v : A) (ws : List A) (a b : Tokens) → ts ≡ a ++ b
+      → P a v → ManyText P b ws → vs ≡ v ∷ ws → ManyText P ts vs
 
 -- the tokens are a word that means the keyword
 abbrev pub IsKeyword : List Alias → Keyword → Tokens → Type 0
@@ -93,7 +97,8 @@ pub record ListText {A : Type 0} (P : Tokens → A → Type 0) (ts : Tokens) (v 
   pub closes : IsToken RightParen behind
 
 -- a word that means the keyword, and behind it a text of P
-pub record KeyedText {A : Type 0} (aliases : List Alias) (q : Keyword) (P : Tokens → A → Type 0) (ts : Tokens) (v : A) : Type 0 where
+pub record KeyedText {A : Type 0} (aliases : List Alias) (q : Keyword) (P : Tokens → A → Type 0)
+    (ts : Tokens) (v : A) : Type 0 where
   pub word : Tokens
   pub rest : Tokens
   pub is : ts ≡ word ++ rest
@@ -105,13 +110,20 @@ abbrev pub MeaningText : {A B : Type 0} → (A → B) → (Tokens → A → Type
 MeaningText {A = A} f P ts v = (u : A) × P ts u × (v ≡ f u)
 
 -- a text of P under the aliases, and behind it one of Q under these and those that it makes
-abbrev pub AliasedText : {A : Type 0} → List Alias → (Tokens → List Alias → Type 0) → (List Alias → Tokens → A → Type 0) → Tokens → A → Type 0
-AliasedText aliases P Q ts v = (made : List Alias) × (a : Tokens) × (b : Tokens) × (ts ≡ a ++ b) × P a made × Q (aliases ++ made) b v
+abbrev pub AliasedText : {A : Type 0} → List Alias → (Tokens → List Alias → Type 0)
+    → (List Alias → Tokens → A → Type 0) → Tokens → A → Type 0
+AliasedText aliases P Q ts v =
+    (made : List Alias) × (a : Tokens) × (b : Tokens) × (ts ≡ a ++ b) × P a made
+    × Q (aliases ++ made) b v
 
 -- texts of P one behind the other, each under the aliases and those that the texts before it make
-pub data GrowingText (P : List Alias → Tokens → List Alias → Type 0) : List Alias → Tokens → List Alias → Type 0 where
-  grown : {aliases : List Alias} {ts : Tokens} {made : List Alias} → ts ≡ [] → made ≡ [] → GrowingText P aliases ts made
-  grows : {aliases : List Alias} {ts : Tokens} {made : List Alias} (first later : List Alias) (a b : Tokens) → ts ≡ a ++ b → P aliases a first → GrowingText P (aliases ++ first) b later → made ≡ first ++ later → GrowingText P aliases ts made
+pub data GrowingText (P : List Alias → Tokens → List Alias → Type 0) : List Alias → Tokens
+    → List Alias → Type 0 where
+  grown : {aliases : List Alias} {ts : Tokens} {made : List Alias} → ts ≡ [] → made ≡ []
+      → GrowingText P aliases ts made
+  grows : {aliases : List Alias} {ts : Tokens} {made : List Alias} (first later : List Alias)
+      (a b : Tokens) → ts ≡ a ++ b → P aliases a first → GrowingText P (aliases ++ first) b later
+      → made ≡ first ++ later → GrowingText P aliases ts made
 
 -- The tokens are a text of the production for the value, under the aliases in force before it.
 abbrev pub Texts : {A : Type 0} → List Alias → Production A → Tokens → A → Type 0
@@ -125,7 +137,8 @@ Texts aliases (form q p) ts v = ListText (KeyedText aliases q (Texts aliases p))
 Texts aliases (list p) ts v = ListText (Texts aliases p) ts v
 Texts aliases (meaning f p) ts v = MeaningText f (Texts aliases p) ts v
 Texts aliases (such good p) ts v = Texts aliases p ts v × good v
-Texts aliases (aliased p q) ts v = AliasedText aliases (Texts aliases p) (λ table. Texts table q) ts v
+Texts aliases (aliased p q) ts v =
+    AliasedText aliases (Texts aliases p) (λ table. Texts table q) ts v
 Texts aliases (growing p) ts v = GrowingText (λ table. Texts table p) aliases ts v
 
 -- ---- one token
@@ -148,7 +161,8 @@ number n = single (λ _ t _. t ≡ Number (pos n))
 
 -- a word in capitals, which is no keyword and takes no alias, for a value
 abbrev pub capitals : {A : Type 0} → List ℕ → A → Production A
-capitals spelling a = single (λ _ t v. (w : List ℕ) × (t ≡ Word w) × (same_up_to_case w spelling ≡ true) × (v ≡ a))
+capitals spelling a =
+    single (λ _ t v. (w : List ℕ) × (t ≡ Word w) × (same_up_to_case w spelling ≡ true) × (v ≡ a))
 
 -- IDENT that means no keyword yet
 abbrev pub new_ident : Production (List ℕ)
@@ -166,11 +180,15 @@ AtMostOne test is = length (filter test is) ≤ 1
 
 -- ---- the law
 
--- The tokens that spell a value as the part that is read, under whatever aliases, are exactly the texts that the production has for it.
+-- The tokens that spell a value as the part that is read, under whatever aliases, are exactly the
+-- texts that the production has for it.
 pub record HasTextsOf {A : Type 0} (p : Edif A) (q : Production A) : Type 0 where
-  pub is_text : (aliases : List Alias) (ts : Tokens) (v : A) → Spells aliases p ts v → Texts aliases q ts v
-  pub is_spelled : (aliases : List Alias) (ts : Tokens) (v : A) → Texts aliases q ts v → Spells aliases p ts v
+  pub is_text : (aliases : List Alias) (ts : Tokens) (v : A) → Spells aliases p ts v
+      → Texts aliases q ts v
+  pub is_spelled : (aliases : List Alias) (ts : Tokens) (v : A) → Texts aliases q ts v
+      → Spells aliases p ts v
 
--- what is read of a form: `(`, a word that means the keyword, and what is read on behind it up to the `)` of the form
+-- what is read of a form: `(`, a word that means the keyword, and what is read on behind it up to
+-- the `)` of the form
 abbrev pub form_of : {A : Type 0} → Keyword → Edif A → Edif A
 form_of q rest = item (q ∷ []) (λ _. rest)

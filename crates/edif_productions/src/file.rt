@@ -15,12 +15,16 @@ ghost use Rattle.edif_productions.specs.File.{file_item, file, IsFileText};
 
 /// The header of a file, which makes the aliases of what follows it.
 pub fn headers_are_read()
-    ensures { (aliases : List Alias) (ts : Tokens) (all : List Alias) → Spells aliases (keywords.header aliases) ts all ↔ HeaderText aliases ts all }
+    ensures { (aliases : List Alias) (ts : Tokens) (all : List Alias)
+        → Spells aliases (keywords.header aliases) ts all ↔ HeaderText aliases ts all }
 {}
 
-/// The items of a file, and files. The tokens of an input are a file exactly where they are a text of it, and behind it the input ends.
+/// The items of a file, and files. The tokens of an input are a file exactly where they are a text
+/// of it, and behind it the input ends.
 pub fn files_are_read()
     ensures items { HasTextsOf (keywords.item grammar.file_keywords grammar.file_item) file_item }
-    ensures file { (aliases : List Alias) (ts : Tokens) (v : EdifFile) → Spells aliases (grammar.file aliases) ts v ↔ Texts aliases file ts v }
-    ensures input { (tokens : Ahead Found) (v : EdifFile) → IsText [] (whole trailing (grammar.file [])) tokens v ↔ IsFileText tokens v }
+    ensures file { (aliases : List Alias) (ts : Tokens) (v : EdifFile)
+        → Spells aliases (grammar.file aliases) ts v ↔ Texts aliases file ts v }
+    ensures input { (tokens : Ahead Found) (v : EdifFile)
+        → IsText [] (whole trailing (grammar.file [])) tokens v ↔ IsFileText tokens v }
 {}

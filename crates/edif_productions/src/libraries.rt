@@ -12,7 +12,9 @@ pub fn libraries_are_read()
     ensures view { HasTextsOf (form_of k.View grammar.view) view }
     ensures cell { HasTextsOf (form_of k.Cell grammar.cell) cell }
     ensures scale { HasTextsOf (form_of k.Scale grammar.scale) scale }
-    ensures library { HasTextsOf (form_of k.Library (grammar.library false)) (form k.Library (library_of false)) }
-    ensures external { HasTextsOf (form_of k.External (grammar.library true)) (form k.External (library_of true)) }
+    ensures library { HasTextsOf (form_of k.Library (grammar.library false))
+        (form k.Library (library_of false)) }
+    ensures external { HasTextsOf (form_of k.External (grammar.library true))
+        (form k.External (library_of true)) }
     ensures design { HasTextsOf (form_of k.Design grammar.design) design }
 {}

@@ -30,7 +30,8 @@ alone a b e = ap (λ z. a ++ z) e ∙ append-nil a
 -- ---- sequences
 
 -- a part, and what is read behind it
-pub then_so : {A B C : Type 0} {p : Vlog A} {q : A → Vlog C} {P : Production A} {Q : Production B} (f : A → B → C) → HasTextsOf p P → ((u : A) → HasTextsOf (q u) (meaning (f u) Q)) → HasTextsOf (sequence p q) (meaning (λ x. f x.0 x.1) (both P Q))
+pub then_so : {A B C : Type 0} {p : Vlog A} {q : A → Vlog C} {P : Production A} {Q : Production B} (f : A → B → C) → HasTextsOf p P
+    → ((u : A) → HasTextsOf (q u) (meaning (f u) Q)) → HasTextsOf (sequence p q) (meaning (λ x. f x.0 x.1) (both P Q))
 then_so f h l = record {
   is_text = λ ts v s. let r = (l s.0).is_text s.2 v s.5 in ((s.0, r.0), (s.1, s.2, s.3, h.is_text s.1 s.0 s.4, r.1), r.2);
   is_spelled = λ ts v t. let m = t.1 in (t.0.0, m.0, m.1, m.2, h.is_spelled m.0 t.0.0 m.3, (l t.0.0).is_spelled m.1 v (t.0.1, m.4, t.2));
@@ -44,7 +45,8 @@ gives_so {p = p} f h = record {
 }
 
 -- a part whose value is made of another, for a third
-pub gives_of : {A B C : Type 0} {p : Vlog B} {P : Production A} (g : A → B) (f : B → C) → HasTextsOf p (meaning g P) → HasTextsOf (sequence p (λ u. gives (f u))) (meaning (λ x. f (g x)) P)
+pub gives_of : {A B C : Type 0} {p : Vlog B} {P : Production A} (g : A → B) (f : B → C) → HasTextsOf p (meaning g P)
+    → HasTextsOf (sequence p (λ u. gives (f u))) (meaning (λ x. f (g x)) P)
 gives_of g f h = let r = gives_so f h in record {
   is_text = λ ts v s. let t = r.is_text ts v s in (t.1.0, t.1.1, t.2 ∙ ap f t.1.2);
   is_spelled = λ ts v t. r.is_spelled ts v (g t.0, (t.0, t.1, refl), t.2);
@@ -87,7 +89,8 @@ module _ (w : List ℕ) where
 -- ---- one of some keywords
 
 module _ {A : Type 0} where
-  row_by : (s : List ℕ) (a : A) (rows : List (List ℕ × A)) (w : List ℕ) (v : A) (b : Bool) → same_bytes w s ≡ b → option_map (λ (row : List ℕ × A). row.1) (cond b (Some (s, a)) (find (λ row. same_bytes w row.0) rows)) ≡ Some v
+  row_by : (s : List ℕ) (a : A) (rows : List (List ℕ × A)) (w : List ℕ) (v : A) (b : Bool) → same_bytes w s ≡ b
+      → option_map (λ (row : List ℕ × A). row.1) (cond b (Some (s, a)) (find (λ row. same_bytes w row.0) rows)) ≡ Some v
       → (meant_by rows w ≡ Some v → IsRow rows w v) → IsRow ((s, a) ∷ rows) w v
   unfolding meant_by
   row_by s a rows w v true e h later = let m : a ≡ v = cc in inl ((bytes_eq-Decides w s).0 e, sym m)
@@ -126,7 +129,8 @@ module _ {A : Type 0} where
 
     -- one of the keywords, or another part
     module _ {q : Vlog A} {Q : Production A} (l : HasTextsOf q Q) where
-      next_text : (ts : Tokens) (v : A) → Spells tt (if_next (λ _ x. say.at_choice rows x.token) (λ a. gives a) q) ts v → Texts (either (one_of rows) Q) ts v
+      next_text : (ts : Tokens) (v : A) → Spells tt (if_next (λ _ x. say.at_choice rows x.token) (λ a. gives a) q) ts v
+          → Texts (either (one_of rows) Q) ts v
       unfolding if_next
       next_text ts v (inl (proper x, a, r, e, taken, (n, f))) =
           let c = at_choice_is rows x.token a taken in
@@ -134,9 +138,11 @@ module _ {A : Type 0} where
       next_text ts v (inl (end p, a, r, e, taken, s)) = absurd cc
       next_text ts v (inr s) = inr (l.is_text ts v s)
 
-      text_next : (ts : Tokens) (v : A) → Texts (either (one_of rows) Q) ts v → Spells tt (if_next (λ _ x. say.at_choice rows x.token) (λ a. gives a) q) ts v
+      text_next : (ts : Tokens) (v : A) → Texts (either (one_of rows) Q) ts v
+          → Spells tt (if_next (λ _ x. say.at_choice rows x.token) (λ a. gives a) q) ts v
       unfolding if_next
-      text_next ts v (inl (w, (x, e, is), row)) = inl (proper x, v, [], e, ap (say.at_choice rows) is ∙ ap say.glance_of (table w v row), (refl, refl))
+      text_next ts v (inl (w, (x, e, is), row)) =
+          inl (proper x, v, [], e, ap (say.at_choice rows) is ∙ ap say.glance_of (table w v row), (refl, refl))
       text_next ts v (inr t) = inr (l.is_spelled ts v t)
 
       pub if_word : HasTextsOf (if_next (λ _ x. say.at_choice rows x.token) (λ a. gives a) q) (either (one_of rows) Q)
@@ -144,14 +150,17 @@ module _ {A : Type 0} where
 
     maybe_text : (ts : Tokens) (v : Option A) → Spells tt (maybe_of rows) ts v → Texts (optional (one_of rows)) ts v
     unfolding maybe
-    maybe_text ts v (inl (proper x, a, r, e, taken, (n, m))) = let c = at_choice_is rows x.token a taken in there a (c.word, (x, e ∙ ap (λ z. proper x ∷ z) n, c.is), row_of rows c.word a c.meant) m
+    maybe_text ts v (inl (proper x, a, r, e, taken, (n, m))) =
+        let c = at_choice_is rows x.token a taken in
+        there a (c.word, (x, e ∙ ap (λ z. proper x ∷ z) n, c.is), row_of rows c.word a c.meant) m
     maybe_text ts v (inl (end p, a, r, e, taken, s)) = absurd cc
     maybe_text ts v (inr (e, m)) = left_out e m
 
     text_maybe : (ts : Tokens) (v : Option A) → Texts (optional (one_of rows)) ts v → Spells tt (maybe_of rows) ts v
     unfolding maybe
     text_maybe ts v (left_out e m) = inr (e, m)
-    text_maybe ts v (there a (w, (x, e, is), row) m) = inl (proper x, a, [], e, ap (say.at_choice rows) is ∙ ap say.glance_of (table w a row), (refl, m))
+    text_maybe ts v (there a (w, (x, e, is), row) m) =
+        inl (proper x, a, [], e, ap (say.at_choice rows) is ∙ ap say.glance_of (table w a row), (refl, m))
 
     pub maybe_choice : HasTextsOf (maybe_of rows) (optional (one_of rows))
     maybe_choice = record { is_text = maybe_text; is_spelled = text_maybe }
@@ -159,12 +168,16 @@ module _ {A : Type 0} where
 -- ---- a mark, or another part
 
 pub as_is : {A : Type 0} {p : Vlog A} {P : Production A} → HasTextsOf p P → HasTextsOf p (meaning (λ x. x) P)
-as_is {P = P} h = record { is_text = λ ts v s. (v, h.is_text ts v s, refl); is_spelled = λ ts v t. h.is_spelled ts v (subst (λ z. Texts P ts z) (sym t.2) t.1) }
+as_is {P = P} h =
+    record { is_text = λ ts v s. (v, h.is_text ts v s, refl); is_spelled = λ ts v t. h.is_spelled ts v (subst (λ z. Texts P ts z) (sym t.2) t.1) }
 
-module _ {A B : Type 0} {p q : Vlog A} {P : Production B} {Q : Production A} (d : ℕ) (f : B → A) (h : HasTextsOf p (meaning f P)) (l : HasTextsOf q Q) where
+module _ {A B : Type 0} {p q : Vlog A} {P : Production B} {Q : Production A} (d : ℕ) (f : B → A) (h : HasTextsOf p (meaning f P))
+    (l : HasTextsOf q Q) where
   after_text : (ts : Tokens) (v : A) → Spells tt (after d p q) ts v → Texts (either (meaning (λ x. f x.1) (both (mark d) P)) Q) ts v
   unfolding after if_next
-  after_text ts v (inl (proper x, u, r, e, taken, s)) = let t = h.is_text r v s in inl ((tt, t.0), (proper x ∷ [], r, e, (x, refl, at_mark_is d x.token u taken), t.1), t.2)
+  after_text ts v (inl (proper x, u, r, e, taken, s)) =
+      let t = h.is_text r v s in
+      inl ((tt, t.0), (proper x ∷ [], r, e, (x, refl, at_mark_is d x.token u taken), t.1), t.2)
   after_text ts v (inl (end z, u, r, e, taken, s)) = absurd cc
   after_text ts v (inr s) = inr (l.is_text ts v s)
 
@@ -179,12 +192,14 @@ module _ {A B : Type 0} {p q : Vlog A} {P : Production B} {Q : Production A} (d 
   after_so = record { is_text = after_text; is_spelled = text_after }
 
 -- a part that may be left out
-module _ {A B : Type 0} {p : Vlog (Option A)} {P : Production B} (f : B → A) (h : HasTextsOf p (either (meaning (λ x. Some (f x)) P) (nothing None))) where
+module _ {A B : Type 0} {p : Vlog (Option A)} {P : Production B} (f : B → A)
+    (h : HasTextsOf p (either (meaning (λ x. Some (f x)) P) (nothing None))) where
   to_optional : (ts : Tokens) (v : Option A) → Texts (either (meaning (λ x. Some (f x)) P) (nothing None)) ts v → Texts (optional (meaning f P)) ts v
   to_optional ts v (inl (u, t, e)) = there (f u) (u, t, refl) e
   to_optional ts v (inr (n, e)) = left_out n e
 
-  from_optional : (ts : Tokens) (v : Option A) → Texts (optional (meaning f P)) ts v → Texts (either (meaning (λ x. Some (f x)) P) (nothing None)) ts v
+  from_optional : (ts : Tokens) (v : Option A) → Texts (optional (meaning f P)) ts v
+      → Texts (either (meaning (λ x. Some (f x)) P) (nothing None)) ts v
   from_optional ts v (there u (w, t, g) e) = inl (w, t, e ∙ ap Some g)
   from_optional ts v (left_out n e) = inr (n, e)
 
@@ -194,7 +209,8 @@ module _ {A B : Type 0} {p : Vlog (Option A)} {P : Production B} (f : B → A) (
 -- ---- lists
 
 -- one, and more behind commas
-pub first_and_more : {A : Type 0} (P : Tokens → A → Type 0) (a : Tokens) (v : A) → P a v → (b : Tokens) (ws : List A) → MoreText P b ws → ListText P (a ++ b) (v ∷ ws)
+pub first_and_more : {A : Type 0} (P : Tokens → A → Type 0) (a : Tokens) (v : A) → P a v → (b : Tokens) (ws : List A) → MoreText P b ws
+    → ListText P (a ++ b) (v ∷ ws)
 first_and_more P a v t b ws (none_more e n) = last v (subst (λ z. P z v) (sym (alone a b e)) t) (ap (λ z. v ∷ z) n)
 first_and_more P a v t b ws (one_more w vs x y z e m u later n) =
     more v ws a x (y ++ z) (ap (λ q. a ++ q) e) t m (subst (λ q. ListText P (y ++ z) q) (sym n) (first_and_more P y w u z vs later)) refl
@@ -211,21 +227,34 @@ pub record Headed {A : Type 0} (P : Tokens → A → Type 0) (ts : Tokens) (vs :
   pub tail : MoreText P rest others
 
 pub headed : {A : Type 0} (P : Tokens → A → Type 0) (ts : Tokens) (vs : List A) → ListText P ts vs → Headed P ts vs
-headed P ts vs (last v t n) = record { value = v; others = []; values = n; first = ts; rest = []; is = sym (append-nil ts); head = t; tail = none_more refl refl }
+headed P ts vs (last v t n) =
+    record { value = v; others = []; values = n; first = ts; rest = []; is = sym (append-nil ts); head = t; tail = none_more refl refl }
 headed P ts vs (more v ws a b c e t m later n) =
     let r = headed P c ws later in
-    record { value = v; others = ws; values = n; first = a; rest = b ++ c; is = e; head = t; tail = one_more r.value r.others b r.first r.rest (ap (λ z. b ++ z) r.is) m r.head r.tail r.values }
+    record {
+      value = v;
+      others = ws;
+      values = n;
+      first = a;
+      rest = b ++ c;
+      is = e;
+      head = t;
+      tail = one_more r.value r.others b r.first r.rest (ap (λ z. b ++ z) r.is) m r.head r.tail r.values;
+    }
 
 -- lists of what is a text of P are lists of what is a text of Q
-pub list_map : {A : Type 0} (P Q : Tokens → A → Type 0) → ((ts : Tokens) (v : A) → P ts v → Q ts v) → (ts : Tokens) (vs : List A) → ListText P ts vs → ListText Q ts vs
+pub list_map : {A : Type 0} (P Q : Tokens → A → Type 0) → ((ts : Tokens) (v : A) → P ts v → Q ts v) → (ts : Tokens) (vs : List A) → ListText P ts vs
+    → ListText Q ts vs
 list_map P Q f ts vs (last v t n) = last v (f ts v t) n
 list_map P Q f ts vs (more v ws a b c e t m later n) = more v ws a b c e (f a v t) m (list_map P Q f c ws later) n
 
-pub more_map : {A : Type 0} (P Q : Tokens → A → Type 0) → ((ts : Tokens) (v : A) → P ts v → Q ts v) → (ts : Tokens) (vs : List A) → MoreText P ts vs → MoreText Q ts vs
+pub more_map : {A : Type 0} (P Q : Tokens → A → Type 0) → ((ts : Tokens) (v : A) → P ts v → Q ts v) → (ts : Tokens) (vs : List A) → MoreText P ts vs
+    → MoreText Q ts vs
 more_map P Q f ts vs (none_more e n) = none_more e n
 more_map P Q f ts vs (one_more v ws a b c e m t later n) = one_more v ws a b c e m (f b v t) (more_map P Q f c ws later) n
 
-module _ {A : Type 0} {p : Vlog A} {close : Vlog (Unit {0})} {P : Production A} {C : Production (Unit {0})} (h : HasTextsOf p P) (c : HasTextsOf close C) where
+module _ {A : Type 0} {p : Vlog A} {close : Vlog (Unit {0})} {P : Production A} {C : Production (Unit {0})} (h : HasTextsOf p P)
+    (c : HasTextsOf close C) where
   -- {"," p} close, behind others
   pub record Commas (before : List A) (ts : Tokens) (all : List A) : Type 0 where
     pub later : List A
@@ -261,20 +290,34 @@ module _ {A : Type 0} {p : Vlog A} {close : Vlog (Unit {0})} {P : Production A} 
       }
   commas_text before ts all (goes t a b (end z, u, r, m, taken, s) rounds w) = absurd cc
 
-  pub text_commas : (before : List A) (a b : Tokens) (later : List A) → MoreText (Texts P) a later → Texts C b tt → Spells tt (commas p close before) (a ++ b) (before ++ later)
+  pub text_commas : (before : List A) (a b : Tokens) (later : List A) → MoreText (Texts P) a later → Texts C b tt
+      → Spells tt (commas p close before) (a ++ b) (before ++ later)
   unfolding commas while_next
-  text_commas before a b later (none_more e n) closes = ends (tt, b, [], ap (λ z. z ++ b) e ∙ sym (append-nil b), c.is_spelled b tt closes, (refl, ap (λ z. before ++ z) n ∙ append-nil before))
+  text_commas before a b later (none_more e n) closes =
+      ends (tt, b, [], ap (λ z. z ++ b) e ∙ sym (append-nil b), c.is_spelled b tt closes, (refl, ap (λ z. before ++ z) n ∙ append-nil before))
   text_commas before a b later (one_more v ws x y z e (t, m, is) text rounds n) closes =
       let last = text_commas (before ++ v ∷ []) z b ws rounds closes in
       let value : (before ++ v ∷ []) ++ ws ≡ before ++ later = append_assoc before (v ∷ []) ws ∙ ap (λ q. before ++ q) (sym n) in
-      goes (before ++ v ∷ []) (proper t ∷ y) (z ++ b) (proper t, tt, y, refl, ap (say.at_mark 44) is, (v, y, [], sym (append-nil y), h.is_spelled y v text, (refl, refl))) (subst (λ q. Spells tt (commas p close (before ++ v ∷ [])) (z ++ b) q) value last)
+      goes (before ++ v ∷ []) (proper t ∷ y) (z ++ b)
+      (proper t, tt, y, refl, ap (say.at_mark 44) is, (v, y, [], sym (append-nil y), h.is_spelled y v text, (refl, refl)))
+      (subst (λ q. Spells tt (commas p close (before ++ v ∷ [])) (z ++ b) q) value last)
       (ap (λ q. q ++ b) (e ∙ ap (λ q. q ++ (y ++ z)) m) ∙ ap (λ q. proper t ∷ q) (append_assoc y z b))
 
   list_text : (ts : Tokens) (vs : List A) → Spells tt (list p close) ts vs → Texts (meaning (λ x. x.0) (both (bnf.list P) C)) ts vs
   unfolding list
   list_text ts vs (v, a, b, e, s, t) =
-      let r = commas_text (v ∷ []) b vs t in
-      ((v ∷ r.later, tt), (a ++ r.inside, r.behind, e ∙ ap (λ z. a ++ z) r.is ∙ sym (append_assoc a r.inside r.behind), first_and_more (Texts P) a v (h.is_text a v s) r.inside r.later r.text, r.closes), r.value)
+      let r = commas_text (v ∷ []) b vs t in (
+        (v ∷ r.later, tt),
+        (
+          a ++ r.inside,
+          r.behind,
+          e ∙ ap (λ z. a ++ z) r.is
+              ∙ sym (append_assoc a r.inside r.behind),
+          first_and_more (Texts P) a v (h.is_text a v s) r.inside r.later r.text,
+          r.closes,
+        ),
+        r.value,
+      )
 
   text_list : (ts : Tokens) (vs : List A) → Texts (meaning (λ x. x.0) (both (bnf.list P) C)) ts vs → Spells tt (list p close) ts vs
   unfolding list
@@ -285,7 +328,8 @@ module _ {A : Type 0} {p : Vlog A} {close : Vlog (Unit {0})} {P : Production A} 
         r.rest ++ b,
         e ∙ ap (λ z. z ++ b) r.is ∙ append_assoc r.first r.rest b,
         h.is_spelled r.first r.value r.head,
-        subst (λ z. Spells tt (commas p close (r.value ∷ [])) (r.rest ++ b) z) (sym (f ∙ r.values)) (text_commas (r.value ∷ []) r.rest b r.others r.tail closes),
+        subst (λ z. Spells tt (commas p close (r.value ∷ [])) (r.rest ++ b) z) (sym (f ∙ r.values))
+            (text_commas (r.value ∷ []) r.rest b r.others r.tail closes),
       )
 
   -- p {"," p} close
@@ -293,5 +337,6 @@ module _ {A : Type 0} {p : Vlog A} {close : Vlog (Unit {0})} {P : Production A} 
   list_so = record { is_text = list_text; is_spelled = text_list }
 
 -- the list, for another value
-pub gives_list : {A B : Type 0} {p : Vlog A} {close : Vlog (Unit {0})} {P : Production A} {C : Production (Unit {0})} (f : List A → B) → HasTextsOf p P → HasTextsOf close C → HasTextsOf (sequence (list p close) (λ u. gives (f u))) (meaning (λ x. f x.0) (both (bnf.list P) C))
+pub gives_list : {A B : Type 0} {p : Vlog A} {close : Vlog (Unit {0})} {P : Production A} {C : Production (Unit {0})} (f : List A → B)
+    → HasTextsOf p P → HasTextsOf close C → HasTextsOf (sequence (list p close) (λ u. gives (f u))) (meaning (λ x. f x.0) (both (bnf.list P) C))
 gives_list f h c = gives_of (λ x. x.0) f (list_so h c)

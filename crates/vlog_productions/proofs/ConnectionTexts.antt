@@ -36,8 +36,13 @@ lvals = record { is_text = λ ts e s. (expressions true 64 ts e).0 s; is_spelled
 
 -- ---- an expression that may be left out
 
-mark_started : (b : ℕ) (s : ExprStart) (q : Bool) → nat_eq b 123 ≡ q → say.at_expr (token.Punct b) ≡ takes s → say.expr_start false 64 (token.Punct b) ≡ Ok s
-mark_started b s true e h = let k : say.at_expr (token.Punct b) ≡ takes starts.Brace = rw e refl in let m = sym k ∙ h in let same : starts.Brace ≡ s = cc in rw e (ap Ok same)
+mark_started : (b : ℕ) (s : ExprStart) (q : Bool) → nat_eq b 123 ≡ q → say.at_expr (token.Punct b) ≡ takes s
+    → say.expr_start false 64 (token.Punct b) ≡ Ok s
+mark_started b s true e h =
+    let k : say.at_expr (token.Punct b) ≡ takes starts.Brace = rw e refl in
+    let m = sym k ∙ h in
+    let same : starts.Brace ≡ s = cc in
+    rw e (ap Ok same)
 mark_started b s false e h = let k : say.at_expr (token.Punct b) ≡ leaves = rw e refl in let m = sym k ∙ h in absurd cc
 
 -- what is taken begins an expression
@@ -54,8 +59,13 @@ started token.AttrStop s h = absurd cc
 started (token.Symbol b) s h = absurd cc
 started (token.Directive w) s h = absurd cc
 
-mark_starts : (b : ℕ) (s : ExprStart) (q : Bool) → nat_eq b 123 ≡ q → say.expr_start false 64 (token.Punct b) ≡ Ok s → say.at_expr (token.Punct b) ≡ takes s
-mark_starts b s true e h = let k : say.expr_start false 64 (token.Punct b) ≡ Ok starts.Brace = rw e refl in let m = sym k ∙ h in let same : starts.Brace ≡ s = cc in rw e (ap takes same)
+mark_starts : (b : ℕ) (s : ExprStart) (q : Bool) → nat_eq b 123 ≡ q → say.expr_start false 64 (token.Punct b) ≡ Ok s
+    → say.at_expr (token.Punct b) ≡ takes s
+mark_starts b s true e h =
+    let k : say.expr_start false 64 (token.Punct b) ≡ Ok starts.Brace = rw e refl in
+    let m = sym k ∙ h in
+    let same : starts.Brace ≡ s = cc in
+    rw e (ap takes same)
 mark_starts b s false e h = let k : say.expr_start false 64 (token.Punct b) ≡ Err reasons.Unexpected = rw e refl in let m = sym k ∙ h in absurd cc
 
 -- the other way round
@@ -75,7 +85,9 @@ starts_so (token.Directive w) s h = absurd cc
 maybe_text : (ts : Tokens) (v : Option Expr) → Spells tt exprs.maybe_expr ts v → Texts (optional expr) ts v
 unfolding exprs.maybe_expr exprs.expr expr_by if_next one
 maybe_text ts v (inl (proper x, s, r, e, taken, (u, a, b, f, t, (n, m)))) =
-    let whole : Spells tt (exprs.expr false 64) ts u = (s, proper x ∷ [], a, e ∙ ap (λ z. proper x ∷ z) (f ∙ alone a b n), (proper x, refl, started x.token s taken), t) in
+    let whole : Spells tt
+    (exprs.expr false 64) ts u =
+    (s, proper x ∷ [], a, e ∙ ap (λ z. proper x ∷ z) (f ∙ alone a b n), (proper x, refl, started x.token s taken), t) in
     there u (all_exprs.is_text ts u whole) m
 maybe_text ts v (inl (end p, s, r, e, taken, t)) = absurd cc
 maybe_text ts v (inr (e, m)) = left_out e m
@@ -83,7 +95,8 @@ maybe_text ts v (inr (e, m)) = left_out e m
 -- an expression is read from its first token on
 first_taken : (ts : Tokens) (u : Expr) (v : Option Expr) → Spells tt (exprs.expr false 64) ts u → v ≡ Some u → Spells tt exprs.maybe_expr ts v
 unfolding exprs.maybe_expr exprs.expr expr_by if_next one
-first_taken ts u v (s, a, b, e, (proper x, n, h), t) m = inl (proper x, s, b, e ∙ ap (λ z. z ++ b) n, starts_so x.token s h, (u, b, [], sym (append-nil b), t, (refl, m)))
+first_taken ts u v (s, a, b, e, (proper x, n, h), t) m =
+    inl (proper x, s, b, e ∙ ap (λ z. z ++ b) n, starts_so x.token s h, (u, b, [], sym (append-nil b), t, (refl, m)))
 first_taken ts u v (s, a, b, e, (end p, n, h), t) m = absurd cc
 
 text_maybe : (ts : Tokens) (v : Option Expr) → Texts (optional expr) ts v → Spells tt exprs.maybe_expr ts v
@@ -104,27 +117,32 @@ named_behind : HasTextsOf named_rest Behind
 unfolding named_rest
 named_behind =
     then_so (λ n x. record { port = n; value = x.1.0 }) names
-    (λ n. then_so (λ _ x. record { port = n; value = x.0 }) (marks 40) (λ _. then_so (λ e _. record { port = n; value = e }) maybe_exprs (λ e. gives_so (λ _. record { port = n; value = e }) (marks 41))))
+    (λ n. then_so (λ _ x. record { port = n; value = x.0 }) (marks 40)
+    (λ _. then_so (λ e _. record { port = n; value = e }) maybe_exprs (λ e. gives_so (λ _. record { port = n; value = e }) (marks 41))))
 
 -- a part behind a mark
-behind_mark : {A B : Type 0} {p : Vlog A} {P : Production B} (d : ℕ) (f : B → A) → HasTextsOf p (meaning f P) → HasTextsOf (sequence (exprs.mark d) (λ _. p)) (meaning (λ x. f x.1) (both (mark d) P))
+behind_mark : {A B : Type 0} {p : Vlog A} {P : Production B} (d : ℕ) (f : B → A) → HasTextsOf p (meaning f P)
+    → HasTextsOf (sequence (exprs.mark d) (λ _. p)) (meaning (λ x. f x.1) (both (mark d) P))
 behind_mark d f h = then_so (λ _ x. f x) (marks d) (λ _. h)
 
 all_named : HasTextsOf grammar.named named
 unfolding grammar.named named
 all_named = behind_mark 46 (λ x. record { port = x.0; value = x.1.1.0 }) named_behind
 
-named_text : (ts : Tokens) (v : Conns) (a b : Tokens) → ts ≡ a ++ b → IsToken (token.Punct 46) a → Spells tt named_conns b v → Texts (meaning (λ x. conns_of.Named x.0) (list named · mark 41)) ts v
+named_text : (ts : Tokens) (v : Conns) (a b : Tokens) → ts ≡ a ++ b → IsToken (token.Punct 46) a → Spells tt named_conns b v
+    → Texts (meaning (λ x. conns_of.Named x.0) (list named · mark 41)) ts v
 unfolding named_conns named
 named_text ts v a b e m (first, c, d, f, s, (all, i, j, g, t, (n, k))) =
     let o = named_behind.is_text c first s in
     let r = commas_text all_named (marks 41) (first ∷ []) i all t in
-    let one : Texts (meaning (λ x. record { port = x.1.0; value = x.1.1.1.0 }) (mark 46 · name · mark 40 · optional expr · mark 41)) (a ++ c) first = ((tt, o.0), (a, c, refl, m, o.1), o.2) in (
+    let one : Texts (meaning (λ x. record { port = x.1.0; value = x.1.1.1.0 }) (mark 46 · name · mark 40 · optional expr · mark 41))
+    (a ++ c) first = ((tt, o.0), (a, c, refl, m, o.1), o.2) in (
       (first ∷ r.later, tt),
       (
         (a ++ c) ++ r.inside,
         r.behind,
-        e ∙ ap (λ z. a ++ z) (f ∙ ap (λ z. c ++ z) (g ∙ alone i j n ∙ r.is)) ∙ sym (append_assoc a c (r.inside ++ r.behind)) ∙ sym (append_assoc (a ++ c) r.inside r.behind),
+        e ∙ ap (λ z. a ++ z) (f ∙ ap (λ z. c ++ z) (g ∙ alone i j n ∙ r.is)) ∙ sym (append_assoc a c (r.inside ++ r.behind))
+            ∙ sym (append_assoc (a ++ c) r.inside r.behind),
         first_and_more (Texts named) (a ++ c) first one r.inside r.later r.text,
         r.closes,
       ),
@@ -148,7 +166,8 @@ text_named ts v (x, (l, c, e, t, close), f) =
     record {
       point = p.0;
       rest = p.1 ++ (r.rest ++ c);
-      is = e ∙ ap (λ z. z ++ c) (r.is ∙ ap (λ z. z ++ r.rest) p.2 ∙ append_assoc p.0 p.1 r.rest) ∙ append_assoc p.0 (p.1 ++ r.rest) c ∙ ap (λ z. p.0 ++ z) (append_assoc p.1 r.rest c);
+      is = e ∙ ap (λ z. z ++ c) (r.is ∙ ap (λ z. z ++ r.rest) p.2 ∙ append_assoc p.0 p.1 r.rest) ∙ append_assoc p.0 (p.1 ++ r.rest) c
+          ∙ ap (λ z. p.0 ++ z) (append_assoc p.1 r.rest c);
       is_point = p.3;
       text = (
         r.value,
@@ -156,7 +175,15 @@ text_named ts v (x, (l, c, e, t, close), f) =
         r.rest ++ c,
         refl,
         named_behind.is_spelled p.1 r.value (o.0.1, p.4, o.2),
-        (r.value ∷ r.others, r.rest ++ c, [], sym (append-nil (r.rest ++ c)), text_commas all_named (marks 41) (r.value ∷ []) r.rest c r.others r.tail close, (refl, f ∙ ap conns_of.Named r.values)),
+        (
+          r.value ∷ r.others,
+          r.rest ++ c,
+          [],
+          sym (append-nil (r.rest ++ c)),
+          text_commas all_named (marks 41)
+              (r.value ∷ []) r.rest c r.others r.tail close,
+          (refl, f ∙ ap conns_of.Named r.values),
+        ),
       );
     }
 
@@ -176,7 +203,9 @@ conns_text ts v (inr s) = inr (ordered.is_text ts v s)
 
 text_conns : (ts : Tokens) (v : Conns) → Texts Closed ts v → Spells tt grammar.conns ts v
 unfolding grammar.conns exprs.after if_next
-text_conns ts v (inl t) = let p = text_named ts v t in inl (proper p.is_point.0, tt, p.rest, p.is ∙ ap (λ z. z ++ p.rest) p.is_point.1, ap (say.at_mark 46) p.is_point.2, p.text)
+text_conns ts v (inl t) =
+    let p = text_named ts v t in
+    inl (proper p.is_point.0, tt, p.rest, p.is ∙ ap (λ z. z ++ p.rest) p.is_point.1, ap (say.at_mark 46) p.is_point.2, p.text)
 text_conns ts v (inr t) = inr (ordered.is_spelled ts v t)
 
 -- conns ")", with the end behind either
@@ -197,7 +226,10 @@ all_conns = record { is_text = λ ts v s. closed_text ts v (conns_text ts v s); 
 
 pub all_insts : HasTextsOf grammar.instance inst
 unfolding grammar.instance inst
-all_insts = then_so (λ n x. record { name = n; conns = x.1.0 }) names (λ n. then_so (λ _ x. record { name = n; conns = x.0 }) (marks 40) (λ _. gives_of (λ x. x.0) (λ cs. record { name = n; conns = cs }) all_conns))
+all_insts =
+    then_so (λ n x. record { name = n; conns = x.1.0 }) names
+    (λ n. then_so (λ _ x. record { name = n; conns = x.0 }) (marks 40)
+    (λ _. gives_of (λ x. x.0) (λ cs. record { name = n; conns = cs }) all_conns))
 
 -- NAME "(" const ")"
 abbrev Set : Production ParamSet
@@ -207,7 +239,8 @@ overrides_behind : HasTextsOf override_rest Set
 unfolding override_rest
 overrides_behind =
     then_so (λ n x. record { name = n; value = x.1.0 }) names
-    (λ n. then_so (λ _ x. record { name = n; value = x.0 }) (marks 40) (λ _. then_so (λ v _. record { name = n; value = v }) constants (λ v. gives_so (λ _. record { name = n; value = v }) (marks 41))))
+    (λ n. then_so (λ _ x. record { name = n; value = x.0 }) (marks 40)
+    (λ _. then_so (λ v _. record { name = n; value = v }) constants (λ v. gives_so (λ _. record { name = n; value = v }) (marks 41))))
 
 overs : HasTextsOf override_set over
 unfolding override_set over
@@ -231,4 +264,5 @@ dsets =
     then_so (λ u x. record { instance = u; name = x.1.0; value = x.1.1.1 }) names
     (λ u. then_so (λ _ x. record { instance = u; name = x.0; value = x.1.1 }) (marks 46)
     (λ _. then_so (λ n x. record { instance = u; name = n; value = x.1 }) names
-    (λ n. then_so (λ _ v. record { instance = u; name = n; value = v }) (marks 61) (λ _. gives_so (λ v. record { instance = u; name = n; value = v }) constants))))
+    (λ n. then_so (λ _ v. record { instance = u; name = n; value = v }) (marks 61)
+    (λ _. gives_so (λ v. record { instance = u; name = n; value = v }) constants))))

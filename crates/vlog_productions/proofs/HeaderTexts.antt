@@ -46,16 +46,31 @@ first_groups : HasTextsOf param_group First
 unfolding param_group
 first_groups =
     then_so (λ _ x. record { attrs = []; kind = x.0; sets = x.1 ∷ [] }) (keywords (codes "parameter"))
-    (λ _. then_so (λ t s. record { attrs = []; kind = t; sets = s ∷ [] }) types (λ t. gives_so (λ s. record { attrs = []; kind = t; sets = s ∷ [] }) sets))
+    (λ _. then_so (λ t s. record { attrs = []; kind = t; sets = s ∷ [] }) types
+    (λ t. gives_so (λ s. record { attrs = []; kind = t; sets = s ∷ [] }) sets))
 
 group_text : (ts : Tokens) (g : ParamDecl) → GroupText ts g → Texts pgroup ts g
 unfolding pgroup
 group_text ts g (group_and_sets e ss a b is t more v) = by (first_groups.is_text a e t)
   where
-    by : Texts First a e → Texts (meaning (λ x. record { attrs = []; kind = x.1.0; sets = x.1.1 }) (keyword (codes "parameter") · ptype · list pset)) ts g
+    by : Texts First a e → Texts
+        (meaning (λ x. record { attrs = []; kind = x.1.0; sets = x.1.1 }) (keyword (codes "parameter") · ptype · list pset)) ts g
     by ((u, x), (c, d, f, k, (i, j, w, p, q)), m) = (
       (u, (x.0, x.1 ∷ ss)),
-      (c, d ++ b, is ∙ longer a c d b f, k, (i, j ++ b, longer d i j b w, p, first_and_more (Texts pset) j x.1 q b ss (more_map (Spells tt param_set) (Texts pset) sets.is_text b ss more))),
+      (
+        c,
+        d ++ b,
+        is ∙ longer a c d b f,
+        k,
+        (
+          i,
+          j ++ b,
+          longer d i j b w,
+          p,
+          first_and_more (Texts pset) j x.1 q b ss
+              (more_map (Spells tt param_set) (Texts pset) sets.is_text b ss more),
+        ),
+      ),
       v ∙ ap (λ z. with_sets z ss) m,
     )
 
@@ -66,7 +81,8 @@ text_group ts g ((u, x), (c, d, f, k, (i, j, w, p, l)), m) =
     let e : ParamDecl = record { attrs = []; kind = x.0; sets = r.value ∷ [] } in
     let d_is : d ≡ (i ++ r.first) ++ r.rest = shorter d i j r.first r.rest w r.is in
     group_and_sets e r.others (c ++ (i ++ r.first)) r.rest (shorter ts c d (i ++ r.first) r.rest f d_is)
-    (first_groups.is_spelled (c ++ (i ++ r.first)) e ((u, (x.0, r.value)), (c, i ++ r.first, refl, k, (i, r.first, refl, p, r.head)), refl)) (more_map (Texts pset) (Spells tt param_set) sets.is_spelled r.rest r.others r.tail)
+    (first_groups.is_spelled (c ++ (i ++ r.first)) e ((u, (x.0, r.value)), (c, i ++ r.first, refl, k, (i, r.first, refl, p, r.head)), refl))
+    (more_map (Texts pset) (Spells tt param_set) sets.is_spelled r.rest r.others r.tail)
     (m ∙ ap (λ z. record { attrs = []; kind = x.0; sets = z }) r.values)
 
 -- "(" pgroup {"," pgroup} ")"
@@ -79,14 +95,28 @@ groups_behind = record { is_text = λ ts gs s. to ts gs ((group_texts ts gs).0 s
     to : (ts : Tokens) (gs : List ParamDecl) → GroupsText ts gs → Texts Groups ts gs
     to ts gs (groups_and_end g rest o a b c e open_mark t more close v) = (
       (tt, (g ∷ rest, tt)),
-      (o, a ++ (b ++ c), e, open_mark, (a ++ b, c, sym (append_assoc a b c), first_and_more (Texts pgroup) a g (group_text a g t) b rest (more_map GroupText (Texts pgroup) group_text b rest more), close)),
+      (
+        o,
+        a ++ (b ++ c),
+        e,
+        open_mark,
+        (
+          a ++ b,
+          c,
+          sym (append_assoc a b c),
+          first_and_more (Texts pgroup) a g (group_text a g t) b rest
+              (more_map GroupText (Texts pgroup) group_text b rest more),
+          close,
+        ),
+      ),
       v,
     )
 
     from : (ts : Tokens) (gs : List ParamDecl) → Texts Groups ts gs → GroupsText ts gs
     from ts gs (x, (o, q, e, open_mark, (l, c, w, t, close)), f) =
         let r = headed (Texts pgroup) l x.1.0 t in
-        groups_and_end r.value r.others o r.first r.rest c (e ∙ ap (λ z. o ++ z) (w ∙ longer l r.first r.rest c r.is)) open_mark (text_group r.first r.value r.head) (more_map (Texts pgroup) GroupText text_group r.rest r.others r.tail) close (f ∙ r.values)
+        groups_and_end r.value r.others o r.first r.rest c (e ∙ ap (λ z. o ++ z) (w ∙ longer l r.first r.rest c r.is)) open_mark
+        (text_group r.first r.value r.head) (more_map (Texts pgroup) GroupText text_group r.rest r.others r.tail) close (f ∙ r.values)
 
 pub all_params : HasTextsOf grammar.params params
 unfolding grammar.params params
@@ -108,7 +138,8 @@ first_decls =
     then_so (λ a x. one_name (a, x)) attributes
     (λ a. then_so (λ d x. one_name (a, (d, x))) directions
     (λ d. then_so (λ k x. one_name (a, (d, (k, x)))) kinds
-    (λ k. then_so (λ s x. one_name (a, (d, (k, (s, x))))) signs (λ s. then_so (λ r n. one_name (a, (d, (k, (s, (r, n)))))) maybe_ranges (λ r. gives_so (λ n. one_name (a, (d, (k, (s, (r, n)))))) names)))))
+    (λ k. then_so (λ s x. one_name (a, (d, (k, (s, x))))) signs
+    (λ s. then_so (λ r n. one_name (a, (d, (k, (s, (r, n)))))) maybe_ranges (λ r. gives_so (λ n. one_name (a, (d, (k, (s, (r, n)))))) names)))))
 
 decl_text : (ts : Tokens) (d : PortDecl) → DeclText ts d → Texts pdecl ts d
 unfolding pdecl
@@ -174,7 +205,8 @@ text_decl ts d (x, p, f) =
       (p.0, _, refl, p.3, (q.0, _, refl, q.3, (r.0, _, refl, r.3, (s.0, _, refl, s.3, (w.0, l.first, refl, w.3, l.head))))),
       refl,
     ) in
-    decl_and_names e l.others front l.rest (shorter ts p.0 p.1 (q.0 ++ (r.0 ++ (s.0 ++ (w.0 ++ l.first)))) l.rest p.2 p_is) (first_decls.is_spelled front e text)
+    decl_and_names e l.others front l.rest (shorter ts p.0 p.1 (q.0 ++ (r.0 ++ (s.0 ++ (w.0 ++ l.first)))) l.rest p.2 p_is)
+    (first_decls.is_spelled front e text)
     (more_map (Texts name) (Spells tt exprs.name) names.is_spelled l.rest l.others l.tail)
     (f ∙ ap (λ z. record { attrs = x.0; dir = x.1.0; kind = x.1.1.0; signed = x.1.1.1.0; range = x.1.1.1.1.0; names = z }) l.values)
 
@@ -185,13 +217,24 @@ abbrev Decls : Production Header
 Decls = meaning (λ x. headers.Decls x.0) (list pdecl · mark 41)
 
 decls_text : (ts : Tokens) (ds : List PortDecl) → DeclsText ts ds → Texts Decls ts (headers.Decls ds)
-decls_text ts ds (decls_and_end d rest a b c e t more close v) =
-    ((d ∷ rest, tt), (a ++ b, c, e ∙ sym (append_assoc a b c), first_and_more (Texts pdecl) a d (decl_text a d t) b rest (more_map DeclText (Texts pdecl) decl_text b rest more), close), ap headers.Decls v)
+decls_text ts ds (decls_and_end d rest a b c e t more close v) = (
+  (d ∷ rest, tt),
+  (
+    a ++ b,
+    c,
+    e ∙ sym (append_assoc a b c),
+    first_and_more (Texts pdecl) a d (decl_text a d t) b rest
+        (more_map DeclText (Texts pdecl) decl_text b rest more),
+    close,
+  ),
+  ap headers.Decls v,
+)
 
 text_decls : (ts : Tokens) (ds : List PortDecl) (l c : Tokens) → ts ≡ l ++ c → Texts (list pdecl) l ds → IsToken (token.Punct 41) c → DeclsText ts ds
 text_decls ts ds l c e t close =
     let r = headed (Texts pdecl) l ds t in
-    decls_and_end r.value r.others r.first r.rest c (e ∙ longer l r.first r.rest c r.is) (text_decl r.first r.value r.head) (more_map (Texts pdecl) DeclText text_decl r.rest r.others r.tail) close r.values
+    decls_and_end r.value r.others r.first r.rest c (e ∙ longer l r.first r.rest c r.is) (text_decl r.first r.value r.head)
+    (more_map (Texts pdecl) DeclText text_decl r.rest r.others r.tail) close r.values
 
 -- what is read is a header of declarations
 is_decls : (ts : Tokens) (v : Header) → Spells tt decl_header ts v → (ds : List PortDecl) × (v ≡ headers.Decls ds)
@@ -200,20 +243,30 @@ is_decls ts v (d, a, b, e, t, (all, p, q, w, r, (n, f))) = (all, f)
 
 decl_headers : HasTextsOf decl_header Decls
 decl_headers = record {
-  is_text = λ ts v s. let d = is_decls ts v s in subst (λ z. Texts Decls ts z) (sym d.1) (decls_text ts d.0 ((decl_texts ts d.0).0 (subst (λ z. Spells tt decl_header ts z) d.1 s)));
-  is_spelled = λ ts v t. subst (λ z. Spells tt decl_header ts z) (sym t.2) ((decl_texts ts t.0.0).1 (text_decls ts t.0.0 t.1.0 t.1.1 t.1.2 t.1.3 t.1.4));
+  is_text = λ ts v s. let d = is_decls ts v s in
+      subst (λ z. Texts Decls ts z) (sym d.1) (decls_text ts d.0 ((decl_texts ts d.0).0 (subst (λ z. Spells tt decl_header ts z) d.1 s)));
+  is_spelled = λ ts v t. subst (λ z. Spells tt decl_header ts z) (sym t.2)
+      ((decl_texts ts t.0.0).1 (text_decls ts t.0.0 t.1.0 t.1.1 t.1.2 t.1.3 t.1.4));
 }
 
 -- NAME {"," NAME} ")"
 abbrev Names : Production Header
 Names = meaning (λ x. headers.Names x.0) (list name · mark 41)
 
-names_text : (x : VFound) (n : List ℕ) (ts : Tokens) (v : Header) → x.token ≡ token.Name n → Spells tt (name_header n) ts v → Texts Names (proper x ∷ ts) v
+names_text : (x : VFound) (n : List ℕ) (ts : Tokens) (v : Header) → x.token ≡ token.Name n → Spells tt (name_header n) ts v
+    → Texts Names (proper x ∷ ts) v
 unfolding name_header
 names_text x n ts v is (ns, a, b, e, s, (m, f)) =
     let r = commas_text names (marks 41) (n ∷ []) a ns s in (
       (n ∷ r.later, tt),
-      ((proper x ∷ []) ++ r.inside, r.behind, ap (λ z. proper x ∷ z) (e ∙ alone a b m ∙ r.is), first_and_more (Texts name) (proper x ∷ []) n (x, refl, is) r.inside r.later r.text, r.closes),
+      (
+        (proper x ∷ []) ++ r.inside,
+        r.behind,
+        ap (λ z. proper x ∷ z) (e ∙ alone a b m ∙ r.is),
+        first_and_more (Texts name) (proper x ∷ []) n
+            (x, refl, is) r.inside r.later r.text,
+        r.closes,
+      ),
       f ∙ ap headers.Names r.value,
     )
 
@@ -237,7 +290,15 @@ text_names ts v (x, (l, c, e, t, close), f) =
       rest = r.rest ++ c;
       is = e ∙ ap (λ z. z ++ c) (r.is ∙ ap (λ z. z ++ r.rest) n.1);
       is_name = n.2;
-      text = (r.value ∷ r.others, r.rest ++ c, [], sym (append-nil (r.rest ++ c)), text_commas names (marks 41) (r.value ∷ []) r.rest c r.others r.tail close, (refl, f ∙ ap headers.Names r.values));
+      text = (
+        r.value ∷ r.others,
+        r.rest ++ c,
+        [],
+        sym (append-nil (r.rest ++ c)),
+        text_commas names (marks 41)
+            (r.value ∷ []) r.rest c r.others r.tail close,
+        (refl, f ∙ ap headers.Names r.values),
+      );
     }
 
 some_text : (ts : Tokens) (v : Header) → Spells tt some_header ts v → Texts (Names ∣ Decls) ts v
@@ -261,14 +322,16 @@ Read = meaning (λ x. x.1) (mark 40 · Inside) ∣ nothing (headers.Names [])
 
 header_text : (ts : Tokens) (v : Header) → Texts Read ts v → Texts (header ∣ nothing (headers.Names [])) ts v
 unfolding header
-header_text ts v (inl (x, (a, b, e, m, inl (y, (c, d, f, n, (i, g)), h)), k)) = inl (inl ((tt, tt), (a, b, e, m, subst (λ z. IsToken (token.Punct 41) z) (sym (f ∙ alone c d i)) n), k ∙ h ∙ g))
+header_text ts v (inl (x, (a, b, e, m, inl (y, (c, d, f, n, (i, g)), h)), k)) =
+    inl (inl ((tt, tt), (a, b, e, m, subst (λ z. IsToken (token.Punct 41) z) (sym (f ∙ alone c d i)) n), k ∙ h ∙ g))
 header_text ts v (inl (x, (a, b, e, m, inr (inl (y, (c, d, f, t, n), h))), k)) = inl (inr (inl ((tt, y), (a, b, e, m, (c, d, f, t, n)), k ∙ h)))
 header_text ts v (inl (x, (a, b, e, m, inr (inr (y, (c, d, f, t, n), h))), k)) = inl (inr (inr ((tt, y), (a, b, e, m, (c, d, f, t, n)), k ∙ h)))
 header_text ts v (inr t) = inr t
 
 text_header : (ts : Tokens) (v : Header) → Texts (header ∣ nothing (headers.Names [])) ts v → Texts Read ts v
 unfolding header
-text_header ts v (inl (inl (x, (a, b, e, m, n), k))) = inl ((tt, headers.Names []), (a, b, e, m, inl ((tt, headers.Names []), (b, [], sym (append-nil b), n, (refl, refl)), refl)), k)
+text_header ts v (inl (inl (x, (a, b, e, m, n), k))) =
+    inl ((tt, headers.Names []), (a, b, e, m, inl ((tt, headers.Names []), (b, [], sym (append-nil b), n, (refl, refl)), refl)), k)
 text_header ts v (inl (inr (inl (x, (a, b, e, m, l), k)))) = inl ((tt, headers.Names x.1.0), (a, b, e, m, inr (inl (x.1, l, refl))), k)
 text_header ts v (inl (inr (inr (x, (a, b, e, m, l), k)))) = inl ((tt, headers.Decls x.1.0), (a, b, e, m, inr (inr (x.1, l, refl))), k)
 text_header ts v (inr t) = inr t
@@ -276,7 +339,12 @@ text_header ts v (inr t) = inr t
 headers_read : HasTextsOf grammar.header Read
 unfolding grammar.header
 headers_read =
-    after_so 40 (λ h. h) (as_is (after_so 41 (λ h. h) (as_is (given (headers.Names []))) (record { is_text = some_text; is_spelled = text_some }))) (given (headers.Names []))
+    after_so 40 (λ h. h) (as_is (after_so 41 (λ h. h) (as_is (given (headers.Names []))) (record { is_text = some_text; is_spelled = text_some })))
+    (given (headers.Names []))
 
 pub all_headers : HasTextsOf grammar.header (header ∣ nothing (headers.Names []))
-all_headers = record { is_text = λ ts v s. header_text ts v (headers_read.is_text ts v s); is_spelled = λ ts v t. headers_read.is_spelled ts v (text_header ts v t) }
+all_headers =
+    record {
+      is_text = λ ts v s. header_text ts v (headers_read.is_text ts v s);
+      is_spelled = λ ts v t. headers_read.is_spelled ts v (text_header ts v t);
+    }

@@ -32,8 +32,12 @@ constants = record { is_text = λ ts c s. (read_constants.constants ts c).0 s; i
 
 -- ---- bounds and ranges
 
-number_by : (n v : ℤ) (b : Bool) → say.is_bound n ≡ b → say.bound_of (token.Number n) ≡ Ok v → (token.Number n ≡ token.Number v) × (say.is_bound v ≡ true)
-number_by n v true e h = let k : say.bound_of (token.Number n) ≡ Ok n = rw e refl in let same : n ≡ v = cc in (ap token.Number same, ap say.is_bound (sym same) ∙ e)
+number_by : (n v : ℤ) (b : Bool) → say.is_bound n ≡ b → say.bound_of (token.Number n) ≡ Ok v → (token.Number n ≡ token.Number v)
+    × (say.is_bound v ≡ true)
+number_by n v true e h =
+    let k : say.bound_of (token.Number n) ≡ Ok n = rw e refl in
+    let same : n ≡ v = cc in
+    (ap token.Number same, ap say.is_bound (sym same) ∙ e)
 number_by n v false e h = let k : say.bound_of (token.Number n) ≡ Err reasons.NumberRange = rw e refl in let m = sym k ∙ h in absurd cc
 
 number_is : (t : VToken) (v : ℤ) → say.bound_of t ≡ Ok v → (t ≡ token.Number v) × (say.is_bound v ≡ true)
@@ -77,7 +81,8 @@ ranges_behind : HasTextsOf range_rest (meaning bounds_of Behind)
 unfolding range_rest
 ranges_behind =
     then_so (λ l x. bounds_of (l, x)) bounds
-    (λ l. then_so (λ u x. bounds_of (l, (u, x))) (marks 58) (λ u. then_so (λ r x. bounds_of (l, (u, (r, x)))) bounds (λ r. gives_so (λ x. bounds_of (l, (u, (r, x)))) (marks 93))))
+    (λ l. then_so (λ u x. bounds_of (l, (u, x))) (marks 58)
+    (λ u. then_so (λ r x. bounds_of (l, (u, (r, x)))) bounds (λ r. gives_so (λ x. bounds_of (l, (u, (r, x)))) (marks 93))))
 
 pub maybe_ranges : HasTextsOf maybe_range (optional range)
 unfolding maybe_range range
@@ -184,33 +189,53 @@ groups_text before ts all (goes t a b (proper x, u, r, m, taken, (first, c, d, e
     let g = commas_text all_attrs group_ends (before ++ first ∷ []) d t k in
     let whole : Texts group a (first ∷ g.later) = (
       (tt, (first ∷ g.later, tt)),
-      (proper x ∷ [], r, m, (x, refl, group_is x.token u taken), (c ++ g.inside, g.behind, e ∙ ap (λ z. c ++ z) g.is ∙ sym (append_assoc c g.inside g.behind), first_and_more (Texts attr) c first (all_attrs.is_text c first s) g.inside g.later g.text, g.closes)),
+      (
+        proper x ∷ [],
+        r,
+        m,
+        (x, refl, group_is x.token u taken),
+        (
+          c ++ g.inside,
+          g.behind,
+          e ∙ ap (λ z. c ++ z) g.is
+              ∙ sym (append_assoc c g.inside g.behind),
+          first_and_more (Texts attr) c first
+              (all_attrs.is_text c first s) g.inside g.later g.text,
+          g.closes,
+        ),
+      ),
       refl,
     ) in
     let made : t ≡ before ++ (first ∷ g.later) = g.value ∙ append_assoc before (first ∷ []) g.later in
     record {
       groups = (first ∷ g.later) ∷ later.groups;
-      value = later.value ∙ ap (λ z. z ++ flat_map (λ y. y) later.groups) made ∙ append_assoc before (first ∷ g.later) (flat_map (λ y. y) later.groups);
+      value = later.value ∙ ap (λ z. z ++ flat_map (λ y. y) later.groups) made
+          ∙ append_assoc before (first ∷ g.later) (flat_map (λ y. y) later.groups);
       text = pieces.another (first ∷ g.later) later.groups a b w whole later.text refl;
     }
 groups_text before ts all (goes t a b (end p, u, r, m, taken, s) rounds w) = absurd cc
 
-text_groups : (before : List Attr) (ts : Tokens) (gs : List (List Attr)) → Texts (many group) ts gs → Spells tt (grammar.groups before) ts (before ++ flat_map (λ g. g) gs)
+text_groups : (before : List Attr) (ts : Tokens) (gs : List (List Attr)) → Texts (many group) ts gs
+    → Spells tt (grammar.groups before) ts (before ++ flat_map (λ g. g) gs)
 unfolding grammar.groups grammar.group while_next
 text_groups before ts gs (pieces.nothing e n) = ends (e, ap (λ z. before ++ flat_map (λ g. g) z) n ∙ append-nil before)
 text_groups before ts gs (pieces.another g later a b e (v, (c, d, w, (x, m, is), (i, j, q, l, closes)), f) rounds n) =
     let r = headed (Texts attr) i v.1.0 l in
-    let made : (before ++ r.value ∷ []) ++ r.others ≡ before ++ g = append_assoc before (r.value ∷ []) r.others ∙ ap (λ z. before ++ z) (sym (f ∙ r.values)) in
+    let made : (before ++ r.value ∷ []) ++ r.others ≡ before ++ g = append_assoc before (r.value ∷ []) r.others
+    ∙ ap (λ z. before ++ z) (sym (f ∙ r.values)) in
     let group_is : Spells tt (grammar.group before) d (before ++ g) = (
       r.value,
       r.first,
       r.rest ++ j,
       q ∙ ap (λ z. z ++ j) r.is ∙ append_assoc r.first r.rest j,
       all_attrs.is_spelled r.first r.value r.head,
-      subst (λ z. Spells tt (grammar.commas grammar.attr grammar.group_end (before ++ r.value ∷ [])) (r.rest ++ j) z) made (text_commas all_attrs group_ends (before ++ r.value ∷ []) r.rest j r.others r.tail closes),
+      subst (λ z. Spells tt (grammar.commas grammar.attr grammar.group_end (before ++ r.value ∷ [])) (r.rest ++ j) z) made
+          (text_commas all_attrs group_ends (before ++ r.value ∷ []) r.rest j r.others r.tail closes),
     ) in
-    let all : (before ++ g) ++ flat_map (λ z. z) later ≡ before ++ flat_map (λ z. z) gs = append_assoc before g (flat_map (λ z. z) later) ∙ ap (λ z. before ++ flat_map (λ y. y) z) (sym n) in
-    goes (before ++ g) (proper x ∷ d) b (proper x, tt, d, refl, ap say.at_group is, group_is) (subst (λ z. Spells tt (grammar.groups (before ++ g)) b z) all (text_groups (before ++ g) b later rounds))
+    let all : (before ++ g) ++ flat_map (λ z. z) later ≡ before ++ flat_map (λ z. z) gs = append_assoc before g (flat_map (λ z. z) later)
+    ∙ ap (λ z. before ++ flat_map (λ y. y) z) (sym n) in
+    goes (before ++ g) (proper x ∷ d) b (proper x, tt, d, refl, ap say.at_group is, group_is)
+    (subst (λ z. Spells tt (grammar.groups (before ++ g)) b z) all (text_groups (before ++ g) b later rounds))
     (e ∙ ap (λ z. z ++ b) (w ∙ ap (λ z. z ++ d) m))
 
 pub attributes : HasTextsOf grammar.attrs attrs

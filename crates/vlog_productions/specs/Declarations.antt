@@ -1,5 +1,5 @@
--- Attributes, ranges, the words of declarations and headers in the words of the extended BNF (IEEE 1364-2005, A.1.2, A.1.3, A.2.1, A.2.4, A.2.5 and
--- A.9.1).
+-- Attributes, ranges, the words of declarations and headers in the words of the extended BNF (IEEE
+-- 1364-2005, A.1.2, A.1.3, A.2.1, A.2.4, A.2.5 and A.9.1).
 use Rattle.std.specs.Prelude.{Bool, true, false, List, [], ◌∷◌, codes, Option, ℤ, pos, neg_ℤ}
 use Rattle.std.specs.List.{flat_map}
 use Rattle.nl_base.specs.Ranges.{Bounds}
@@ -24,7 +24,9 @@ use Rattle.vlog_productions.specs.Production.{Production, told, nothing, optiona
 
 -- NAME ["=" const]; a value that is left out is the number 1
 unfoldable pub attr : Production Attr
-attr = meaning (λ x. record { name = x.0; value = x.1 }) (name · (meaning (λ x. x.1) (mark 61 · constant) ∣ nothing (consts.Number (pos 1))))
+attr =
+    meaning (λ x. record { name = x.0; value = x.1 })
+    (name · (meaning (λ x. x.1) (mark 61 · constant) ∣ nothing (consts.Number (pos 1))))
 
 -- "(*"
 abbrev pub group_start : Production (Unit {0})
@@ -51,7 +53,9 @@ bound = meaning (λ x. neg_ℤ x.1) (mark 45 · bound_number) ∣ bound_number
 
 -- range   = "[" bound ":" bound "]"
 unfoldable pub range : Production Bounds
-range = meaning (λ x. record { left = x.1.0; right = x.1.1.1.0 }) (mark 91 · bound · mark 58 · bound · mark 93)
+range =
+    meaning (λ x. record { left = x.1.0; right = x.1.1.1.0 })
+    (mark 91 · bound · mark 58 · bound · mark 93)
 
 -- ["signed"]
 abbrev pub signed : Production Bool
@@ -63,11 +67,15 @@ port_kind = optional (one_of ((codes "wire", port_kinds.Wire) ∷ (codes "tri", 
 
 -- "input"|"output"|"inout"
 abbrev pub dir : Production Dir
-dir = one_of ((codes "input", dirs.Input) ∷ (codes "output", dirs.Output) ∷ (codes "inout", dirs.Inout) ∷ [])
+dir =
+    one_of ((codes "input", dirs.Input) ∷ (codes "output", dirs.Output)
+    ∷ (codes "inout", dirs.Inout) ∷ [])
 
 -- ptype   = "integer" | "real" | ["signed"] [range]
 unfoldable pub ptype : Production ParamType
-ptype = one_of ((codes "integer", param_types.Integer) ∷ (codes "real", param_types.Real) ∷ []) ∣ meaning (λ x. param_types.Plain x.0 x.1) (signed · optional range)
+ptype =
+    one_of ((codes "integer", param_types.Integer) ∷ (codes "real", param_types.Real) ∷ [])
+    ∣ meaning (λ x. param_types.Plain x.0 x.1) (signed · optional range)
 
 -- pset    = NAME "=" const
 unfoldable pub pset : Production ParamSet
@@ -77,7 +85,9 @@ pset = meaning (λ x. record { name = x.0; value = x.1.1 }) (name · mark 61 · 
 
 -- pgroup  = "parameter" ptype pset {"," pset}
 unfoldable pub pgroup : Production ParamDecl
-pgroup = meaning (λ x. record { attrs = []; kind = x.1.0; sets = x.1.1 }) (keyword (codes "parameter") · ptype · list pset)
+pgroup =
+    meaning (λ x. record { attrs = []; kind = x.1.0; sets = x.1.1 })
+    (keyword (codes "parameter") · ptype · list pset)
 
 -- ["#" "(" pgroup {"," pgroup} ")"]
 unfoldable pub params : Production (List ParamDecl)
@@ -86,11 +96,19 @@ params = meaning (λ x. x.1.1.0) (mark 35 · mark 40 · list pgroup · mark 41) 
 -- pdecl   = attrs ("input"|"output"|"inout") ["wire"|"tri"] ["signed"] [range] NAME {"," NAME}
 unfoldable pub pdecl : Production PortDecl
 pdecl =
-    meaning (λ x. record { attrs = x.0; dir = x.1.0; kind = x.1.1.0; signed = x.1.1.1.0; range = x.1.1.1.1.0; names = x.1.1.1.1.1 })
+    meaning (λ x. record {
+      attrs = x.0;
+      dir = x.1.0;
+      kind = x.1.1.0;
+      signed = x.1.1.1.0;
+      range = x.1.1.1.1.0;
+      names = x.1.1.1.1.1;
+    })
     (attrs · dir · port_kind · signed · optional range · list name)
 
 -- header  = "(" ")" | "(" NAME {"," NAME} ")" | "(" pdecl {"," pdecl} ")"
 unfoldable pub header : Production Header
 header =
-    meaning (λ _. headers.Names []) (mark 40 · mark 41) ∣ meaning (λ x. headers.Names x.1.0) (mark 40 · list name · mark 41)
+    meaning (λ _. headers.Names []) (mark 40 · mark 41)
+    ∣ meaning (λ x. headers.Names x.1.0) (mark 40 · list name · mark 41)
     ∣ meaning (λ x. headers.Decls x.1.0) (mark 40 · list pdecl · mark 41)

@@ -1,4 +1,5 @@
--- The items of a module in the words of the extended BNF (IEEE 1364-2005, A.1.4, A.2.1, A.4.1 and A.6.1).
+-- The items of a module in the words of the extended BNF (IEEE 1364-2005, A.1.4, A.2.1, A.4.1 and
+-- A.6.1).
 use Rattle.std.specs.Prelude.{List, [], ◌∷◌, codes}
 use Rattle.vlog_values.specs.declared.expression.Attr.{Attr}
 use Rattle.vlog_values.specs.declared.declaration.NetKind.{NetKind}
@@ -24,12 +25,16 @@ use Rattle.vlog_productions.specs.Declarations.{attrs, range, signed, port_kind,
 
 -- named   = "." NAME "(" [expr] ")"
 unfoldable pub named : Production NamedConn
-named = meaning (λ x. record { port = x.1.0; value = x.1.1.1.0 }) (mark 46 · name · mark 40 · optional expr · mark 41)
+named =
+    meaning (λ x. record { port = x.1.0; value = x.1.1.1.0 })
+    (mark 46 · name · mark 40 · optional expr · mark 41)
 
 -- conns   = named {"," named} | [expr] {"," [expr]}
 -- One open connection alone is none at all.
 unfoldable pub conns : Production Conns
-conns = meaning (λ cs. conns_of.Named cs) (list named) ∣ meaning (λ es. conns_of.Order (order_of es)) (list (optional expr))
+conns =
+    meaning (λ cs. conns_of.Named cs) (list named)
+    ∣ meaning (λ es. conns_of.Order (order_of es)) (list (optional expr))
 
 -- inst    = NAME "(" conns ")"
 unfoldable pub inst : Production VInst
@@ -37,7 +42,9 @@ inst = meaning (λ x. record { name = x.0; conns = x.1.1.0 }) (name · mark 40 �
 
 -- over    = "." NAME "(" const ")"
 unfoldable pub over : Production ParamSet
-over = meaning (λ x. record { name = x.1.0; value = x.1.1.1.0 }) (mark 46 · name · mark 40 · constant · mark 41)
+over =
+    meaning (λ x. record { name = x.1.0; value = x.1.1.1.0 })
+    (mark 46 · name · mark 40 · constant · mark 41)
 
 -- ["#" "(" over {"," over} ")"]
 unfoldable pub overrides : Production (List ParamSet)
@@ -49,38 +56,64 @@ assignment = meaning (λ x. record { left = x.0; right = x.1.1 }) (lval · mark 
 
 -- dset    = NAME "." NAME "=" const
 unfoldable pub dset : Production DefSet
-dset = meaning (λ x. record { instance = x.0; name = x.1.1.0; value = x.1.1.1.1 }) (name · mark 46 · name · mark 61 · constant)
+dset =
+    meaning (λ x. record { instance = x.0; name = x.1.1.0; value = x.1.1.1.1 })
+    (name · mark 46 · name · mark 61 · constant)
 
 -- "wire"|"tri"|"supply0"|"supply1"
 abbrev pub net_kind : Production NetKind
-net_kind = one_of ((codes "wire", net_kinds.Wire) ∷ (codes "tri", net_kinds.Tri) ∷ (codes "supply0", net_kinds.Supply0) ∷ (codes "supply1", net_kinds.Supply1) ∷ [])
+net_kind =
+    one_of ((codes "wire", net_kinds.Wire) ∷ (codes "tri", net_kinds.Tri)
+    ∷ (codes "supply0", net_kinds.Supply0) ∷ (codes "supply1", net_kinds.Supply1) ∷ [])
 
 -- pdecl-without-attrs ";"
 unfoldable pub port_item : Production PortDecl
 port_item =
-    meaning (λ x. record { attrs = []; dir = x.0; kind = x.1.0; signed = x.1.1.0; range = x.1.1.1.0; names = x.1.1.1.1.0 })
+    meaning (λ x. record {
+      attrs = [];
+      dir = x.0;
+      kind = x.1.0;
+      signed = x.1.1.0;
+      range = x.1.1.1.0;
+      names = x.1.1.1.1.0;
+    })
     (dir · port_kind · signed · optional range · list name · mark 59)
 
 -- ("wire"|"tri"|"supply0"|"supply1") ["signed"] [range] NAME {"," NAME} ";"
 unfoldable pub net_item : Production NetDecl
 net_item =
-    meaning (λ x. record { attrs = []; kind = x.0; signed = x.1.0; range = x.1.1.0; names = x.1.1.1.0 }) (net_kind · signed · optional range · list name · mark 59)
+    meaning (λ x. record {
+      attrs = [];
+      kind = x.0;
+      signed = x.1.0;
+      range = x.1.1.0;
+      names = x.1.1.1.0;
+    })
+    (net_kind · signed · optional range · list name · mark 59)
 
 -- "parameter" ptype pset {"," pset} ";"
 unfoldable pub param_item : Production ParamDecl
-param_item = meaning (λ x. record { attrs = []; kind = x.1.0; sets = x.1.1.0 }) (keyword (codes "parameter") · ptype · list pset · mark 59)
+param_item =
+    meaning (λ x. record { attrs = []; kind = x.1.0; sets = x.1.1.0 })
+    (keyword (codes "parameter") · ptype · list pset · mark 59)
 
 -- "assign" lval "=" expr {"," lval "=" expr} ";"
 unfoldable pub assigns : Production Assigns
-assigns = meaning (λ x. record { attrs = []; sets = x.1.0 }) (keyword (codes "assign") · list assignment · mark 59)
+assigns =
+    meaning (λ x. record { attrs = []; sets = x.1.0 })
+    (keyword (codes "assign") · list assignment · mark 59)
 
 -- "defparam" dset {"," dset} ";"
 unfoldable pub defparams : Production Defparams
-defparams = meaning (λ x. record { attrs = []; sets = x.1.0 }) (keyword (codes "defparam") · list dset · mark 59)
+defparams =
+    meaning (λ x. record { attrs = []; sets = x.1.0 })
+    (keyword (codes "defparam") · list dset · mark 59)
 
 -- NAME ["#" "(" over {"," over} ")"] inst {"," inst} ";"
 unfoldable pub instances : Production Instances
-instances = meaning (λ x. record { attrs = []; «module» = x.0; params = x.1.0; insts = x.1.1.0 }) (name · overrides · list inst · mark 59)
+instances =
+    meaning (λ x. record { attrs = []; «module» = x.0; params = x.1.0; insts = x.1.1.0 })
+    (name · overrides · list inst · mark 59)
 
 -- item    = pdecl-without-attrs ";"
 --         | ("wire"|"tri"|"supply0"|"supply1") ["signed"] [range] NAME {"," NAME} ";"
@@ -90,17 +123,21 @@ instances = meaning (λ x. record { attrs = []; «module» = x.0; params = x.1.0
 --         | NAME ["#" "(" over {"," over} ")"] inst {"," inst} ";"
 unfoldable pub item : Production ItemV
 item =
-    meaning (λ d. items.Port d) port_item ∣ meaning (λ d. items.Net d) net_item ∣ meaning (λ d. items.Param d) param_item
-    ∣ meaning (λ s. items.Assign s) assigns ∣ meaning (λ s. items.Defparam s) defparams ∣ meaning (λ s. items.Instances s) instances
+    meaning (λ d. items.Port d) port_item
+    ∣ meaning (λ d. items.Net d) net_item
+    ∣ meaning (λ d. items.Param d) param_item
+    ∣ meaning (λ s. items.Assign s) assigns
+    ∣ meaning (λ s. items.Defparam s) defparams
+    ∣ meaning (λ s. items.Instances s) instances
 
 -- the item with these attributes
 abbrev pub with_attrs : List Attr → ItemV → ItemV
-with_attrs as_written (items.Port d) = items.Port (record { attrs = as_written; dir = d.dir; kind = d.kind; signed = d.signed; range = d.range; names = d.names })
-with_attrs as_written (items.Net d) = items.Net (record { attrs = as_written; kind = d.kind; signed = d.signed; range = d.range; names = d.names })
-with_attrs as_written (items.Param d) = items.Param (record { attrs = as_written; kind = d.kind; sets = d.sets })
-with_attrs as_written (items.Assign s) = items.Assign (record { attrs = as_written; sets = s.sets })
-with_attrs as_written (items.Instances s) = items.Instances (record { attrs = as_written; «module» = s.«module»; params = s.params; insts = s.insts })
-with_attrs as_written (items.Defparam s) = items.Defparam (record { attrs = as_written; sets = s.sets })
+with_attrs as_written (items.Port d) = items.Port (record d { attrs = as_written })
+with_attrs as_written (items.Net d) = items.Net (record d { attrs = as_written })
+with_attrs as_written (items.Param d) = items.Param (record d { attrs = as_written })
+with_attrs as_written (items.Assign s) = items.Assign (record s { attrs = as_written })
+with_attrs as_written (items.Instances s) = items.Instances (record s { attrs = as_written })
+with_attrs as_written (items.Defparam s) = items.Defparam (record s { attrs = as_written })
 
 -- attrs item
 unfoldable pub attributed : Production ItemV

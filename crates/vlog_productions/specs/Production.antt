@@ -1,5 +1,6 @@
--- The extended BNF over the tokens of Verilog, as data, and which tokens are a text of a production, for which value. No token is looked at ahead
--- here. The texts of expressions and constants are those of their own extended BNF.
+-- The extended BNF over the tokens of Verilog, as data, and which tokens are a text of a
+-- production, for which value. No token is looked at ahead here. The texts of expressions and
+-- constants are those of their own extended BNF.
 use Rattle.std.specs.Prelude.{◌≡◌, ◌⊎◌, ℕ, ℤ, true, false, List, [], ◌∷◌, ◌++◌, Option, Some, None}
 use Rattle.grammar.specs.Texts.{Spells}
 use Rattle.vlog_tokens.specs.declared.token.VToken.TheVariants as token
@@ -42,11 +43,13 @@ p ∣ q = either p q
 -- ---- its texts
 
 -- a text of P, and behind it one of Q
-abbrev pub BothText : {A B : Type 0} → (Tokens → A → Type 0) → (Tokens → B → Type 0) → Tokens → A × B → Type 0
+abbrev pub BothText : {A B : Type 0} → (Tokens → A → Type 0) → (Tokens → B → Type 0) → Tokens
+    → A × B → Type 0
 BothText P Q ts v = (a : Tokens) × (b : Tokens) × (ts ≡ a ++ b) × P a v.0 × Q b v.1
 
 -- no token, or a text of P
-pub data OptionalText {A : Type 0} (P : Tokens → A → Type 0) (ts : Tokens) (v : Option A) : Type 0 where
+pub data OptionalText {A : Type 0} (P : Tokens → A → Type 0) (ts : Tokens)
+    (v : Option A) : Type 0 where
   left_out : ts ≡ [] → v ≡ None → OptionalText P ts v
   there : (u : A) → P ts u → v ≡ Some u → OptionalText P ts v
 
@@ -108,7 +111,8 @@ constant = told (λ ts c. ConstText ts c)
 
 -- ---- the law
 
--- The tokens that spell a value as the part that is read are exactly the texts that the production has for it.
+-- The tokens that spell a value as the part that is read are exactly the texts that the production
+-- has for it.
 pub record HasTextsOf {A : Type 0} (p : Vlog A) (q : Production A) : Type 0 where
   pub is_text : (ts : Tokens) (v : A) → Spells tt p ts v → Texts q ts v
   pub is_spelled : (ts : Tokens) (v : A) → Texts q ts v → Spells tt p ts v

@@ -4,7 +4,8 @@ ghost use Rattle.vlog_items.specs.Grammar as item_grammar;
 ghost use Rattle.vlog_productions.specs.Production.{HasTextsOf, optional};
 ghost use Rattle.vlog_productions.specs.Declarations.{attrs, range, signed, port_kind, ptype, pset};
 
-/// Attributes; a range that may be left out; the words of a declaration; the type and the setting of a parameter.
+/// Attributes; a range that may be left out; the words of a declaration; the type and the setting
+/// of a parameter.
 pub fn words_are_read()
     ensures attrs { HasTextsOf grammar.attrs attrs }
     ensures range { HasTextsOf grammar.maybe_range (optional range) }
