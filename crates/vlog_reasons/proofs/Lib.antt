@@ -1,0 +1,10 @@
+pub mod Tracking
+pub mod Standing
+pub mod Judges
+pub mod Starts
+pub mod Parts
+pub mod Expressions
+pub mod Items
+pub mod File
+pub mod Law
+pub mod Worked

@@ -1,0 +1,3 @@
+pub mod Context
+pub mod Rows
+pub mod FirstFault
