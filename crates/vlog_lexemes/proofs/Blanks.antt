@@ -26,15 +26,15 @@ bytes_same (x ∷ xs) (y ∷ ys) e =
 -- ---- block comments
 
 -- a `/` comes first
-abbrev slash_first : List ℕ → Bool
+abbrev pub slash_first : List ℕ → Bool
 slash_first [] = false
 slash_first (b ∷ bs) = eqb b 47
 
-ends_by : (b : ℕ) (bs : List ℕ) → eqb b 42 ≡ true → ends_comment b bs ≡ slash_first bs
+pub ends_by : (b : ℕ) (bs : List ℕ) → eqb b 42 ≡ true → ends_comment b bs ≡ slash_first bs
 ends_by b [] e = refl
 ends_by b (c ∷ cs) e = rw e refl
 
-ends_not : (b : ℕ) (bs : List ℕ) → eqb b 42 ≡ false → ends_comment b bs ≡ false
+pub ends_not : (b : ℕ) (bs : List ℕ) → eqb b 42 ≡ false → ends_comment b bs ≡ false
 ends_not b [] e = refl
 ends_not b (c ∷ cs) e = rw e refl
 
@@ -45,16 +45,16 @@ comment_ends : (star : Bool) (n : ℕ) (rest : List ℕ) → comment_at star n (
 unfolding comment_at
 comment_ends star n rest = refl
 
-comment_star : (star : Bool) (n b : ℕ) (bs : List ℕ) → eqb b 42 ≡ true → comment_at star n (b ∷ bs) ≡ comment_at true (n + 1) bs
+pub comment_star : (star : Bool) (n b : ℕ) (bs : List ℕ) → eqb b 42 ≡ true → comment_at star n (b ∷ bs) ≡ comment_at true (n + 1) bs
 unfolding comment_at
 comment_star star n b bs e = rw e refl
 
-comment_other : (star : Bool) (n b : ℕ) (bs : List ℕ) → eqb b 42 ≡ false → (star && eqb b 47) ≡ false
+pub comment_other : (star : Bool) (n b : ℕ) (bs : List ℕ) → eqb b 42 ≡ false → (star && eqb b 47) ≡ false
     → comment_at star n (b ∷ bs) ≡ comment_at false (n + 1) bs
 unfolding comment_at
 comment_other star n b bs e f = rw (e, f) refl
 
-no_close : (star : Bool) (t : Bool) → (star ≡ true → t ≡ false) → (star && t) ≡ false
+pub no_close : (star : Bool) (t : Bool) → (star ≡ true → t ≡ false) → (star && t) ≡ false
 no_close true t h = h refl
 no_close false t h = refl
 

@@ -1,6 +1,5 @@
 -- What the reader of a name, a number, a literal or a directive has behind it, and what it takes.
 use Rattle.std.proofs.Common.{◌≡◌, ℕ, ◌+◌, ◌≤◌, Bool, true, false, cond, eqb, leb, not, ◌||◌, List, [], ◌∷◌, ◌++◌, length, Option, Some, None, Ok, Err, IsTrue, refl, sym, ap, ◌∙◌, subst, inl, inr, arith, length-append, append_assoc}
-use Rattle.std.specs.Prelude.{◌⊎◌, ⊤}
 use Rattle.std.specs.Char.{is_ascii_digit, is_ascii_alphabetic}
 use Rattle.std.proofs.lemmas.Bool.{leb-false, eqb-true}
 use Rattle.nl_bytes.specs.Classes.{is_verilog_space, is_word_byte, is_name_byte, is_number_byte, is_based_byte, is_graphic}
@@ -14,26 +13,9 @@ use Rattle.vlog_tokens.specs.declared.phase.Step.TheVariants.{Keep, Pass, Ends, 
 use Rattle.vlog_tokens.specs.Flaws.{Piece}
 use Rattle.vlog_tokens.specs.Phases.{next_step, is_complete, most_of, is_mark, is_sign, is_open, is_digit, base_of, letter_step, first_digit}
 use Rattle.vlog_tokens.specs.Scanning.{Lexeme, scan_at, stepped}
-use Rattle.vlog_lexemes.specs.Lexemes.{AllPass, IsRun, IsSimple, IsEscaped, IsDirective, IsNumeral, IsFixed, IsSign, IsSigned, MayFollow, begins_name, digit_byte, is_low_line, any, no_name_byte, no_word_byte, no_real_byte, no_exponent_byte, no_number_byte, no_based_byte, one_of}
+use Rattle.vlog_lexemes.specs.Lexemes.{IsRun, IsSigned, MayFollow, begins_name, digit_byte, is_low_line, one_of}
+pub use Rattle.vlog_lexemes.specs.Fronts.{Front, OfName, AtEscape, OfEscaped, OfNumeral, AtPoint, OfFixed, AtMark, AtSign, OfScaled, AtQuote, AtSigned, AtLetter, OfDigits, OfUnknown, AtGrave, OfDirective, front_bytes, front_text, IsMantissa, IsHead, IsFront, follows_of}
 use Rattle.vlog_lexemes.proofs.Scans.{Scanned, found_lexeme}
-
-pub data Front : Type 0 where
-  OfName : List ℕ → Front
-  AtEscape : Front
-  OfEscaped : List ℕ → Front
-  OfNumeral : List ℕ → Front
-  AtPoint : List ℕ → Front
-  OfFixed : List ℕ → List ℕ → Front
-  AtMark : List ℕ → ℕ → Front
-  AtSign : List ℕ → ℕ → ℕ → Front
-  OfScaled : List ℕ → ℕ → List ℕ → List ℕ → Front
-  AtQuote : Front
-  AtSigned : ℕ → Front
-  AtLetter : List ℕ → Bool → ℕ → Base → List ℕ → Front
-  OfDigits : List ℕ → Bool → ℕ → Base → List ℕ → List ℕ → Front
-  OfUnknown : List ℕ → Bool → ℕ → List ℕ → List ℕ → Front
-  AtGrave : Front
-  OfDirective : List ℕ → Front
 
 abbrev pub phase_of : Front → Phase
 phase_of (OfName bytes) = phases.Word
@@ -53,88 +35,8 @@ phase_of (OfUnknown sign signed letter white digits) = phases.Unknown
 phase_of AtGrave = phases.Grave
 phase_of (OfDirective word) = phases.Directive
 
-abbrev pub front_bytes : Front → List ℕ
-front_bytes (OfName bytes) = bytes
-front_bytes AtEscape = 92 ∷ []
-front_bytes (OfEscaped name) = 92 ∷ name
-front_bytes (OfNumeral w) = w
-front_bytes (AtPoint w) = w ++ 46 ∷ []
-front_bytes (OfFixed w f) = w ++ 46 ∷ f
-front_bytes (AtMark m e) = m ++ e ∷ []
-front_bytes (AtSign m e s) = m ++ e ∷ s ∷ []
-front_bytes (OfScaled m e s x) = m ++ e ∷ (s ++ x)
-front_bytes AtQuote = 39 ∷ []
-front_bytes (AtSigned s) = 39 ∷ s ∷ []
-front_bytes (AtLetter sign signed letter base white) = 39 ∷ (sign ++ letter ∷ white)
-front_bytes (OfDigits sign signed letter base white digits) = 39 ∷ (sign ++ letter ∷ (white ++ digits))
-front_bytes (OfUnknown sign signed letter white digits) = 39 ∷ (sign ++ letter ∷ (white ++ digits))
-front_bytes AtGrave = 96 ∷ []
-front_bytes (OfDirective word) = 96 ∷ word
-
--- what is kept of them
-abbrev pub front_text : Front → List ℕ
-front_text (OfName bytes) = bytes
-front_text AtEscape = []
-front_text (OfEscaped name) = name
-front_text (OfNumeral w) = w
-front_text (AtPoint w) = w ++ 46 ∷ []
-front_text (OfFixed w f) = w ++ 46 ∷ f
-front_text (AtMark m e) = m ++ e ∷ []
-front_text (AtSign m e s) = m ++ e ∷ s ∷ []
-front_text (OfScaled m e s x) = m ++ e ∷ (s ++ x)
-front_text AtQuote = 39 ∷ []
-front_text (AtSigned s) = 39 ∷ s ∷ []
-front_text (AtLetter sign signed letter base white) = 39 ∷ (sign ++ letter ∷ [])
-front_text (OfDigits sign signed letter base white digits) = 39 ∷ (sign ++ letter ∷ digits)
-front_text (OfUnknown sign signed letter white digits) = 39 ∷ (sign ++ letter ∷ digits)
-front_text AtGrave = 96 ∷ []
-front_text (OfDirective word) = 96 ∷ word
-
-abbrev IsMantissa : List ℕ → Type 0
-IsMantissa bytes = IsNumeral bytes ⊎ IsFixed bytes
-
-abbrev pub IsHead : List ℕ → Bool → ℕ → Base → List ℕ → Type 0
-IsHead sign signed letter base white = IsSigned sign signed × (base_of letter ≡ Some base) × AllPass is_verilog_space white
-
-abbrev pub IsFront : Front → Type 0
-IsFront (OfName bytes) = IsSimple bytes
-IsFront AtEscape = ⊤
-IsFront (OfEscaped name) = IsEscaped name
-IsFront (OfNumeral w) = IsNumeral w
-IsFront (AtPoint w) = IsNumeral w
-IsFront (OfFixed w f) = IsNumeral w × IsNumeral f
-IsFront (AtMark m e) = IsMantissa m × (is_mark e ≡ true)
-IsFront (AtSign m e s) = IsMantissa m × (is_mark e ≡ true) × (is_sign s ≡ true)
-IsFront (OfScaled m e s x) = IsMantissa m × (is_mark e ≡ true) × IsSign s × IsNumeral x
-IsFront AtQuote = ⊤
-IsFront (AtSigned s) = (eqb s 115 || eqb s 83) ≡ true
-IsFront (AtLetter sign signed letter base white) = IsHead sign signed letter base white
-IsFront (OfDigits sign signed letter base white digits) = IsHead sign signed letter base white × IsRun (is_digit base) (digit_byte base) digits
-IsFront (OfUnknown sign signed letter white digits) = IsHead sign signed letter Decimal white × IsRun is_open is_low_line digits
-IsFront AtGrave = ⊤
-IsFront (OfDirective word) = IsDirective word
-
--- the bytes that may follow where the bytes so far are a token
-abbrev pub follows_of : Front → ℕ → Bool
-follows_of (OfName bytes) = no_name_byte
-follows_of AtEscape = any
-follows_of (OfEscaped name) = is_verilog_space
-follows_of (OfNumeral w) = no_real_byte
-follows_of (AtPoint w) = any
-follows_of (OfFixed w f) = no_exponent_byte
-follows_of (AtMark m e) = any
-follows_of (AtSign m e s) = any
-follows_of (OfScaled m e s x) = no_number_byte
-follows_of AtQuote = any
-follows_of (AtSigned s) = any
-follows_of (AtLetter sign signed letter base white) = any
-follows_of (OfDigits sign signed letter base white digits) = no_based_byte
-follows_of (OfUnknown sign signed letter white digits) = no_based_byte
-follows_of AtGrave = any
-follows_of (OfDirective word) = no_word_byte
-
 -- what the next byte is to the bytes so far
-data Turn (f : Front) (b : ℕ) : Step → Type 0 where
+pub data Turn (f : Front) (b : ℕ) : Step → Type 0 where
   keeps : (g : Front) → IsFront g → front_bytes g ≡ front_bytes f ++ b ∷ [] → front_text g ≡ front_text f ++ b ∷ []
       → most_of (phase_of g) ≡ most_of (phase_of f) → Turn f b (Keep (phase_of g))
   passes : (g : Front) → IsFront g → front_bytes g ≡ front_bytes f ++ b ∷ [] → front_text g ≡ front_text f
@@ -142,7 +44,7 @@ data Turn (f : Front) (b : ℕ) : Step → Type 0 where
   ends : is_complete (phase_of f) ≡ true → follows_of f b ≡ true → Turn f b Ends
   bad : Turn f b Bad
 
-cond_step : (P : Step → Type 0) (t : Bool) (x y : Step) → (t ≡ true → P x) → (t ≡ false → P y) → P (cond t x y)
+pub cond_step : (P : Step → Type 0) (t : Bool) (x y : Step) → (t ≡ true → P x) → (t ≡ false → P y) → P (cond t x y)
 cond_step P true x y p q = p refl
 cond_step P false x y p q = q refl
 
@@ -196,7 +98,7 @@ inner : (sign white digits : List ℕ) (letter b : ℕ)
 inner sign white digits letter b =
     ap (λ (z : List ℕ). 39 ∷ (sign ++ letter ∷ z)) (sym (append_assoc white digits (b ∷ []))) ∙ ap (λ (z : List ℕ). 39 ∷ z) (sym (append_assoc sign (letter ∷ (white ++ digits)) (b ∷ [])))
 
-turn : (f : Front) (b : ℕ) → IsFront f → Turn f b (next_step (phase_of f) b)
+pub turn : (f : Front) (b : ℕ) → IsFront f → Turn f b (next_step (phase_of f) b)
 unfolding next_step is_complete most_of
 turn (OfName bytes) b is =
     cond_step (λ s. Turn (OfName bytes) b s) (is_name_byte b) _ _ (λ e. keeps (OfName (bytes ++ b ∷ [])) (run_push begins_name is_name_byte bytes b is e) refl refl refl) (λ e. ends refl (not_false (is_name_byte b) e))

@@ -6,3 +6,9 @@ pub mod Fronts
 pub mod Complete
 pub mod Sound
 pub mod Texts
+pub mod Steps
+pub mod StringFaults
+pub mod StringRows
+pub mod Leads
+pub mod Comments
+pub mod Faults

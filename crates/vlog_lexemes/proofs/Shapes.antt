@@ -118,7 +118,7 @@ abbrev LONG : ℕ
 LONG = 131072
 
 -- the reader goes over a mantissa, behind which an `e` may stand
-record Mantissa (bytes : List ℕ) : Type 0 where
+pub record Mantissa (bytes : List ℕ) : Type 0 where
   pub first : ℕ
   pub tail : List ℕ
   pub is_bytes : bytes ≡ first ∷ tail
@@ -128,7 +128,7 @@ record Mantissa (bytes : List ℕ) : Type 0 where
   pub mark : (b : ℕ) → is_mark b ≡ true → next_step at b ≡ Keep Mark
   pub most : most_of at ≡ 131072
 
-numeral_read : (bytes : List ℕ) → IsNumeral bytes → Mantissa bytes
+pub numeral_read : (bytes : List ℕ) → IsNumeral bytes → Mantissa bytes
 unfolding most_of
 numeral_read [] is = absurd is
 numeral_read (d ∷ ds) is = record {
@@ -142,13 +142,13 @@ numeral_read (d ∷ ds) is = record {
   most = refl;
 }
 
-fraction_read : (bytes : List ℕ) → IsNumeral bytes → (text : List ℕ) (n : ℕ) → Scans 131072 Point text n bytes Fraction (text ++ bytes)
+pub fraction_read : (bytes : List ℕ) → IsNumeral bytes → (text : List ℕ) (n : ℕ) → Scans 131072 Point text n bytes Fraction (text ++ bytes)
 unfolding most_of
 fraction_read [] is text n = absurd is
 fraction_read (d ∷ ds) is text n =
     scans_by refl (append_assoc text (d ∷ []) ds) (scans_trans (keeps 131072 Point Fraction text n d refl (point_on d is.0)) (runs 131072 Fraction is_number_byte refl fraction_on ds is.1 (text ++ d ∷ []) (n + 1)))
 
-fixed_by : (whole fraction bytes : List ℕ) → bytes ≡ whole ++ 46 ∷ fraction → IsNumeral whole → IsNumeral fraction
+pub fixed_by : (whole fraction bytes : List ℕ) → bytes ≡ whole ++ 46 ∷ fraction → IsNumeral whole → IsNumeral fraction
     → (m : Mantissa bytes) × (m.at ≡ Fraction)
 unfolding most_of
 fixed_by [] fraction bytes e before behind = absurd before
@@ -165,7 +165,7 @@ fixed_by (d ∷ ds) fraction bytes e before behind =
       most = refl;
     } in (m, refl)
 
-mantissa_read : (bytes : List ℕ) → IsNumeral bytes ⊎ IsFixed bytes → Mantissa bytes
+pub mantissa_read : (bytes : List ℕ) → IsNumeral bytes ⊎ IsFixed bytes → Mantissa bytes
 mantissa_read bytes (inl is) = numeral_read bytes is
 mantissa_read bytes (inr is) = (fixed_by is.whole is.fraction bytes is.spelled is.before is.behind).0
 
@@ -176,7 +176,7 @@ exponent_digits from most step [] is text n = absurd is
 exponent_digits from most step (d ∷ ds) is text n =
     scans_by refl (append_assoc text (d ∷ []) ds) (scans_trans (keeps 131072 from Exponent text n d most (step d is.0)) (runs 131072 Exponent is_number_byte refl exponent_on ds is.1 (text ++ d ∷ []) (n + 1)))
 
-exponent_read : (sign bytes : List ℕ) → IsSign sign → IsNumeral bytes → (text : List ℕ) (n : ℕ)
+pub exponent_read : (sign bytes : List ℕ) → IsSign sign → IsNumeral bytes → (text : List ℕ) (n : ℕ)
     → Scans 131072 Mark text n (sign ++ bytes) Exponent (text ++ (sign ++ bytes))
 unfolding most_of
 exponent_read [] bytes signed is text n = exponent_digits Mark refl mark_digit bytes is text n
@@ -217,7 +217,7 @@ scaled_scan bytes is short =
 
 -- ---- based literals
 
-white_read : (base : Base) (white : List ℕ) → AllPass is_verilog_space white → (text : List ℕ) (n : ℕ)
+pub white_read : (base : Base) (white : List ℕ) → AllPass is_verilog_space white → (text : List ℕ) (n : ℕ)
     → Scans 131072 (Letter base) text n white (Letter base) text
 white_read base [] all text n = stays 131072 (Letter base) text n
 white_read base (b ∷ bs) all text n = scans_trans (passes 131072 (Letter base) (Letter base) text n b (letter_white b base all.0)) (white_read base bs all.1 text (n + 1))
@@ -247,7 +247,7 @@ digits_read base (d ∷ ds) (inr is) text n = subst (λ (z : Base). DigitsRead z
 })
 
 -- the reader goes over the beginning of a literal
-head_read : (sign : List ℕ) (signed : Bool) (letter : ℕ) (base : Base) → IsSigned sign signed → base_of letter ≡ Some base
+pub head_read : (sign : List ℕ) (signed : Bool) (letter : ℕ) (base : Base) → IsSigned sign signed → base_of letter ≡ Some base
     → Scans 131072 Prefix (39 ∷ []) 1 (sign ++ letter ∷ []) (Letter base) (39 ∷ (sign ++ letter ∷ []))
 unfolding most_of
 head_read [] signed letter base is at = keeps 131072 Prefix (Letter base) (39 ∷ []) 1 letter refl (prefix_letter letter base at)

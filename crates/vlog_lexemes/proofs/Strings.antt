@@ -18,20 +18,20 @@ use Rattle.vlog_lexemes.specs.Strings as parts
 abbrev pub Spelled : Type 0
 Spelled = Result (Piece (List ℕ)) Flaw
 
-not_full : (v : List ℕ) (b : ℕ) → length (v ++ b ∷ []) ≤ MOST → is_full v ≡ false
+pub not_full : (v : List ℕ) (b : ℕ) → length (v ++ b ∷ []) ≤ MOST → is_full v ≡ false
 not_full v b le = lt-leb 1048576 (length v) (omega (arith, le, length-append v (b ∷ [])))
 
 -- ---- from the table to the bytes
 
-stands : (b : ℕ) → is_verilog_string_byte b ≡ true → (eqb b 34 ≡ false) × (eqb b 92 ≡ false)
+pub stands : (b : ℕ) → is_verilog_string_byte b ≡ true → (eqb b 34 ≡ false) × (eqb b 92 ≡ false)
 stands b e = (grind (arith, nat_tests), grind (arith, nat_tests))
 
-plain_read : (b n : ℕ) (v rest : List ℕ) → is_verilog_string_byte b ≡ true → length (v ++ b ∷ []) ≤ MOST
+pub plain_read : (b n : ℕ) (v rest : List ℕ) → is_verilog_string_byte b ≡ true → length (v ++ b ∷ []) ≤ MOST
     → string_at within.Parts v n (b ∷ rest) ≡ string_at within.Parts (v ++ b ∷ []) (n + 1) rest
 unfolding string_at
 plain_read b n v rest e most = let s = stands b e in rw (e, s.0, s.1, not_full v b most) refl
 
-escaped_read : (b c n : ℕ) (v rest : List ℕ) → StandsFor b c → length (v ++ c ∷ []) ≤ MOST
+pub escaped_read : (b c n : ℕ) (v rest : List ℕ) → StandsFor b c → length (v ++ c ∷ []) ≤ MOST
     → string_at within.Parts v n (92 ∷ b ∷ rest) ≡ string_at within.Parts (v ++ c ∷ []) (n + 1 + 1) rest
 unfolding string_at
 escaped_read b c n v rest line_feed most = rw (not_full v 10 most) refl
@@ -40,14 +40,14 @@ escaped_read b c n v rest backslash most = rw (not_full v 92 most) refl
 escaped_read b c n v rest quote most = rw (not_full v 34 most) refl
 
 -- the value to which octal digits take a number
-abbrev value_from : ℕ → List ℕ → ℕ
+abbrev pub value_from : ℕ → List ℕ → ℕ
 value_from k digits = fold (λ n d. 8 * n + (d - 48)) k digits
 
-value_grows : (k : ℕ) (digits : List ℕ) → k ≤ value_from k digits
+pub value_grows : (k : ℕ) (digits : List ℕ) → k ≤ value_from k digits
 value_grows k [] = omega arith
 value_grows k (d ∷ ds) = omega (arith, value_grows (8 * k + (d - 48)) ds)
 
-octal_is : (d : ℕ) → is_octal d ≡ true → escaped_by d ≡ escapes.Octal (d - 48)
+pub octal_is : (d : ℕ) → is_octal d ≡ true → escaped_by d ≡ escapes.Octal (d - 48)
 octal_is d e =
     let a : eqb d 110 ≡ false = grind (arith, nat_tests) in
     let b : eqb d 116 ≡ false = grind (arith, nat_tests) in
@@ -55,17 +55,17 @@ octal_is d e =
     let q : eqb d 34 ≡ false = grind (arith, nat_tests) in
     rw (a, b, c, q, e) refl
 
-begin_code : (d n : ℕ) (v rest : List ℕ) → is_octal d ≡ true
+pub begin_code : (d n : ℕ) (v rest : List ℕ) → is_octal d ≡ true
     → string_at within.Parts v n (92 ∷ d ∷ rest) ≡ string_at (within.Code (d - 48) 2) v (n + 1 + 1) rest
 unfolding string_at
 begin_code d n v rest e = rw (octal_is d e) refl
 
-digit_read : (d k more n : ℕ) (v rest : List ℕ) → 0 < more → is_octal d ≡ true → 8 * k + (d - 48) ≤ 255
+pub digit_read : (d k more n : ℕ) (v rest : List ℕ) → 0 < more → is_octal d ≡ true → 8 * k + (d - 48) ≤ 255
     → string_at (within.Code k more) v n (d ∷ rest) ≡ string_at (within.Code (8 * k + (d - 48)) (more - 1)) v (n + 1) rest
 unfolding string_at
 digit_read d k more n v rest some e le = rw (lt-ltb 0 more some, e, le-ltb 255 (8 * k + (d - 48)) le) refl
 
-end_code : (b k more n : ℕ) (v rest : List ℕ) → (0 < more → is_octal b ≡ false) → length (v ++ k ∷ []) ≤ MOST
+pub end_code : (b k more n : ℕ) (v rest : List ℕ) → (0 < more → is_octal b ≡ false) → length (v ++ k ∷ []) ≤ MOST
     → string_at (within.Code k more) v n (b ∷ rest) ≡ string_at within.Parts (v ++ k ∷ []) n (b ∷ rest)
 unfolding string_at
 end_code b k more n v rest none most = by (ltb 0 more) refl
@@ -96,14 +96,14 @@ coded_read (d ∷ ds) n v rest is some most =
     ∙ ap (λ (k : ℕ). string_at within.Parts (v ++ k ∷ []) (n + 1 + 1 + length ds) rest) same
     ∙ ap (λ (j : ℕ). string_at within.Parts (v ++ octal_value (d ∷ ds) ∷ []) j rest) (omega arith)
 
-part_read : (p : Part) (n : ℕ) (v rest : List ℕ) → IsPart p rest → 0 < length rest → length (v ++ part_value p) ≤ MOST
+pub part_read : (p : Part) (n : ℕ) (v rest : List ℕ) → IsPart p rest → 0 < length rest → length (v ++ part_value p) ≤ MOST
     → string_at within.Parts v n (part_bytes p ++ rest) ≡ string_at within.Parts (v ++ part_value p) (n + length (part_bytes p)) rest
 part_read (Plain b) n v rest is some most = plain_read b n v rest is most
 part_read (parts.Escaped b c) n v rest is some most =
     escaped_read b c n v rest is most ∙ ap (λ (j : ℕ). string_at within.Parts (v ++ c ∷ []) j rest) (omega arith)
 part_read (Coded digits) n v rest is some most = coded_read digits n v rest is some most
 
-parts_read : (ps : List Part) (n : ℕ) (v rest : List ℕ) → AreParts ps rest → 0 < length rest → length (v ++ parts_value ps) ≤ MOST
+pub parts_read : (ps : List Part) (n : ℕ) (v rest : List ℕ) → AreParts ps rest → 0 < length rest → length (v ++ parts_value ps) ≤ MOST
     → string_at within.Parts v n (parts_bytes ps ++ rest) ≡ string_at within.Parts (v ++ parts_value ps) (n + length (parts_bytes ps)) rest
 parts_read [] n v rest all some most =
     ap (λ (z : List ℕ). string_at within.Parts z n rest) (sym (append-nil v)) ∙ ap (λ (j : ℕ). string_at within.Parts (v ++ []) j rest) (omega arith)
@@ -117,7 +117,7 @@ parts_read (p ∷ ps) n v rest all some most =
     ∙ ap (λ (z : List ℕ). string_at within.Parts z (n + length (part_bytes p) + length (parts_bytes ps)) rest) values
     ∙ ap (λ (j : ℕ). string_at within.Parts (v ++ (part_value p ++ parts_value ps)) j rest) (omega (arith, length-append (part_bytes p) (parts_bytes ps)))
 
-no_octal_moves : (z x y : List ℕ) → NoOctal (z ++ 34 ∷ x) → NoOctal (z ++ 34 ∷ y)
+pub no_octal_moves : (z x y : List ℕ) → NoOctal (z ++ 34 ∷ x) → NoOctal (z ++ 34 ∷ y)
 no_octal_moves [] x y h = refl
 no_octal_moves (b ∷ bs) x y h = h
 
@@ -191,7 +191,7 @@ split_cond {P} false x y piece e p q = q refl e
 abbrev Hypothesis : List ℕ → Type 0
 Hypothesis bs = (m : Within) (v : List ℕ) (n : ℕ) (piece : Piece (List ℕ)) → length v ≤ MOST → string_at m v n bs ≡ Ok piece → Goal m v n bs piece
 
-room : (v : List ℕ) (b : ℕ) → is_full v ≡ false → length (v ++ b ∷ []) ≤ MOST
+pub room : (v : List ℕ) (b : ℕ) → is_full v ≡ false → length (v ++ b ∷ []) ≤ MOST
 room v b e = let lt = leb-false _ _ e in omega (arith, lt, length-append v (b ∷ []))
 
 -- one part in front of others

@@ -5,6 +5,7 @@ use Rattle.std.specs.List.{concat}
 use Rattle.std.proofs.lemmas.List.{take_at, drop_at}
 use Rattle.grammar.specs.Whole.{Terminal, proper, end, Finish, Done, Bad, Over}
 use Rattle.nl_base.specs.declared.place.Place.{Place}
+use Rattle.nl_base.specs.declared.fault.Reason.{Reason}
 use Rattle.nl_base.specs.declared.fault.TextFault.{TextFault}
 use Rattle.nl_base.specs.Place.{place_after, place_past}
 use Rattle.nl_base.proofs.Places.{place_past-append}
@@ -18,14 +19,16 @@ use Rattle.vlog_tokens.specs.Language.{tokens_from, then_items, then_tokens, wit
 use Rattle.vlog_tokens.specs.Parts.{fault_at}
 use Rattle.vlog_tokens.specs.Spelling.{item_at}
 use Rattle.vlog_lexemes.specs.Lexemes.{IsLexeme, IsNext, IsBlank, AreBlanks, MayFollow, seen_behind}
-use Rattle.vlog_lexemes.specs.Texts.{IsFirst, AreLexemes, EndsAt, Stands, IsBlankFirst, Fails, whole_text, cut_text}
+use Rattle.vlog_lexemes.specs.Texts.{IsFirst, AreLexemes, EndsAt, Stands, IsBlankFirst, Fails, FailsBy, whole_text, cut_text}
+use Rattle.vlog_lexemes.specs.Faults.{IsFault}
+use Rattle.vlog_lexemes.proofs.Faults.{item_faulty, fault_complete, fault_not_empty}
 use Rattle.vlog_lexemes.proofs.Complete.{Answer, answer, lexeme_read, next_of, Passes, IsPassed, blank_passed}
 use Rattle.vlog_lexemes.proofs.Sound.{ItemRow, a_token, a_blank, item_sound}
 
 -- these are the terminals of a text, and it ends so
 abbrev AreTerminals : Place → List ℕ → List (Terminal VFound Place) → Finish TextFault → Type 0
 AreTerminals p text [] Done = ⊥
-AreTerminals p text [] (Bad fault) = Fails p text
+AreTerminals p text [] (Bad fault) = Fails p text × FailsBy fault p text
 AreTerminals p text [] Over = ⊥
 AreTerminals p text (proper x ∷ xs) finish = (one : IsFirst p text x) × AreTerminals (place_past p (concat one.blanks ++ one.lexeme)) one.rest xs finish
 AreTerminals p text (end q ∷ []) Done = EndsAt q p text
@@ -60,10 +63,25 @@ fails_more p piece text is f = record {
   no_blank = f.no_blank;
 }
 
+fault_more : (fault : TextFault) (p : Place) (piece text : List ℕ) → IsBlank piece text → FailsBy fault (place_past p piece) text → FailsBy fault p (piece ++ text)
+fault_more fault p piece text is f =
+    let place = past_two p piece (concat f.blanks) in
+    record {
+      blanks = piece ∷ f.blanks;
+      rest = f.rest;
+      before = f.before;
+      seen = f.seen;
+      parts = ap (λ (z : List ℕ). piece ++ z) f.parts ∙ sym (append_assoc piece (concat f.blanks) f.rest);
+      blank = (subst (IsBlank piece) f.parts is, f.blank);
+      why = f.why;
+      place = f.place ∙ ap (λ (z : Place). place_past z (take f.before f.rest)) place;
+      stop = f.stop ∙ ap (λ (z : Place). z.offset + f.seen) place;
+    }
+
 white_more : (p : Place) (piece text : List ℕ) (ts : List (Terminal VFound Place)) (finish : Finish TextFault) → IsBlank piece text
     → AreTerminals (place_past p piece) text ts finish → AreTerminals p (piece ++ text) ts finish
 white_more p piece text [] Done is are = are
-white_more p piece text [] (Bad fault) is are = fails_more p piece text is are
+white_more p piece text [] (Bad fault) is are = (fails_more p piece text is are.0, fault_more fault p piece text is are.1)
 white_more p piece text [] Over is are = are
 white_more p piece text (end q ∷ []) Done is are = ends_more q p piece text is are
 white_more p piece text (end q ∷ []) (Bad fault) is are = are
@@ -169,7 +187,9 @@ blank_there b bs f e s =
 
 then_row : (p : Place) (b : ℕ) (bs : List ℕ) (x : Answer) → item_at b bs ≡ x → Behind (place_after p b) bs
     → IsStreamOf p (b ∷ bs) (then_items p (b ∷ bs) x (Later p b bs))
-then_row p b bs (Err f) e others = record { blanks = []; rest = b ∷ bs; parts = refl; blank = tt; some = omega arith; no_token = token_there b bs f e; no_blank = blank_there b bs f e }
+then_row p b bs (Err f) e others =
+    let fails : Fails p (b ∷ bs) = record { blanks = []; rest = b ∷ bs; parts = refl; blank = tt; some = omega arith; no_token = token_there b bs f e; no_blank = blank_there b bs f e } in
+    (fails, record { blanks = []; rest = b ∷ bs; before = f.before; seen = f.seen; parts = refl; blank = tt; why = item_faulty b bs f e; place = refl; stop = refl })
 then_row p b bs (Ok piece) e others = item_row p b bs piece (item_sound b bs piece e) others
 
 text_sound : (p : Place) (bs : List ℕ) → Behind p bs
@@ -288,7 +308,7 @@ whole_complete (x ∷ xs) last p text are =
 
 cut_sound : (found : List VFound) (fault : TextFault) (p : Place) (text : List ℕ) → AreTerminals p text (map proper found) (Bad fault)
     → AreLexemes Fails p text found
-cut_sound [] fault p text are = are
+cut_sound [] fault p text are = are.0
 cut_sound (x ∷ xs) fault p text are = (are.0, cut_sound xs fault (place_past p (concat are.0.blanks ++ are.0.lexeme)) are.0.rest are.1)
 
 cut_complete : (found : List VFound) (p : Place) (text : List ℕ) → AreLexemes Fails p text found
@@ -311,6 +331,36 @@ pub told_law : (p : Place) (text : List ℕ) (found : List VFound) (last : Place
 unfolding stream_from
 told_law p text found last are = ap limited (whole_complete found last p text are)
 
-pub told_cut_law : (p : Place) (text : List ℕ) (found : List VFound) → AreLexemes Fails p text found → (fault : TextFault) × (stream_from p text ≡ limited (cut_text found fault))
+fault_sound : (found : List VFound) (fault : TextFault) (p : Place) (text : List ℕ) → AreTerminals p text (map proper found) (Bad fault) → AreLexemes (FailsBy fault) p text found
+fault_sound [] fault p text are = are.1
+fault_sound (x ∷ xs) fault p text are = (are.0, fault_sound xs fault (place_past p (concat are.0.blanks ++ are.0.lexeme)) are.0.rest are.1)
+
+abbrev text_fault : Place → ℕ → Reason → TextFault
+text_fault p stop reason = record { place = p; stop = stop; reason = reason }
+
+same_fault : (p q : Place) (m n : ℕ) (reason : Reason) → p ≡ q → m ≡ n → text_fault p m reason ≡ text_fault q n reason
+same_fault p q m n reason e f = ap (λ (x : Place). text_fault x m reason) e ∙ ap (λ (x : ℕ). text_fault q x reason) f
+
+fault_then : (fault : TextFault) (p : Place) (text : List ℕ) → FailsBy fault p text → tokens_from 0 p text ≡ no_token VFound (Bad fault)
+fault_then fault p text f = ap (tokens_from 0 p) f.parts ∙ blanks_then f.blanks p f.rest f.blank ∙ by f.rest f.why f.place
+  where
+    q : Place
+    q = place_past p (concat f.blanks)
+
+    by : (rest : List ℕ) → IsFault rest fault.reason f.before f.seen → fault.place ≡ place_past q (take f.before rest) → tokens_from 0 q rest ≡ no_token VFound (Bad fault)
+    by [] why place = absurd (fault_not_empty fault.reason f.before f.seen why)
+    by (b ∷ bs) why place =
+        item_then q b bs (Err (record { reason = fault.reason; before = f.before; seen = f.seen })) (fault_complete b bs fault.reason f.before f.seen why)
+        ∙ ap (λ (x : TextFault). no_token VFound (Bad x)) (same_fault (place_past q (take f.before (b ∷ bs))) fault.place (q.offset + f.seen) fault.stop fault.reason (sym place) (sym f.stop))
+
+faults_complete : (found : List VFound) (fault : TextFault) (p : Place) (text : List ℕ) → AreLexemes (FailsBy fault) p text found → tokens_from 0 p text ≡ cut_text found fault
+faults_complete [] fault p text are = fault_then fault p text are
+faults_complete (x ∷ xs) fault p text are =
+    first_then p text x are.0 ∙ ap (λ (s : Ahead VFound). follow x s) (faults_complete xs fault (place_past p (concat are.0.blanks ++ are.0.lexeme)) are.0.rest are.1)
+
+pub fault_law : (p : Place) (text : List ℕ) (found : List VFound) (fault : TextFault) → (tokens_from 0 p text ≡ cut_text found fault) ↔ AreLexemes (FailsBy fault) p text found
+fault_law p text found fault = (λ e. fault_sound found fault p text (subst (λ (s : Ahead VFound). IsStreamOf p text s) e (stream_sound p text)), faults_complete found fault p text)
+
+pub told_fault_law : (p : Place) (text : List ℕ) (found : List VFound) (fault : TextFault) → AreLexemes (FailsBy fault) p text found → stream_from p text ≡ limited (cut_text found fault)
 unfolding stream_from
-told_cut_law p text found are = let cut = cut_complete found p text are in (cut.0, ap limited cut.1)
+told_fault_law p text found fault are = ap limited (faults_complete found fault p text are)

@@ -1,6 +1,6 @@
 -- The tokens of a text by the table of tokens: white space, a lexeme that is the longest that
 -- stands there, and then the rest (IEEE 1364-2005, 3).
-use Rattle.std.specs.Prelude.{◌≡◌, ℕ, ◌+◌, ◌<◌, List, [], ◌∷◌, ◌++◌, length, map}
+use Rattle.std.specs.Prelude.{◌≡◌, ℕ, ◌+◌, ◌<◌, List, [], ◌∷◌, ◌++◌, length, map, take}
 use Rattle.std.specs.List.{concat}
 use Rattle.grammar.specs.Whole.{proper, end, Done, Bad}
 use Rattle.nl_base.specs.declared.place.Place.{Place}
@@ -10,6 +10,7 @@ use Rattle.readers.specs.Sources.{Ahead}
 use Rattle.vlog_tokens.specs.declared.token.VFound.{VFound}
 use Rattle.vlog_tokens.specs.declared.token.VToken.{VToken}
 use Rattle.vlog_lexemes.specs.Lexemes.{IsNext, IsBlank, AreBlanks, seen_behind}
+use Rattle.vlog_lexemes.specs.Faults.{IsFault}
 
 -- the first token of a text that begins at a place
 pub record IsFirst (p : Place) (text : List ℕ) (found : VFound) : Type 0 where
@@ -62,6 +63,18 @@ pub record Fails (p : Place) (text : List ℕ) : Type 0 where
   pub some : 0 < length rest
   pub no_token : Stands rest → ⊥
   pub no_blank : IsBlankFirst rest → ⊥
+
+-- white space, and then bytes that have a fault of the table
+pub record FailsBy (fault : TextFault) (p : Place) (text : List ℕ) : Type 0 where
+  pub blanks : List (List ℕ)
+  pub rest : List ℕ
+  pub before : ℕ
+  pub seen : ℕ
+  pub parts : text ≡ concat blanks ++ rest
+  pub blank : AreBlanks blanks rest
+  pub why : IsFault rest fault.reason before seen
+  pub place : fault.place ≡ place_past (place_past p (concat blanks)) (take before rest)
+  pub stop : fault.stop ≡ (place_past p (concat blanks)).offset + seen
 
 -- the tokens up to the end of the input
 abbrev pub whole_text : List VFound → Place → Ahead VFound

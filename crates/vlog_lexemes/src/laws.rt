@@ -3,7 +3,7 @@ ghost use Rattle.nl_base.specs.declared.fault.TextFault.{TextFault};
 ghost use Rattle.nl_base.specs.declared.place.Place.{Place};
 ghost use Rattle.vlog_tokens.specs.declared.token.VFound.{VFound};
 ghost use Rattle.vlog_tokens.specs.Language.{tokens_from, stream_from, limited};
-ghost use Rattle.vlog_lexemes.specs.Texts.{AreLexemes, EndsAt, Fails, whole_text, cut_text};
+ghost use Rattle.vlog_lexemes.specs.Texts.{AreLexemes, EndsAt, Fails, FailsBy, whole_text, cut_text};
 
 /// The tokens of a text that has no fault are its lexemes, with their places and stops, up to its
 /// end.
@@ -27,9 +27,17 @@ pub fn told_tokens_are_lexemes()
         → stream_from p text ≡ limited (whole_text found last) }
 {}
 
-/// A reader tells of other texts the lexemes before the fault, and the fault, within the limit of an
-/// input.
-pub fn told_faults_are_where_no_token_stands()
-    ensures { (p : Place) (text : List ℕ) (found : List VFound) → AreLexemes Fails p text found
-        → (fault : TextFault) × (stream_from p text ≡ limited (cut_text found fault)) }
+/// The fault is that of the table at this place, with its reason and its stop.
+pub fn faults_are_those_of_the_table()
+    ensures { (p : Place) (text : List ℕ) (found : List VFound) (fault : TextFault)
+        → (tokens_from 0 p text ≡ cut_text found fault)
+        ↔ AreLexemes (FailsBy fault) p text found }
+{}
+
+/// A reader tells of other texts the lexemes before the fault, and the fault, within the limit of
+/// an input.
+pub fn told_faults_are_those_of_the_table()
+    ensures { (p : Place) (text : List ℕ) (found : List VFound) (fault : TextFault)
+        → AreLexemes (FailsBy fault) p text found
+        → stream_from p text ≡ limited (cut_text found fault) }
 {}
