@@ -2,6 +2,7 @@
 use Rattle.std.proofs.Common.{arith, ◌≡◌, ◌≤◌, ◌<◌, ◌^◌, ℕ, zero, suc, ◌+◌, Bool, true, false, cond, ◌||◌, List, [], ◌∷◌, ◌++◌, add-one, append-nil, append_assoc, drop, drop-cons, get_or, length, length-append, map, refl, sym, ap, ◌∙◌, subst}
 use Rattle.std.specs.Borrow.{Bor}
 use Rattle.std.specs.Fmt.{decimal}
+use Rattle.std.proofs.lemmas.Bool.{false≢true}
 use Rattle.std.proofs.lemmas.Fmt.{IsAscii-decimal, length-decimal-le}
 use Rattle.std.proofs.lemmas.List.{map-append}
 use Rattle.std.proofs.lemmas.List.Folds.{list_any-append}
@@ -95,6 +96,12 @@ one_needed needed value values more is e = e ∙ ap (λ b. values ++ cond b (val
 
 pub two_values : (added : List Added) (first second more last : List Bool) → added ≡ [] → more ≡ map value_of added ++ first → last ≡ more ++ second → last ≡ first ++ second
 two_values added first second more last none one two = two ∙ ap (λ l. l ++ second) (one ∙ ap (λ a. map value_of a ++ first) none)
+
+-- no instance is added where neither is needed
+pub nothing_needed : (first second : Bool) (added : List Added) → (first || second) ≡ false → added ≡ [] → map value_of added ≡ cond first (false ∷ []) [] ++ cond second (true ∷ []) []
+nothing_needed true second added h is = absurd (false≢true (sym h))
+nothing_needed false true added h is = absurd (false≢true (sym h))
+nothing_needed false false added h is = ap (map value_of) is
 
 -- ---- the names of the instances of a cell
 

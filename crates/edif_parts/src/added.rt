@@ -1,5 +1,5 @@
 // The instances that are added for the constants.
-ghost use Rattle.std.specs.Prelude.{◌≡◌, ◌++◌, ◌∷◌, [], true, false, cond, map, IfOk, OnOk};
+ghost use Rattle.std.specs.Prelude.{◌≡◌, ◌++◌, ◌∷◌, ◌||◌, [], true, false, cond, map, IfOk, OnOk};
 ghost use Rattle.std.specs.List.{AllByRecursion};
 ghost use Rattle.net_live.specs.Live.{AreCounted, needs_constant as needs_constant_of};
 ghost use Rattle.net_bits.specs.Names.{has_name};
@@ -93,9 +93,17 @@ fn add_constant(
     Ok(())
 }
 
+/// Whether the cell needs a constant.
+fn needs_any(classes: &Classes) -> bool
+    requires { AreCounted classes.now }
+    ensures { result ≡ (needs_constant_of classes.now false || needs_constant_of classes.now true) }
+{
+    needs_constant(classes, false) || needs_constant(classes, true)
+}
+
 /// The instances that are added to a cell: that of the zero and then that of the one, each where the cell needs it.
 #[tactic(auto, using(crate::proofs::AddedLaws::none_added, crate::proofs::AddedLaws::none_named, crate::proofs::AddedLaws::two_values))]
-fn added_to(
+fn named_apart(
     alloc: Global,
     constants: &Constants,
     own: &[HInst],
@@ -129,6 +137,25 @@ fn added_to(
     Ok(added)
 }
 
+/// The instances that are added to a cell, for which no names are gathered where it needs no constant.
+#[tactic(auto, using(crate::proofs::AddedLaws::none_added, crate::proofs::AddedLaws::nothing_needed))]
+fn added_to(
+    alloc: Global,
+    constants: &Constants,
+    own: &[HInst],
+    classes: &Classes,
+) -> Result<Seq<Added>, NoMemory>
+    requires counted { AreCounted classes.now }
+    requires stems { AreStems constants.now }
+    ensures after { IfOk result (AreAdded own.now) }
+    ensures values { IfOk result (λ added. map (λ one. one.value) added ≡ cond (needs_constant_of classes.now false) (false ∷ []) [] ++ cond (needs_constant_of classes.now true) (true ∷ []) []) }
+{
+    if !needs_any(classes) {
+        return Ok(Seq::empty(alloc));
+    }
+    named_apart(alloc, constants, own, classes)
+}
+
 /// The names of the instances of a cell and of those that are added.
 fn all_names<'a>(
     alloc: Global,
@@ -137,7 +164,7 @@ fn all_names<'a>(
 ) -> Result<Vec<&'a [u8]>, NoMemory>
     ensures { IfOk result (λ names. seen names.items ≡ instance_names own.now added.now) }
 {
-    let mut names = Vec::new(alloc);
+    let mut names = Vec::with_capacity(alloc, own.len())?;
     for instance in own {
         names.push(instance.name.bytes())?;
     }

@@ -20,11 +20,11 @@ use std::alloc::Global;
 fn instance_items(alloc: Global, properties: Vec<Property>) -> Result<Seq<InstanceItem>, NoMemory>
     ensures { IfOk result (λ items. items ≡ map instance_items.Property properties.items) }
 {
-    let mut items = Seq::empty(alloc);
+    let mut items = Vec::with_capacity(alloc, properties.len())?;
     for property in properties {
         items.push(InstanceItem::Property(property))?;
     }
-    Ok(items)
+    Ok(Seq::of(items))
 }
 
 /// The identifier of the library.

@@ -64,7 +64,7 @@ fn own_instances(
     ensures faces { IfOk result (λ made. map instance_face made.items ≡ map (own_face plan.now) instances.now) }
     ensures sound { AllByRecursion IsSoundInstance instances.now → IfOk result (λ made. AllByRecursion IsInstance made.items) }
 {
-    let mut made = Vec::new(alloc);
+    let mut made = Vec::with_capacity(alloc, instances.len())?;
     for place in 0..instances.len() {
         let instance = own_instance(alloc, plan, &idents[place], &instances[place])?;
         made.push(instance)?;

@@ -64,7 +64,7 @@ pub fn ports_of(alloc: Global, idents: &[Ident], ports: &[HPort]) -> Result<Vec<
     ensures faces { IfOk result (λ made. map face_of made.items ≡ map face_for ports.now) }
     ensures sound { AllByRecursion IsSoundPort ports.now → IfOk result (λ made. AllByRecursion IsPort made.items) }
 {
-    let mut made = Vec::new(alloc);
+    let mut made = Vec::with_capacity(alloc, ports.len())?;
     for place in 0..ports.len() {
         let port = port_of(alloc, &idents[place], &ports[place])?;
         made.push(port)?;

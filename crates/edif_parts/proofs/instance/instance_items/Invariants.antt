@@ -3,4 +3,4 @@ use Rattle.edif_nets.specs.declared.instance.InstanceItem.TheVariants as instanc
 use Rattle.edif_parts.proofs.instance.instance_items.Given as goal
 
 abbrev pub invariant-loop-property : goal.invariant-loop-property
-invariant-loop-property l = l.items ≡ map instance_items.Property l.yielded
+invariant-loop-property l = l.items.items ≡ map instance_items.Property l.yielded
