@@ -81,12 +81,14 @@ impl<T: Drop> Seq<T> {
         }
     }
 
-    /// Makes room for one more of the first items alone, since most lists of a netlist are short.
+    /// Makes room for one, two and four of the first items, since most lists of a netlist are short.
     fn make_room(&mut self) -> Result<(), NoMemory>
         ensures { self.new ≡ self.old }
     {
-        if self.items.is_empty() {
-            self.items.reserve_exact(1)?;
+        let count = self.items.len();
+        if count == self.items.capacity() && count < 4 {
+            self.items
+                .reserve_exact(if count == 0 { 1 } else { count })?;
         }
         Ok(())
     }
