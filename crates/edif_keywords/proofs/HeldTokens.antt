@@ -181,18 +181,31 @@ opens_mark x mark e = ap is_opening e ∙ by (mark == 40)
     by true = refl
     by false = refl
 
+opens_word : (x : Found) (w : List ℕ) → x.token ≡ Word w → opens x ≡ false
+unfolding opens
+opens_word x w e = ap is_opening e
+
+-- a token that is held is looked at
+token_looked : (t : Token) (a c : Reader (List Alias) Found) (b : Bool) (i : Supply) → (m : HeldTaken t a c i) → opens m.token ≡ b → LooksAt edif opens (Ok b) a a i i
+token_looked t a c b i m opened = record {
+  value = (subst (λ (b : Bool). IsToken opens b (stream edif a i)) opened (next_is edif opens a.context m.token (stream edif a i) (stream edif c i) m.reads.value.0), (refl, refl, omega arith));
+  error = tt;
+  moves = still a.window i;
+  unspent = m.reads.unspent;
+  spent = tt;
+  spends = m.reads.unspent;
+  cause = tt;
+  near = tt;
+}
+
 -- the parenthesis that is next is looked at
 pub form_held : (a : Reader (List Alias) Found) (mark : ℕ) (b : Bool) → held_mark a ≡ Some mark → length a.window.held ≤ 4096 → (i : Supply) → b ≡ (mark == 40) → LooksAt edif opens (Ok b) a a i i
 form_held a mark b e small i is =
     let m = mark_taken a mark e small i in
-    let opened : opens m.token ≡ b = opens_mark m.token mark m.is ∙ sym is in
-    record {
-      value = (subst (λ (b : Bool). IsToken opens b (stream edif a i)) opened (next_is edif opens a.context m.token (stream edif a i) (stream edif (past_mark a) i) m.reads.value.0), (refl, refl, omega arith));
-      error = tt;
-      moves = still a.window i;
-      unspent = m.reads.unspent;
-      spent = tt;
-      spends = m.reads.unspent;
-      cause = tt;
-      near = tt;
-    }
+    token_looked (mark_token mark) a (past_mark a) b i m (opens_mark m.token mark m.is ∙ sym is)
+
+-- the word that is next is looked at
+pub no_form_held : (a : Reader (List Alias) Found) → 0 < length (held_word a) → length a.window.held ≤ 4096 → (i : Supply) → LooksAt edif opens (Ok false) a a i i
+no_form_held a some small i =
+    let m = word_taken a some small i in
+    token_looked (Word (held_word a)) a (past_word a) false i m (opens_word m.token (held_word a) m.is)

@@ -218,6 +218,10 @@ impl Cursor {
         if let Some(mark) = self.held_mark() {
             return Ok(mark == b'(');
         }
+        let count = self.held_word().len();
+        if count > 0 {
+            return Ok(false);
+        }
         self.look_form(alloc, source)
     }
 
@@ -235,7 +239,7 @@ impl Cursor {
         }
     }
 
-    /// Makes the next token the one ahead, and answers whether there is one that is a string. It takes nothing.
+    /// Answers whether there is a next token and it is a string. It takes nothing.
     #[tactic(auto, using(crate::proofs::Looks::strings_next))]
     pub fn at_string<S: Source>(&mut self, alloc: Global, source: &mut S) -> Result<bool, ReadError>
         ensures { LooksFor edif has_string result self.old self.new (supply S.left S.faults source.old) (supply S.left S.faults source.new) }
