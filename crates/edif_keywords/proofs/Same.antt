@@ -16,7 +16,7 @@ spelled_alike a b h =
 pub same_as_itself : (a b : Keyword) → a ≡ b → same_keyword a b ≡ true
 same_as_itself a b e = (bytes_eq-Decides (spelling a) (spelling b)).1 (ap spelling e)
 
-one_answer : (r s : Bool) → (r ≡ true → s ≡ true) → (s ≡ true → r ≡ true) → r ≡ s
+pub one_answer : (r s : Bool) → (r ≡ true → s ≡ true) → (s ≡ true → r ≡ true) → r ≡ s
 one_answer true s f g = sym (f refl)
 one_answer false true f g = g refl
 one_answer false false f g = refl

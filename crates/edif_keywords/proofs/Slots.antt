@@ -66,7 +66,7 @@ slots (x ∷ xs) (y ∷ ys) e =
     ap (λ n. of_slot ((n + 41 * small x) % 64)) count ∙ ap (λ s. of_slot ((length (y ∷ ys) + 41 * s) % 64)) first
 
 -- a keyword that is spelled so is the one that is found, in the slot and among all
-found : (word : List ℕ) (a : Keyword) → is_spelled word a ≡ true → (find (is_spelled word) (candidates word) ≡ Some a) × (keyword_of word ≡ Some a)
+pub found : (word : List ℕ) (a : Keyword) → is_spelled word a ≡ true → (find (is_spelled word) (candidates word) ≡ Some a) × (keyword_of word ≡ Some a)
 unfolding keyword_of
 found word a h =
     let e = small_letters word (spelling a) h in (

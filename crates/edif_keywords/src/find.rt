@@ -3,7 +3,7 @@ ghost use Rattle.std.specs.List.{find};
 ghost use Rattle.edif_keywords.specs.Keywords.{keyword_of, allowed_keyword, is_spelled};
 ghost use Rattle.edif_keywords.specs.Slots.{candidates, of_slot, part, start_at};
 
-use crate::keyword::{Keyword, is_among, spelling};
+use crate::keyword::{Keyword, spelling};
 use nl_base::fold_eq;
 
 /// How many slots there are. A word's slot is a number made of its length and its first letter.
@@ -226,13 +226,11 @@ pub fn find_keyword(word: &[u8]) -> Option<Keyword>
     find_among(word, candidates(word))
 }
 
-/// The keyword that is spelled so, up to case, where it is one of those that are allowed.
+/// The keyword that is spelled so, up to case, where it is one of those that are allowed: these are few, and the word is compared
+/// with each.
+#[tactic(auto, using(crate::proofs::Allowed::allowed_suffice))]
 pub(crate) fn find_allowed(word: &[u8], allowed: &[Keyword]) -> Option<Keyword>
     ensures { result ≡ allowed_keyword allowed.now word.now }
 {
-    let keyword = find_keyword(word)?;
-    if is_among(allowed, keyword) {
-        return Some(keyword);
-    }
-    None
+    find_among(word, allowed)
 }
