@@ -4,18 +4,18 @@ use Rattle.std.specs.List.{list_any}
 use Rattle.std.proofs.lemmas.List.{map-append, take_more}
 use Rattle.std.proofs.lemmas.List.Folds.{list_any-append}
 use Rattle.std.proofs.lemmas.Slice.Eq.{bytes_eq-Decides}
-use Rattle.std.specs.Borrow.{Bor}
 use Rattle.std.specs.Str.{bytes_eq}
 use Rattle.indexmap.specs.IndexSet.{insert_key}
 use Rattle.nl_base.specs.Case.{same_bytes}
 use Rattle.edif_lookup.specs.Refusals.{is_in}
+use Rattle.edif_lookup.specs.declared.keys.Name.{Name}
 
-abbrev texts : List (Bor (List ℕ)) → List (List ℕ)
-texts = map (λ key. key.now)
+abbrev texts : List Name → List (List ℕ)
+texts = map (λ key. key.bytes.now)
 
-list_any_texts : (p : List ℕ → Bool) (keys : List (Bor (List ℕ))) → list_any (λ key. p key.now) keys ≡ list_any p (texts keys)
+list_any_texts : (p : List ℕ → Bool) (keys : List Name) → list_any (λ key. p key.bytes.now) keys ≡ list_any p (texts keys)
 list_any_texts p [] = refl
-list_any_texts p (key ∷ keys) = ap (λ b. p key.now || b) (list_any_texts p keys)
+list_any_texts p (key ∷ keys) = ap (λ b. p key.bytes.now || b) (list_any_texts p keys)
 
 not-not : (b : Bool) → not (not b) ≡ b
 not-not true = refl
@@ -31,17 +31,17 @@ or_comm true false = refl
 or_comm false true = refl
 or_comm false false = refl
 
-pub note_known : (keys : List (Bor (List ℕ))) (name : List ℕ) (fresh : Bool) → fresh ≡ not (list_any (λ key. same_bytes name key.now) keys) → not fresh ≡ is_in name (texts keys)
-note_known keys name fresh h = ap not h ∙ (not-not (list_any (λ key. same_bytes name key.now) keys) ∙ list_any_texts (same_bytes name) keys)
+pub note_known : (keys : List Name) (name : List ℕ) (fresh : Bool) → fresh ≡ not (list_any (λ key. same_bytes name key.bytes.now) keys) → not fresh ≡ is_in name (texts keys)
+note_known keys name fresh h = ap not h ∙ (not-not (list_any (λ key. same_bytes name key.bytes.now) keys) ∙ list_any_texts (same_bytes name) keys)
 
-pub note_noted : (keys new : List (Bor (List ℕ))) (name : Bor (List ℕ)) → new ≡ insert_key (λ x y. bytes_eq x.now y.now) keys name → (other : List ℕ) → is_in other (texts new) ≡ (same_bytes other name.now || is_in other (texts keys))
-note_noted keys new name is_new other = ap (λ ks. is_in other (texts ks)) is_new ∙ by (list_any (λ key. bytes_eq name.now key.now) keys) refl
+pub note_noted : (keys new : List Name) (name : Name) → new ≡ insert_key (λ x y. bytes_eq x.bytes.now y.bytes.now) keys name → (other : List ℕ) → is_in other (texts new) ≡ (same_bytes other name.bytes.now || is_in other (texts keys))
+note_noted keys new name is_new other = ap (λ ks. is_in other (texts ks)) is_new ∙ by (list_any (λ key. bytes_eq name.bytes.now key.bytes.now) keys) refl
   where
-    by : (b : Bool) → list_any (λ key. bytes_eq name.now key.now) keys ≡ b → is_in other (texts (cond b keys (keys ++ name ∷ []))) ≡ (same_bytes other name.now || is_in other (texts keys))
-    by true h = or_again (same_bytes other name.now) (is_in other (texts keys)) (λ e. subst (λ s. is_in s (texts keys) ≡ true) (sym ((bytes_eq-Decides other name.now).0 e)) (sym (list_any_texts (same_bytes name.now) keys) ∙ h))
+    by : (b : Bool) → list_any (λ key. bytes_eq name.bytes.now key.bytes.now) keys ≡ b → is_in other (texts (cond b keys (keys ++ name ∷ []))) ≡ (same_bytes other name.bytes.now || is_in other (texts keys))
+    by true h = or_again (same_bytes other name.bytes.now) (is_in other (texts keys)) (λ e. subst (λ s. is_in s (texts keys) ≡ true) (sym ((bytes_eq-Decides other name.bytes.now).0 e)) (sym (list_any_texts (same_bytes name.bytes.now) keys) ∙ h))
     by false h =
-        ap (list_any (same_bytes other)) (map-append (λ key. key.now) keys (name ∷ []))
-        ∙ (list_any-append (same_bytes other) (texts keys) (name.now ∷ []) ∙ or_comm (same_bytes other name.now) (is_in other (texts keys)))
+        ap (list_any (same_bytes other)) (map-append (λ key. key.bytes.now) keys (name ∷ []))
+        ∙ (list_any-append (same_bytes other) (texts keys) (name.bytes.now ∷ []) ∙ or_comm (same_bytes other name.bytes.now) (is_in other (texts keys)))
 
 -- one more name among those before
 pub names_turn : {A : Type 0} (name : A → List ℕ) (items : List A) (i : ℕ) (d : A) → i < length items → (old new : List (List ℕ)) (noted : List ℕ) → noted ≡ name (get_or items i d)

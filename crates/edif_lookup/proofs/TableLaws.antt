@@ -1,6 +1,6 @@
 -- One more entry in a look-up table.
-use Rattle.std.proofs.Common.{◌≡◌, ℕ, ◌+◌, ◌<◌, Bool, true, false, cond, List, [], ◌∷◌, ◌++◌, map, length, take, get_or, Option, Some, None, is_some, refl, sym, ap, ◌∙◌, subst}
-use Rattle.std.proofs.lemmas.List.{append-nil, map-append, take_more}
+use Rattle.std.proofs.Common.{◌≡◌, ℕ, ◌+◌, ◌<◌, Bool, true, false, cond, List, [], ◌∷◌, ◌++◌, map, length, take, drop, get_or, filter, ◌||◌, Option, Some, None, is_some, refl, sym, ap, ◌∙◌, subst}
+use Rattle.std.proofs.lemmas.List.{append-nil, map-append, take-append-drop, take_more}
 use Rattle.std.proofs.lemmas.List.Elements.{filter-append}
 use Rattle.std.proofs.lemmas.Bool.{false≢true}
 use Rattle.std.proofs.lemmas.Slice.Eq.{bytes_eq-Decides}
@@ -9,14 +9,13 @@ use Rattle.std.specs.Borrow.{Bor}
 use Rattle.std.specs.Option.{option_copied}
 use Rattle.std.specs.Str.{bytes_eq}
 use Rattle.std.specs.Map.{lookup}
-use Rattle.std.specs.declared.alloc.Global.{Global}
 use Rattle.std.proofs.lemmas.Bool.Decides.{same_from_decides}
-use Rattle.std.specs.Prelude.{Vec}
 use Rattle.indexmap.specs.IndexMap.{IndexMap, get_by, UpdatesBy, insert_entry}
-use Rattle.nl_base.specs.Case.{same_bytes, small}
-use Rattle.edif_lookup.specs.Tables.{HoldsSpellings, HoldsSmall, first_number, meaning, meant_by, meant_in, one_more, small_so, spelled_so, summary, written}
+use Rattle.nl_base.specs.Case.{same_bytes, same_up_to_case, small}
+use Rattle.edif_lookup.specs.Tables.{HasTables, HoldsSpellings, HoldsSmall, at_small, first_number, is_several, meaning, meant_by, meant_in, one_more, small_so, spelled_or_several, spelled_so, summary, written}
 use Rattle.edif_lookup.specs.declared.definitions.Alike.{Alike}
 use Rattle.edif_lookup.specs.declared.definitions.Meaning.TheVariants.{One}
+use Rattle.edif_lookup.specs.declared.keys.Folded.{Folded}
 use Rattle.edif_lookup.specs.Candidates.{first_or_all}
 
 abbrev or_else : {X : Type 0} → Option X → Option X → Option X
@@ -125,37 +124,83 @@ summary_push (one ∷ (two ∷ (three ∷ rest))) x = refl
 bytes_eq-sym : (xs ys : List ℕ) → bytes_eq xs ys ≡ bytes_eq ys xs
 bytes_eq-sym xs ys = same_from_decides (bytes_eq xs ys) (bytes_eq ys xs) (bytes_eq-Decides xs ys) (λ e. sym ((bytes_eq-Decides ys xs).0 e), λ e. (bytes_eq-Decides ys xs).1 (sym e))
 
-module _ {S : Type 0} (entries : List (ℕ × List ℕ)) (number : ℕ) (spelling : List ℕ) (old new : IndexMap (Vec ℕ Global) Alike S) (holds : HoldsSmall entries old)
-    (key : Vec ℕ Global) (is_key : key.items ≡ map small spelling) (alike : Alike) (is_alike : alike ≡ one_more (get_by (λ k. same_bytes key.items k.items) old) number)
-    (is_new : new.entries ≡ insert_entry (λ x y. bytes_eq x.items y.items) old.entries key alike) where
-  after : (other : List ℕ) → get_by (λ k. same_bytes other k.items) new ≡ cond (same_bytes other key.items) (Some alike) (get_by (λ k. same_bytes other k.items) old)
-  after other =
-      ap (lookup (λ k. same_bytes other k.items)) is_new
-      ∙ lookup-insert_entry (λ x y. bytes_eq x.items y.items) (λ k. same_bytes other k.items) key alike
-      (λ x e. ap (same_bytes other) (sym ((bytes_eq-Decides key.items x.items).0 e)))
-      (λ e x. ap (λ s. same_bytes s x.items) ((bytes_eq-Decides other key.items).0 e)) old.entries
+-- what a table of names up to case has after an insert
+pub at_small-added : {S : Type 0} (old new : IndexMap Folded Alike S) (key : Folded) (alike : Alike) → new.entries ≡ insert_entry (λ x y. same_up_to_case x.bytes.now y.bytes.now) old.entries key alike
+    → (other : List ℕ) → at_small other new ≡ cond (same_bytes other (map small key.bytes.now)) (Some alike) (at_small other old)
+at_small-added old new key alike is_new other =
+    ap (lookup (λ k. same_bytes other (map small k.bytes.now))) is_new
+    ∙ lookup-insert_entry (λ x y. same_up_to_case x.bytes.now y.bytes.now) (λ k. same_bytes other (map small k.bytes.now)) key alike
+    (λ x e. ap (same_bytes other) (sym ((bytes_eq-Decides (map small key.bytes.now) (map small x.bytes.now)).0 e)))
+    (λ e x. ap (λ s. same_bytes s (map small x.bytes.now)) ((bytes_eq-Decides other (map small key.bytes.now)).0 e)) old.entries
 
-  small_by : (other : List ℕ) (b : Bool) → (b ≡ true → other ≡ key.items)
-      → cond b (Some alike) (get_by (λ k. same_bytes other k.items) old) ≡ summary (small_so other entries ++ cond b ((number, spelling) ∷ []) [])
-  small_by other false h = holds other ∙ ap summary (sym (append-nil (small_so other entries)))
-  small_by other true h =
-      ap Some (is_alike ∙ (ap (λ s. one_more (get_by (λ k. same_bytes s k.items) old) number) (sym (h refl)) ∙ ap (λ s. one_more s number) (holds other)))
-      ∙ sym (summary_push (small_so other entries) (number, spelling))
+pub more_where_some : (known : Option Alike) (number : ℕ) → (one_more known number).more ≡ is_some known
+more_where_some None number = refl
+more_where_some (Some alike) number = refl
 
-  pub HoldsSmall-added : HoldsSmall (entries ++ (number, spelling) ∷ []) new
-  HoldsSmall-added other =
-      let same : same_bytes other key.items ≡ same_bytes (map small spelling) other = bytes_eq-sym other key.items ∙ ap (λ s. same_bytes s other) is_key in
-      after other
-      ∙ (small_by other (same_bytes other key.items) (bytes_eq-Decides other key.items).0
+module _ {S : Type 0} (number : ℕ) (key : List ℕ) (old new : IndexMap Folded Alike S)
+    (added : (other : List ℕ) → at_small other new ≡ cond (same_bytes other key) (Some (one_more (at_small key old) number)) (at_small other old)) where
+  small_by : (entries : List (ℕ × List ℕ)) (spelling : List ℕ) → HoldsSmall entries old → (other : List ℕ) (b : Bool) → (b ≡ true → other ≡ key)
+      → cond b (Some (one_more (at_small key old) number)) (at_small other old) ≡ summary (small_so other entries ++ cond b ((number, spelling) ∷ []) [])
+  small_by entries spelling holds other false h = holds other ∙ ap summary (sym (append-nil (small_so other entries)))
+  small_by entries spelling holds other true h =
+      ap Some (ap (λ s. one_more (at_small s old) number) (sym (h refl)) ∙ ap (λ s. one_more s number) (holds other)) ∙ sym (summary_push (small_so other entries) (number, spelling))
+
+  HoldsSmall-added : (entries : List (ℕ × List ℕ)) (spelling : List ℕ) → key ≡ map small spelling → HoldsSmall entries old → HoldsSmall (entries ++ (number, spelling) ∷ []) new
+  HoldsSmall-added entries spelling is_key holds other =
+      let same : same_bytes other key ≡ same_bytes (map small spelling) other = bytes_eq-sym other key ∙ ap (λ s. same_bytes s other) is_key in
+      added other
+      ∙ (small_by entries spelling holds other (same_bytes other key) (bytes_eq-Decides other key).0
       ∙ (ap (λ b. summary (small_so other entries ++ cond b ((number, spelling) ∷ []) [])) same
       ∙ ap summary (sym (filter-append (λ entry. same_bytes (map small entry.1) other) entries ((number, spelling) ∷ [])))))
 
+  -- none alike before, and none alike now
+  pub several_turn : (several known now : Bool) → (several ≡ false → (other : List ℕ) → is_several (at_small other old) ≡ false) → known ≡ is_some (at_small key old) → now ≡ (several || known)
+      → now ≡ false → (other : List ℕ) → is_several (at_small other new) ≡ false
+  several_turn true known now before is_known is_now none other = absurd (false≢true (sym none ∙ is_now))
+  several_turn false true now before is_known is_now none other = absurd (false≢true (sym none ∙ is_now))
+  several_turn false false now before is_known is_now none other = ap is_several (added other) ∙ by (same_bytes other key)
+    where
+      by : (b : Bool) → is_several (cond b (Some (one_more (at_small key old) number)) (at_small other old)) ≡ false
+      by true = more_where_some (at_small key old) number ∙ sym is_known
+      by false = before refl other
+
 -- a turn of the loop that fills the table
-pub small_turn : {S : Type 0} (entries : List (ℕ × Bor (List ℕ))) (i : ℕ) (d : ℕ × Bor (List ℕ)) → i < length entries → (old new : IndexMap (Vec ℕ Global) Alike S) → HoldsSmall (written (take i entries)) old
-    → (key : Vec ℕ Global) → key.items ≡ map small (get_or entries i d).1.now → (alike : Alike) → alike ≡ one_more (get_by (λ k. same_bytes key.items k.items) old) (get_or entries i d).0
-    → new.entries ≡ insert_entry (λ x y. bytes_eq x.items y.items) old.entries key alike → HoldsSmall (written (take (i + 1) entries)) new
-small_turn entries i d within old new holds key is_key alike is_alike is_new =
-    subst (λ es. HoldsSmall es new) (sym (written_more entries i d within)) (HoldsSmall-added (written (take i entries)) (get_or entries i d).0 (get_or entries i d).1.now old new holds key is_key alike is_alike is_new)
+pub small_turn : {S : Type 0} (entries : List (ℕ × Bor (List ℕ))) (i : ℕ) (d : ℕ × Bor (List ℕ)) → i < length entries → (old new : IndexMap Folded Alike S) → HoldsSmall (written (take i entries)) old
+    → ((other : List ℕ) → at_small other new ≡ cond (same_bytes other (map small (get_or entries i d).1.now)) (Some (one_more (at_small (map small (get_or entries i d).1.now) old) (get_or entries i d).0)) (at_small other old))
+    → HoldsSmall (written (take (i + 1) entries)) new
+small_turn entries i d within old new holds added =
+    subst (λ es. HoldsSmall es new) (sym (written_more entries i d within))
+    (HoldsSmall-added (get_or entries i d).0 (map small (get_or entries i d).1.now) old new added (written (take i entries)) (get_or entries i d).1.now refl holds)
+
+-- one more definition that is looked at
+module _ (entries : List (ℕ × Bor (List ℕ))) (i : ℕ) (d : ℕ × Bor (List ℕ)) (within : i < length entries) (spelling : List ℕ) where
+  pub first_turn : first_number (spelled_so spelling (written (take i entries))) ≡ None → same_bytes (get_or entries i d).1.now spelling ≡ false → first_number (spelled_so spelling (written (take (i + 1) entries))) ≡ None
+  first_turn before other =
+      ap (λ es. first_number (spelled_so spelling es)) (written_more entries i d within)
+      ∙ (more (written (take i entries)) (get_or entries i d).0 (get_or entries i d).1.now spelling
+      ∙ (λ j. or_else (before j) (cond (other j) (Some (get_or entries i d).0) None)))
+
+  pub first_found : first_number (spelled_so spelling (written (take i entries))) ≡ None → same_bytes (get_or entries i d).1.now spelling ≡ true → Some (get_or entries i d).0 ≡ first_number (spelled_so spelling (written entries))
+  first_found before same =
+      let all : written entries ≡ written (take (i + 1) entries) ++ written (drop (i + 1) entries) = ap written (sym (take-append-drop (i + 1) entries)) ∙ map-append (λ entry. (entry.0, entry.1.now)) (take (i + 1) entries) (drop (i + 1) entries) in
+      sym (ap (λ es. first_number (spelled_so spelling es)) all
+      ∙ (ap first_number (filter-append (λ entry. same_bytes entry.1 spelling) (written (take (i + 1) entries)) (written (drop (i + 1) entries)))
+      ∙ (first_number-append (spelled_so spelling (written (take (i + 1) entries))) (spelled_so spelling (written (drop (i + 1) entries)))
+      ∙ ap (λ x. or_else x (first_number (spelled_so spelling (written (drop (i + 1) entries)))))
+      (ap (λ es. first_number (spelled_so spelling es)) (written_more entries i d within)
+      ∙ (more (written (take i entries)) (get_or entries i d).0 (get_or entries i d).1.now spelling ∙ (λ j. or_else (before j) (cond (same j) (Some (get_or entries i d).0) None)))))))
+
+  pub alike_turn : (known now : Option Alike) (alike : Bool) → known ≡ summary (small_so (map small spelling) (written (take i entries))) → alike ≡ same_up_to_case (get_or entries i d).1.now spelling
+      → now ≡ cond alike (Some (one_more known (get_or entries i d).0)) known → now ≡ summary (small_so (map small spelling) (written (take (i + 1) entries)))
+  alike_turn known now alike before is_alike is_now =
+      is_now
+      ∙ (by alike
+      ∙ ((λ j. summary (small_so (map small spelling) (written (take i entries)) ++ cond (is_alike j) (((get_or entries i d).0, (get_or entries i d).1.now) ∷ []) []))
+      ∙ ap summary (sym (ap (small_so (map small spelling)) (written_more entries i d within) ∙ filter-append (λ entry. same_bytes (map small entry.1) (map small spelling)) (written (take i entries)) (((get_or entries i d).0, (get_or entries i d).1.now) ∷ [])))))
+    where
+      by : (b : Bool) → cond b (Some (one_more known (get_or entries i d).0)) known ≡ summary (small_so (map small spelling) (written (take i entries)) ++ cond b (((get_or entries i d).0, (get_or entries i d).1.now) ∷ []) [])
+      by true = ap (λ k. Some (one_more k (get_or entries i d).0)) before ∙ sym (summary_push (small_so (map small spelling) (written (take i entries))) ((get_or entries i d).0, (get_or entries i d).1.now))
+      by false = before ∙ ap summary (sym (append-nil (small_so (map small spelling) (written (take i entries)))))
 
 meant_first : (xs ys : List (ℕ × List ℕ)) (number : ℕ) → first_number xs ≡ Some number → meant_by (first_or_all xs ys) ≡ One number
 meant_first [] ys number h = cc
@@ -167,12 +212,62 @@ meant_else [] (y ∷ []) h = refl
 meant_else [] (y ∷ (z ∷ ys)) h = refl
 meant_else (x ∷ xs) ys h = cc
 
--- what the two tables find
-module _ {S T : Type 0} (entries : List (ℕ × List ℕ)) (by_spelling : IndexMap (Bor (List ℕ)) ℕ S) (by_small : IndexMap (Vec ℕ Global) Alike T) (spellings : HoldsSpellings entries by_spelling) (smalls : HoldsSmall entries by_small) (spelling : List ℕ) where
-  pub meaning-found : (number : ℕ) → Some number ≡ get_by (λ key. same_bytes spelling key.now) by_spelling → One number ≡ meaning entries spelling
-  meaning-found number h = sym (meant_first (spelled_so spelling entries) (small_so (map small spelling) entries) number (sym (h ∙ spellings spelling)))
+alike_where_same : (name spelling : List ℕ) → same_bytes name spelling ≡ true → same_up_to_case name spelling ≡ true
+alike_where_same name spelling same = (bytes_eq-Decides (map small name) (map small spelling)).1 (ap (map small) ((bytes_eq-Decides name spelling).0 same))
 
-  pub meaning-small : None ≡ get_by (λ key. same_bytes spelling key.now) by_spelling → (key : List ℕ) → key ≡ map small spelling → (found : Option Alike) → found ≡ get_by (λ k. same_bytes key k.items) by_small
-      → meant_in found ≡ meaning entries spelling
-  meaning-small h key is_key found is_found =
-      ap meant_in (is_found ∙ (smalls key ∙ ap (λ s. summary (small_so s entries)) is_key)) ∙ sym (meant_else (spelled_so spelling entries) (small_so (map small spelling) entries) (sym (h ∙ spellings spelling)))
+-- names alike up to case, of names that are the same or that are compared up to case
+pub alike_of_same : (name spelling : List ℕ) (same : Bool) → same ≡ same_bytes name spelling → same ≡ true → true ≡ same_up_to_case name spelling
+alike_of_same name spelling same is_same holds = sym (alike_where_same name spelling (sym is_same ∙ holds))
+
+-- what is spelled so is alike up to case
+spelled_within : (spelling : List ℕ) (entries : List (ℕ × List ℕ)) → spelled_so spelling entries ≡ filter (λ entry. same_bytes entry.1 spelling) (small_so (map small spelling) entries)
+spelled_within spelling [] = refl
+spelled_within spelling (entry ∷ rest) = by (same_bytes entry.1 spelling) (same_up_to_case entry.1 spelling) refl refl (spelled_within spelling rest)
+  where
+    by : (b c : Bool) → same_bytes entry.1 spelling ≡ b → same_up_to_case entry.1 spelling ≡ c → spelled_so spelling rest ≡ filter (λ e. same_bytes e.1 spelling) (small_so (map small spelling) rest)
+        → cond b (entry ∷ spelled_so spelling rest) (spelled_so spelling rest) ≡ filter (λ e. same_bytes e.1 spelling) (cond c (entry ∷ small_so (map small spelling) rest) (small_so (map small spelling) rest))
+    by true true same alike h = ap (λ l. entry ∷ l) h ∙ sym (ap (λ t. cond t (entry ∷ filter (λ e. same_bytes e.1 spelling) (small_so (map small spelling) rest)) (filter (λ e. same_bytes e.1 spelling) (small_so (map small spelling) rest))) same)
+    by true false same alike h = absurd (false≢true (sym alike ∙ alike_where_same entry.1 spelling same))
+    by false true same alike h = h ∙ sym (ap (λ t. cond t (entry ∷ filter (λ e. same_bytes e.1 spelling) (small_so (map small spelling) rest)) (filter (λ e. same_bytes e.1 spelling) (small_so (map small spelling) rest))) same)
+    by false false same alike h = h
+
+-- what definitions mean of which at most one is alike
+one_meant : (p : ℕ × List ℕ → Bool) (alike : List (ℕ × List ℕ)) → is_several (summary alike) ≡ false → meant_in (summary alike) ≡ meant_by (first_or_all (filter p alike) alike)
+one_meant p [] h = refl
+one_meant p (one ∷ []) h = by (p one)
+  where
+    by : (b : Bool) → One one.0 ≡ meant_by (first_or_all (cond b (one ∷ []) []) (one ∷ []))
+    by true = refl
+    by false = refl
+one_meant p (one ∷ (two ∷ rest)) h = absurd (false≢true (sym h))
+
+several_meant : (same alike : List (ℕ × List ℕ)) → is_several (summary alike) ≡ true → spelled_or_several (first_number same) ≡ meant_by (first_or_all same alike)
+several_meant [] [] h = absurd (false≢true h)
+several_meant [] (one ∷ []) h = absurd (false≢true h)
+several_meant [] (one ∷ (two ∷ rest)) h = refl
+several_meant (first ∷ same) alike h = refl
+
+-- what a look at each definition finds
+module _ (entries : List (ℕ × List ℕ)) (spelling : List ℕ) where
+  pub meaning-spelled : (number : ℕ) → Some number ≡ first_number (spelled_so spelling entries) → One number ≡ meaning entries spelling
+  meaning-spelled number h = sym (meant_first (spelled_so spelling entries) (small_so (map small spelling) entries) number (sym h))
+
+  pub meaning-alike : (first : Option ℕ) → None ≡ first → first ≡ first_number (spelled_so spelling entries) → meant_in (summary (small_so (map small spelling) entries)) ≡ meaning entries spelling
+  meaning-alike first none is_first = sym (meant_else (spelled_so spelling entries) (small_so (map small spelling) entries) (sym (none ∙ is_first)))
+
+-- what the two tables find
+module _ {S T : Type 0} (entries : List (ℕ × List ℕ)) (by_spelling : IndexMap (Bor (List ℕ)) ℕ S) (by_small : IndexMap Folded Alike T) (has : HasTables entries by_spelling by_small) (spelling : List ℕ)
+    (known : Option Alike) (is_known : known ≡ at_small (map small spelling) by_small) where
+  is_summary : known ≡ summary (small_so (map small spelling) entries)
+  is_summary = is_known ∙ has.smalls (map small spelling)
+
+  pub meaning-small : is_several known ≡ false → meant_in known ≡ meaning entries spelling
+  meaning-small one =
+      ap meant_in is_summary
+      ∙ (one_meant (λ entry. same_bytes entry.1 spelling) (small_so (map small spelling) entries) (ap is_several (sym is_summary) ∙ one)
+      ∙ ap (λ same. meant_by (first_or_all same (small_so (map small spelling) entries))) (sym (spelled_within spelling entries)))
+
+  pub meaning-found : is_several known ≡ true → (number : Option ℕ) → number ≡ get_by (λ key. same_bytes spelling key.now) by_spelling → spelled_or_several number ≡ meaning entries spelling
+  meaning-found several number is_number =
+      ap spelled_or_several (is_number ∙ has.spellings (map small spelling) (ap is_several (sym is_known) ∙ several) spelling)
+      ∙ several_meant (spelled_so spelling entries) (small_so (map small spelling) entries) (ap is_several (sym is_summary) ∙ several)

@@ -1,15 +1,14 @@
 -- What the look-up tables hold.
-use Rattle.std.specs.Prelude.{◌≡◌, ℕ, true, false, cond, List, [], ◌∷◌, map, Option, Some, None}
+use Rattle.std.specs.Prelude.{◌≡◌, ℕ, Bool, true, false, cond, List, [], ◌∷◌, map, Option, Some, None}
 use Rattle.std.specs.List.{filter}
 use Rattle.std.specs.Borrow.{Bor}
-use Rattle.std.specs.declared.alloc.Global.{Global}
-use Rattle.std.specs.declared.vec.Vec.{Vec}
 use Rattle.indexmap.specs.IndexMap.{IndexMap, get_by}
 use Rattle.nl_base.specs.Case.{small, same_bytes}
 use Rattle.edif_lookup.specs.Candidates.{candidates}
 use Rattle.edif_lookup.specs.declared.definitions.Alike.{Alike}
 use Rattle.edif_lookup.specs.declared.definitions.Meaning.{Meaning}
 use Rattle.edif_lookup.specs.declared.definitions.Meaning.TheVariants.{Nothing, One, Several}
+use Rattle.edif_lookup.specs.declared.keys.Folded.{Folded}
 
 -- entries as they are written: a number and a spelling
 abbrev pub written : List (ℕ × Bor (List ℕ)) → List (ℕ × List ℕ)
@@ -57,9 +56,28 @@ abbrev pub meant_in : Option Alike → Meaning
 meant_in None = Nothing
 meant_in (Some alike) = cond alike.more Several (One alike.first)
 
+-- what the table has at a spelling in small letters
+abbrev pub at_small : {S : Type 0} → List ℕ → IndexMap Folded Alike S → Option Alike
+at_small spelling table = get_by (λ key. same_bytes spelling (map small key.bytes.now)) table
+
 -- the table has at each spelling in small letters the summary of the entries with it
-abbrev pub HoldsSmall : {S : Type 0} → List (ℕ × List ℕ) → IndexMap (Vec ℕ Global) Alike S → Type 0
-HoldsSmall entries table = (spelling : List ℕ) → get_by (λ key. same_bytes spelling key.items) table ≡ summary (small_so spelling entries)
+abbrev pub HoldsSmall : {S : Type 0} → List (ℕ × List ℕ) → IndexMap Folded Alike S → Type 0
+HoldsSmall entries table = (spelling : List ℕ) → at_small spelling table ≡ summary (small_so spelling entries)
+
+-- whether there are several
+abbrev pub is_several : Option Alike → Bool
+is_several None = false
+is_several (Some alike) = alike.more
+
+-- the definition with this number, or where there is none, one of several
+abbrev pub spelled_or_several : Option ℕ → Meaning
+spelled_or_several None = Several
+spelled_or_several (Some number) = One number
+
+-- the tables of entries; that of the spellings holds where several entries are alike up to case
+pub record HasTables {S T : Type 0} (entries : List (ℕ × List ℕ)) (by_spelling : IndexMap (Bor (List ℕ)) ℕ S) (by_small : IndexMap Folded Alike T) : Type 0 where
+  pub smalls : HoldsSmall entries by_small
+  pub spellings : (spelling : List ℕ) → is_several (at_small spelling by_small) ≡ true → HoldsSpellings entries by_spelling
 
 -- definitions by their numbers and names
 abbrev pub named : {A : Type 0} → (A → List ℕ) → List (ℕ × A) → List (ℕ × List ℕ)

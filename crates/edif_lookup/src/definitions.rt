@@ -1,9 +1,10 @@
 // Tables in which the definition that a reference means is looked up.
-ghost use Rattle.std.specs.Prelude.{◌≡◌, map, IfOk};
-ghost use Rattle.nl_base.specs.Case.{small};
+ghost use Rattle.std.specs.Prelude.{◌≡◌, ◌||◌, ℕ, List, [], Some, cond, false, true, is_some, map, IfOk, OnOk};
+ghost use Rattle.nl_base.specs.Case.{same_bytes, small};
 ghost use Rattle.std.specs.Option.{option_copied};
-ghost use Rattle.edif_lookup.specs.Tables.{HoldsSpellings, HoldsSmall, written, one_more, meaning, meant_in};
+ghost use Rattle.edif_lookup.specs.Tables.{HoldsSpellings, HoldsSmall, at_small, first_number, is_several, meaning, meant_in, one_more, small_so, spelled_or_several, spelled_so, summary, written};
 
+use crate::keys::{Folded, are_alike};
 use indexmap::IndexMap;
 use nl_base::NoMemory;
 use std::alloc::Global;
@@ -22,20 +23,6 @@ pub enum Meaning {
 pub struct Alike {
     pub first: u32,
     pub more: bool,
-}
-
-/// The bytes with the ASCII capital letters made small.
-fn small_bytes(alloc: Global, bytes: &[u8]) -> Result<Vec<u8>, NoMemory>
-    ensures { IfOk result (λ made. made.items ≡ map small bytes.now) }
-{
-    match bytes
-        .iter()
-        .map(|byte| byte.to_ascii_lowercase())
-        .collect(alloc)
-    {
-        Ok(made) => Ok(made),
-        Err(_) => Err(NoMemory),
-    }
 }
 
 /// Those definitions, and one more.
@@ -74,42 +61,126 @@ fn spelling_table<'a>(
     Ok(table)
 }
 
-/// A table from each spelling in small letters to the definitions alike.
-fn small_table(
-    alloc: Global,
-    entries: &[(u32, &[u8])],
-) -> Result<IndexMap<Vec<u8>, Alike>, NoMemory>
-    ensures { IfOk result (HoldsSmall (written entries.now)) }
+/// Adds a definition to those that are alike up to case, and answers whether there were some.
+fn add_alike<'a>(
+    table: &mut IndexMap<Folded<'a>, Alike>,
+    spelling: &'a [u8],
+    number: u32,
+) -> Result<bool, NoMemory>
+    ensures known { IfOk result (λ known. known ≡ is_some (at_small (map small spelling.now) table.old)) }
+    ensures added { OnOk result ((other : List ℕ) → at_small other table.new ≡ cond (same_bytes other (map small spelling.now)) (Some (one_more (at_small (map small spelling.now) table.old) number)) (at_small other table.old)) }
 {
-    let mut table = IndexMap::new(alloc);
-    for entry in entries {
-        let small = small_bytes(alloc, entry.1)?;
-        let alike = joined_by(table.get(small.as_slice()), entry.0);
-        match table.insert(small, alike) {
-            Ok(_) => (),
-            Err(_) => return Err(NoMemory),
-        }
+    let key = Folded { bytes: spelling };
+    let alike = joined_by(table.get(&key), number);
+    if let Ok(_) = table.insert(key, alike) {
+        return Ok(alike.more);
     }
-    Ok(table)
+    Err(NoMemory)
 }
 
-/// A list of definitions, each a number and a spelling, in which references are looked up.
+/// Fills the table from each spelling in small letters to the definitions alike, and answers whether there are several of some spelling.
+fn fill_small<'a>(
+    table: &mut IndexMap<Folded<'a>, Alike>,
+    entries: &[(u32, &'a [u8])],
+) -> Result<bool, NoMemory>
+    requires { HoldsSmall [] table.old }
+    ensures holds { OnOk result (HoldsSmall (written entries.now) table.new) }
+    ensures several { IfOk result (λ several. several ≡ false → (spelling : List ℕ) → is_several (at_small spelling table.new) ≡ false) }
+{
+    let mut several = false;
+    for entry in entries {
+        let known = add_alike(table, entry.1, entry.0)?;
+        several = either(several, known);
+    }
+    Ok(several)
+}
+
+/// Whether one of the two holds.
+fn either(one: bool, other: bool) -> bool
+    ensures { result ≡ (one || other) }
+{
+    one || other
+}
+
+/// The table of spellings where it is needed.
+fn needed_spellings<'a>(
+    alloc: Global,
+    entries: &[(u32, &'a [u8])],
+    needed: bool,
+) -> Result<IndexMap<&'a [u8], u32>, NoMemory>
+    ensures { IfOk result (λ table. needed ≡ true → HoldsSpellings (written entries.now) table) }
+{
+    if needed {
+        let table = spelling_table(alloc, entries)?;
+        return Ok(table);
+    }
+    Ok(IndexMap::new(alloc))
+}
+
+/// The number of the first definition with this spelling.
+fn first_spelled(entries: &[(u32, &[u8])], spelling: &[u8]) -> Option<u32>
+    ensures { result ≡ first_number (spelled_so spelling.now (written entries.now)) }
+{
+    for entry in entries {
+        if entry.1 == spelling {
+            return Some(entry.0);
+        }
+    }
+    None
+}
+
+/// The definitions that are alike up to case.
+fn all_alike(entries: &[(u32, &[u8])], spelling: &[u8]) -> Option<Alike>
+    ensures { result ≡ summary (small_so (map small spelling.now) (written entries.now)) }
+{
+    let mut known = None;
+    for entry in entries {
+        known = joined_where(known, are_alike(entry.1, spelling), entry.0);
+    }
+    known
+}
+
+/// Those definitions, and one more where it is alike.
+fn joined_where(known: Option<Alike>, alike: bool, number: u32) -> Option<Alike>
+    ensures { result ≡ cond alike (Some (one_more known number)) known }
+{
+    if alike {
+        return Some(joined_by(known.as_ref(), number));
+    }
+    known
+}
+
+/// What a reference with this spelling means, by a look at each definition.
+fn find_among(entries: &[(u32, &[u8])], spelling: &[u8]) -> Meaning
+    ensures { result ≡ meaning (written entries.now) spelling.now }
+{
+    if let Some(number) = first_spelled(entries, spelling) {
+        return Meaning::One(number);
+    }
+    meaning_of(all_alike(entries, spelling).as_ref())
+}
+
+/// Up to how many definitions are looked through one by one.
+const FEW: usize = 8;
+
+/// A list of definitions, each a number and a spelling, in which references are looked up. A few have no table.
 #[derive(Drop)]
 pub struct Definitions<'a> {
     entries: Vec<(u32, &'a [u8])>,
+    few: bool,
     by_spelling: IndexMap<&'a [u8], u32>,
-    by_small: IndexMap<Vec<u8>, Alike>,
+    by_small: IndexMap<Folded<'a>, Alike>,
 }
 
 impl<'a> Model for Definitions<'a> {
-    ghost use Rattle.std.specs.Prelude.{List, ℕ};
-    ghost use Rattle.edif_lookup.specs.Tables.{HoldsSpellings, HoldsSmall, written};
+    ghost use Rattle.std.specs.Prelude.{◌≡◌, false, List, ℕ};
+    ghost use Rattle.edif_lookup.specs.Tables.{HasTables, written};
 
     ghost Value = { List (ℕ × List ℕ) };
 
     ghost view = { λ d. written d.entries.items };
 
-    ghost invariant = { λ d. HoldsSpellings (written d.entries.items) d.by_spelling × HoldsSmall (written d.entries.items) d.by_small };
+    ghost invariant = { λ d. d.few ≡ false → HasTables (written d.entries.items) d.by_spelling d.by_small };
 }
 
 impl<'a> Definitions<'a> {
@@ -117,10 +188,30 @@ impl<'a> Definitions<'a> {
     pub fn build(alloc: Global, entries: Vec<(u32, &'a [u8])>) -> Result<Definitions<'a>, NoMemory>
         ensures { IfOk result (λ definitions. definitions ≡ written entries.entry.items) }
     {
-        let by_spelling = spelling_table(alloc, entries.as_slice())?;
-        let by_small = small_table(alloc, entries.as_slice())?;
+        if entries.len() <= FEW {
+            return Ok(Definitions {
+                entries,
+                few: true,
+                by_spelling: IndexMap::new(alloc),
+                by_small: IndexMap::new(alloc),
+            });
+        }
+        Definitions::with_tables(alloc, entries)
+    }
+
+    /// The definitions, with tables that are filled.
+    fn with_tables(
+        alloc: Global,
+        entries: Vec<(u32, &'a [u8])>,
+    ) -> Result<Definitions<'a>, NoMemory>
+        ensures { IfOk result (λ definitions. definitions ≡ written entries.entry.items) }
+    {
+        let mut by_small = IndexMap::new(alloc);
+        let several = fill_small(&mut by_small, entries.as_slice())?;
+        let by_spelling = needed_spellings(alloc, entries.as_slice(), several)?;
         Ok(Definitions {
             entries,
+            few: false,
             by_spelling,
             by_small,
         })
@@ -130,11 +221,34 @@ impl<'a> Definitions<'a> {
     pub fn find(&self, alloc: Global, spelling: &[u8]) -> Result<Meaning, NoMemory>
         ensures { IfOk result (λ found. found ≡ meaning self.now spelling.now) }
     {
-        if let Some(number) = self.by_spelling.get(spelling) {
-            return Ok(Meaning::One(*number));
+        if self.few {
+            return Ok(find_among(self.entries.as_slice(), spelling));
         }
-        let small = small_bytes(alloc, spelling)?;
-        Ok(meaning_of(self.by_small.get(small.as_slice())))
+        let known = self.by_small.get(&Folded { bytes: spelling });
+        if is_several(known) {
+            return Ok(spelled_or_several(self.by_spelling.get(spelling)));
+        }
+        Ok(meaning_of(known))
+    }
+}
+
+/// Whether there are several.
+fn is_several(known: Option<&Alike>) -> bool
+    ensures { result ≡ is_several (option_copied known.entry) }
+{
+    match known {
+        None => false,
+        Some(alike) => alike.more,
+    }
+}
+
+/// The definition with this number, or where there is none, one of several.
+fn spelled_or_several(number: Option<&u32>) -> Meaning
+    ensures { result ≡ spelled_or_several (option_copied number.entry) }
+{
+    match number {
+        None => Meaning::Several,
+        Some(number) => Meaning::One(*number),
     }
 }
 

@@ -5,11 +5,15 @@
 // is a set of names, compared byte for byte. `lower` answers the first of two refusals, and the lowest of a list of refusals is the
 // first object in file order that breaks the lowest broken rule (`proofs/FirstLaws.antt`).
 //
+// At most eight definitions are looked through one by one; more have a table by their names up to case, and one by their spellings where
+// several are alike.
+//
 // EDIF 2 0 0 does not tell capital letters from small ones in identifiers; that a definition spelled alike byte for byte goes first is
 // this project's own rule.
 #![tactic(auto)]
 
 pub mod definitions;
+pub mod keys;
 pub mod names;
 pub mod refusals;
 

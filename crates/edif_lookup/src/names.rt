@@ -1,8 +1,9 @@
 // The names that stand before a place.
-ghost use Rattle.std.specs.Prelude.{◌≡◌, ◌||◌, false, List, ℕ, IfOk, OnOk};
+ghost use Rattle.std.specs.Prelude.{◌≡◌, ◌||◌, false, List, ℕ, IfOk, OnErr, OnOk};
 ghost use Rattle.nl_base.specs.Case.{same_bytes};
 ghost use Rattle.edif_lookup.specs.Refusals.{is_in};
 
+use crate::keys::Name;
 use indexmap::IndexSet;
 use nl_base::NoMemory;
 use std::alloc::Global;
@@ -11,7 +12,7 @@ use std::marker::Model;
 /// A set of names, seen as a list of them.
 #[derive(Drop)]
 pub struct Names<'a> {
-    set: IndexSet<&'a [u8]>,
+    set: IndexSet<Name<'a>>,
 }
 
 impl<'a> Model for Names<'a> {
@@ -19,7 +20,7 @@ impl<'a> Model for Names<'a> {
 
     ghost Value = { List (List ℕ) };
 
-    ghost view = { λ n. map (λ key. key.now) n.set.keys };
+    ghost view = { λ n. map (λ key. key.bytes.now) n.set.keys };
 }
 
 impl<'a> Names<'a> {
@@ -35,8 +36,9 @@ impl<'a> Names<'a> {
     pub fn note(&mut self, name: &'a [u8]) -> Result<bool, NoMemory>
         ensures known { IfOk result (λ known. known ≡ is_in name.now self.old) }
         ensures noted { OnOk result ((other : List ℕ) → is_in other self.new ≡ (same_bytes other name.now || is_in other self.old)) }
+        ensures kept { OnErr result (self.new ≡ self.old) }
     {
-        if let Ok(fresh) = self.set.insert(name) {
+        if let Ok(fresh) = self.set.insert(Name { bytes: name }) {
             return Ok(!fresh);
         }
         Err(NoMemory)

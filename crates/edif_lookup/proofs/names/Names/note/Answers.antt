@@ -9,4 +9,4 @@ returns-in-Ok-clause-known c = note_known c.self.inside.set.keys c.args.name.now
 
 pub returns-in-Ok-clause-noted : goal.returns-in-Ok-clause-noted
 returns-in-Ok-clause-noted c other =
-    note_noted c.self.inside.set.keys c.insert.new.self.keys c.args.name c.in-Ok.ensures.keys other ∙ ap (λ names. same_bytes other c.args.name.now || is_in other names) c.self.view_is
+    note_noted c.self.inside.set.keys c.insert.new.self.keys (record { bytes = c.args.name }) c.in-Ok.ensures.keys other ∙ ap (λ names. same_bytes other c.args.name.now || is_in other names) c.self.view_is
