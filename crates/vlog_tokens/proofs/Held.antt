@@ -1,7 +1,7 @@
 -- Tokens that are held whole, with the byte that shows their end.
 use Rattle.std.proofs.Common.{◌≡◌, ℕ, zero, suc, ◌+◌, ◌<◌, ◌≤◌, Bool, true, false, cond, leb, ltb, eqb, ◌||◌, List, [], ◌∷◌, ◌++◌, length, get_or, take, drop, drop-cons, Option, Some, None, Result, Ok, Err, refl, sym, ap, ◌∙◌, subst, arith, length-take, option_map}
 use Rattle.std.specs.Prelude.{IfOk, OnOk, ℤ}
-use Rattle.std.specs.Char.{is_ascii_digit, is_ascii_alphabetic}
+use Rattle.std.specs.Char.{is_ascii_digit}
 use Rattle.std.specs.List.{prefix_len}
 use Rattle.std.proofs.lemmas.Bool.{le-ltb, ltb-false, leb-true, leb-false, eqb-true}
 use Rattle.std.proofs.lemmas.List.Sums.{prefix_len_stops}
@@ -38,7 +38,7 @@ use Rattle.vlog_tokens.specs.Scanning as scanning
 use Rattle.vlog_tokens.specs.Scanning.{begun, kept, scan_at, ended}
 use Rattle.vlog_tokens.specs.Items.{item_of, finish, finished, word_item, number_item}
 use Rattle.vlog_tokens.specs.Numbers.{number_of}
-use Rattle.vlog_tokens.specs.Spelling.{item_by, start_of, lexeme_spelled}
+use Rattle.vlog_tokens.specs.Spelling.{item_by, start_of, begins_name, lexeme_spelled}
 use Rattle.vlog_tokens.specs.Parts.{Answers, GivesSpot, Reads, spot_of}
 use Rattle.vlog_tokens.specs.Finding.{ahead_of, Passes, Finds}
 use Rattle.vlog_tokens.specs.Language.{stream_from}
@@ -373,15 +373,8 @@ pair_found {a} {b} {byte} l tail front near pair held place p p-is token token-i
 
 -- ---- what a byte begins
 
-pub letter_begins : (b : ℕ) → is_verilog_space b ≡ false → is_ascii_alphabetic b ≡ true → start_of b ≡ Lexeme Word
-letter_begins b e f = rw (e, f) refl
+pub name_begins : (b : ℕ) → is_verilog_space b ≡ false → begins_name b ≡ true → start_of b ≡ Lexeme Word
+name_begins b e f = rw (e, f) refl
 
-no_underscore : (b : ℕ) → is_ascii_digit b ≡ true → eqb b 95 ≡ false
-no_underscore b e = go (eqb b 95) refl
-  where
-    go : (t : Bool) → eqb b 95 ≡ t → t ≡ false
-    go true f = let g : is_ascii_digit 95 ≡ true = subst (λ (n : ℕ). is_ascii_digit n ≡ true) (eqb-true b 95 f) e in absurd cc
-    go false f = refl
-
-pub digit_begins : (b : ℕ) → is_verilog_space b ≡ false → is_ascii_alphabetic b ≡ false → is_ascii_digit b ≡ true → start_of b ≡ Lexeme Whole
-digit_begins b e f d = rw (e, f, no_underscore b d, d) refl
+pub digit_begins : (b : ℕ) → is_verilog_space b ≡ false → begins_name b ≡ false → is_ascii_digit b ≡ true → start_of b ≡ Lexeme Whole
+digit_begins b e f d = rw (e, f, d) refl

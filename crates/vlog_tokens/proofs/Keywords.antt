@@ -1,12 +1,12 @@
 -- A keyword is found among those of its first letter.
-use Rattle.std.proofs.Common.{arith, ◌≡◌, ◌∙◌, inl, inr, sym, ap, subst, refl, ℕ, zero, suc, ◌+◌, ◌-◌, ◌<◌, ◌≤◌, eqb, eq-eqb, nat_le, Bool, cond, true, false, ◌&&◌, ◌||◌, List, [], ◌∷◌, length, get_or}
+use Rattle.std.proofs.Common.{arith, ◌≡◌, ◌∙◌, inl, inr, sym, ap, subst, refl, ℕ, zero, suc, ◌+◌, ◌-◌, ◌<◌, ◌≤◌, eqb, ltb, eq-eqb, nat_le, Bool, cond, true, false, ◌&&◌, ◌||◌, List, [], ◌∷◌, length, get_or}
 use Rattle.std.proofs.lemmas.Bool.{cases_order}
 use Rattle.std.proofs.lemmas.Bool.Decides.{nat_tests}
 use Rattle.std.specs.Str.{bytes_eq}
 use Rattle.std.proofs.lemmas.Slice.Eq.{bytes_eq-Decides}
 use Rattle.std.specs.List.{list_any, list_all}
 use Rattle.nl_base.specs.Case.{same_bytes}
-use Rattle.vlog_tokens.specs.Keywords.{keywords, is_keyword, is_small, start_at, bound, part, of_letter, words_from, word}
+use Rattle.vlog_tokens.specs.Keywords.{keywords, is_keyword, is_small, is_like_keyword, start_at, bound, part, of_letter, words_from, word}
 
 -- whether a test passes for each number below a bound
 abbrev passes_below : (ℕ → Bool) → ℕ → Bool
@@ -110,43 +110,48 @@ by_letter c bs low high =
     let letter : 97 + (c - 97) ≡ c = omega arith in
     ap (λ ws. list_any (same_bytes (c ∷ bs)) ws) (row ∙ ap (λ n. with_letter n keywords) letter) ∙ any_letter c bs keywords
 
-pub small_within : (b : ℕ) → is_small b ≡ true → (97 ≤ b) × (b ≤ 122)
+small_within : (b : ℕ) → is_small b ≡ true → (97 ≤ b) × (b ≤ 122)
 small_within b h =
     let parts = both (nat_le 97 b) (nat_le b 122) h in
     (grind (arith, nat_tests, parts.0), grind (arith, nat_tests, parts.1))
 
-pub found_by_letter : (name : List ℕ) (d : ℕ) → 0 < length name → is_small (get_or name 0 d) ≡ true → list_any (same_bytes name) (of_letter (get_or name 0 d - 97)) ≡ is_keyword name
+found_by_letter : (name : List ℕ) (d : ℕ) → 0 < length name → is_small (get_or name 0 d) ≡ true → list_any (same_bytes name) (of_letter (get_or name 0 d - 97)) ≡ is_keyword name
 found_by_letter [] d some h = absurd (omega arith)
 found_by_letter (c ∷ bs) d some h = let w = small_within c h in by_letter c bs w.0 w.1
 
--- ---- names that begin with no small letter
+-- ---- names that are not like a keyword
 
-abbrev begins_small : List ℕ → Bool
-begins_small [] = false
-begins_small (b ∷ bs) = is_small b
-
-none_small : (name : List ℕ) (ws : List (List ℕ)) → begins_small name ≡ false → list_all begins_small ws ≡ true → list_any (same_bytes name) ws ≡ false
-none_small name [] h all = refl
-none_small name (w ∷ ws) h all =
-    let parts = both (begins_small w) (list_all begins_small ws) all in
-    go (same_bytes name w) refl (none_small name ws h parts.1) parts.0
+none_like : (name : List ℕ) (ws : List (List ℕ)) → is_like_keyword name ≡ false → list_all is_like_keyword ws ≡ true → list_any (same_bytes name) ws ≡ false
+none_like name [] h all = refl
+none_like name (w ∷ ws) h all =
+    let parts = both (is_like_keyword w) (list_all is_like_keyword ws) all in
+    go (same_bytes name w) refl (none_like name ws h parts.1) parts.0
   where
-    go : (s : Bool) → same_bytes name w ≡ s → list_any (same_bytes name) ws ≡ false → begins_small w ≡ true → (s || list_any (same_bytes name) ws) ≡ false
-    go true f rest small = let e : name ≡ w = (bytes_eq-Decides name w).0 f in absurd (cc (h, small, ap begins_small e))
-    go false f rest small = rest
+    go : (s : Bool) → same_bytes name w ≡ s → list_any (same_bytes name) ws ≡ false → is_like_keyword w ≡ true → (s || list_any (same_bytes name) ws) ≡ false
+    go true f rest like = let e : name ≡ w = (bytes_eq-Decides name w).0 f in absurd (cc (h, like, ap is_like_keyword e))
+    go false f rest like = rest
 
-all_small : list_all begins_small keywords ≡ true
-all_small = refl
+all_like : list_all is_like_keyword keywords ≡ true
+unfolding is_like_keyword
+all_like = refl
 
-pub no_letter : (name : List ℕ) (d : ℕ) → 0 < length name → is_small (get_or name 0 d) ≡ false → is_keyword name ≡ false
+pub not_like : (name : List ℕ) → is_like_keyword name ≡ false → is_keyword name ≡ false
 unfolding is_keyword
-no_letter [] d some h = absurd (omega arith)
-no_letter (c ∷ bs) d some h = none_small (c ∷ bs) keywords h all_small
+not_like name h = none_like name keywords h all_like
 
-pub none_empty : (name : List ℕ) → length name ≡ 0 → is_keyword name ≡ false
-unfolding is_keyword
-none_empty [] e = none_small [] keywords refl all_small
-none_empty (c ∷ bs) e = absurd (omega arith)
+-- a name that is like a keyword begins with a small letter
+pub like_first : (name : List ℕ) (d : ℕ) → is_like_keyword name ≡ true → (0 < length name) × (is_small (get_or name 0 d) ≡ true)
+unfolding is_like_keyword
+like_first [] d h = absurd cc
+like_first (a ∷ bs) d h = (omega arith, go (ltb (suc (length bs)) 2 || ltb 19 (suc (length bs))) (is_small a) (is_small (get_or (a ∷ bs) 1 0)) h)
+  where
+    go : (s t u : Bool) → cond s false (cond t u false) ≡ true → t ≡ true
+    go true t u h = absurd cc
+    go false true u h = refl
+    go false false u h = absurd cc
+
+pub first_within : (name : List ℕ) (d : ℕ) → is_like_keyword name ≡ true → (97 ≤ get_or name 0 d) × (get_or name 0 d ≤ 122)
+first_within name d h = small_within (get_or name 0 d) (like_first name d h).1
 
 -- ---- the search
 
@@ -158,12 +163,14 @@ turn name end i lt =
 pub none_left : (name : List ℕ) (end i : ℕ) → end ≤ i → list_any (same_bytes name) (words_from (end - i) i) ≡ false
 none_left name end i le = let n : end - i ≡ 0 = omega arith in ap (λ k. list_any (same_bytes name) (words_from k i)) n
 
-pub by_table : (name : List ℕ) (d letter start end : ℕ) → 0 < length name → is_small (get_or name 0 d) ≡ true → letter ≡ get_or name 0 d - 97 → start ≡ start_at letter → end ≡ start_at (letter + 1)
+pub by_table : (name : List ℕ) (d letter start end : ℕ) → is_like_keyword name ≡ true → letter ≡ get_or name 0 d - 97 → start ≡ start_at letter → end ≡ start_at (letter + 1)
     → list_any (same_bytes name) (words_from (end - start) start) ≡ is_keyword name
-by_table name d letter start end some small letter-is start-is end-is = rw (start-is, end-is, letter-is) (found_by_letter name d some small)
+by_table name d letter start end like letter-is start-is end-is =
+    let first = like_first name d like in
+    rw (start-is, end-is, letter-is) (found_by_letter name d first.0 first.1)
 
-pub end_most : (name : List ℕ) (d letter end : ℕ) → is_small (get_or name 0 d) ≡ true → letter ≡ get_or name 0 d - 97 → end ≡ start_at (letter + 1) → end ≤ 124
-end_most name d letter end small letter-is end-is = let w = small_within (get_or name 0 d) small in omega (arith, end-is, start_most (letter + 1) (omega (arith, w)))
+pub end_most : (name : List ℕ) (d letter end : ℕ) → is_like_keyword name ≡ true → letter ≡ get_or name 0 d - 97 → end ≡ start_at (letter + 1) → end ≤ 124
+end_most name d letter end like letter-is end-is = let w = first_within name d like in omega (arith, end-is, start_most (letter + 1) (omega (arith, w)))
 
 pub turn_on : (name : List ℕ) (end i : ℕ) → i < end → same_bytes name (word i) ≡ false → list_any (same_bytes name) (words_from (end - (i + 1)) (i + 1)) ≡ list_any (same_bytes name) (words_from (end - i) i)
 turn_on name end i lt other = sym (turn name end i lt ∙ ap (λ t. t || list_any (same_bytes name) (words_from (end - (i + 1)) (i + 1))) other)

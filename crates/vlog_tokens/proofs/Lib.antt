@@ -10,3 +10,4 @@ pub mod Streams
 pub mod Readers
 pub mod Held
 pub mod HeldMarks
+pub mod HeldStrings

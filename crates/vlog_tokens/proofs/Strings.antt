@@ -282,7 +282,7 @@ plain_not b plain = (
   ne_eqb b 92 (λ e. let h : is_verilog_string_byte 92 ≡ true = subst (λ (x : ℕ). is_verilog_string_byte x ≡ true) e plain in absurd cc),
 )
 
-plain_run : (v used rest : List ℕ) (n : ℕ) → AreIn VerilogStringByte used → length used ≤ 1048576 - length v → string_at Parts v n (used ++ rest) ≡ string_at Parts (v ++ used) (n + length used) rest
+pub plain_run : (v used rest : List ℕ) (n : ℕ) → AreIn VerilogStringByte used → length used ≤ 1048576 - length v → string_at Parts v n (used ++ rest) ≡ string_at Parts (v ++ used) (n + length used) rest
 unfolding string_at
 plain_run v [] rest n all most = ap (λ (xs : List ℕ). string_at Parts xs n rest) (sym (append-nil v)) ∙ ap (λ (k : ℕ). string_at Parts (v ++ []) k rest) (sym (add-zero n))
 plain_run v (b ∷ bs) rest n all most =
@@ -329,7 +329,7 @@ str_on piece o n h = h
 opening : {a b : Window} {quote : ℕ} (l : Option (List ℕ)) (v : List ℕ) → Steps a b quote → v ≡ [] → Part {X = Unit {0}} quoted (λ _. string_at Parts v) a.place a b l l (Ok tt)
 opening {a} {b} {quote} l v s empty = part_used (λ _. string_at Parts v) a.place (steps_use s l) tt (λ n rest. ap (λ (xs : List ℕ). string_at Parts xs (n + 1) rest) (sym empty))
 
-closing : (w rest : List ℕ) (n : ℕ) → string_at Parts w n (34 ∷ rest) ≡ closed w (n + 1) rest
+pub closing : (w rest : List ℕ) (n : ℕ) → string_at Parts w n (34 ∷ rest) ≡ closed w (n + 1) rest
 unfolding string_at
 closing w rest n = refl
 

@@ -6,7 +6,7 @@ use Rattle.nl_base.specs.declared.place.Place.{Place}
 use Rattle.nl_base.specs.declared.fault.Reason.TheVariants.{NumberRange}
 use Rattle.nl_base.specs.declared.fault.ReadError.{ReadError}
 use Rattle.nl_bytes.specs.declared.bytes.TheConstants.{LIMIT}
-use Rattle.nl_bytes.specs.Classes.{is_verilog_space, is_name_byte, is_number_byte, is_graphic}
+use Rattle.nl_bytes.specs.Classes.{is_verilog_space, is_name_byte, is_number_byte, is_graphic, is_verilog_string_byte}
 use Rattle.nl_bytes.specs.Bytes.{Window, given}
 use Rattle.vlog_tokens.specs.declared.token.VFound.{VFound}
 use Rattle.vlog_tokens.specs.declared.token.VToken.{VToken}
@@ -81,6 +81,18 @@ escaped_by bs n = if is_verilog_space (slice_index bs n) then n else 0
 -- how many bytes an escaped name has behind its `\`, where its end is there; 0 where not
 unfoldable pub escaped_length : List ℕ → ℕ
 escaped_length bs = escaped_by bs (name_length bs (prefix_len is_graphic bs))
+
+-- ---- strings
+
+-- n bytes of a string, where a quote is behind them
+abbrev pub quoted_by : List ℕ → ℕ → Option ℕ
+quoted_by bs n = if nat_le (length bs) n then None else (if slice_index bs n == 34 then Some n else None)
+
+-- how many bytes a string without escapes has behind its first quote, where its last is there
+unfoldable pub quoted_length : List ℕ → Option ℕ
+quoted_length bs = quoted_by bs (prefix_len is_verilog_string_byte bs)
+
+-- ---- brackets of attributes
 
 -- a byte is at the front
 abbrev pub begins_by : ℕ → List ℕ → Bool

@@ -1,5 +1,5 @@
 -- The keywords of Verilog (IEEE 1364-2005, annex B), of which no name is one.
-use Rattle.std.specs.Prelude.{ℕ, zero, suc, ◌+◌, ◌-◌, nat_le, ◌&&◌, Bool, List, [], ◌∷◌, codes, slice_index, slice_range}
+use Rattle.std.specs.Prelude.{ℕ, zero, suc, ◌+◌, ◌-◌, nat_le, nat_lt, ◌&&◌, ◌||◌, if◌then◌else◌, Bool, false, List, [], ◌∷◌, length, codes, slice_index, slice_range}
 use Rattle.std.specs.List.{list_any}
 use Rattle.nl_base.specs.Case.{same_bytes}
 use Rattle.vlog_tokens.specs.declared.keyword.TheConstants.{TEXT, BOUNDS, STARTS}
@@ -61,3 +61,7 @@ of_letter letter = words_from (start_at (letter + 1) - start_at letter) (start_a
 -- a small letter
 abbrev pub is_small : ℕ → Bool
 is_small b = nat_le 97 b && nat_le b 122
+
+-- two small letters, and no more bytes than the longest keyword has, as with each keyword
+unfoldable pub is_like_keyword : List ℕ → Bool
+is_like_keyword name = if nat_lt (length name) 2 || nat_lt 19 (length name) then false else (if is_small (slice_index name 0) then is_small (slice_index name 1) else false)

@@ -84,11 +84,15 @@ is_mark b = b == 41 || b == 91 || b == 93 || b == 123 || b == 125 || b == 44 || 
 abbrev pub is_symbol : ℕ → Bool
 is_symbol b = b == 33 || b == 36 || b == 37 || b == 38 || b == 60 || b == 62 || b == 63 || b == 64 || b == 94 || b == 124 || b == 126
 
+-- a letter or `_`, which begins a simple name or a keyword (3.7)
+abbrev pub begins_name : ℕ → Bool
+begins_name b = is_ascii_alphabetic b || b == 95
+
 -- what a byte begins
 abbrev pub start_of : ℕ → Start
 start_of b =
     if is_verilog_space b then White
-    else (if is_ascii_alphabetic b || b == 95 then Lexeme Word
+    else (if begins_name b then Lexeme Word
     else (if is_ascii_digit b then Lexeme Whole
     else (if b == 92 then Lexeme Escape
     else (if b == 39 then Lexeme Prefix

@@ -9,12 +9,12 @@ use crate::item::{Item, Spot};
 use crate::lexeme::lexeme;
 use crate::mark::{Twin, mark, pair, slash};
 use crate::scan::refuse;
-use crate::start::{Start, start_of};
+use crate::start::{Start, begins_name, start_of};
 use crate::string::string;
 use crate::token::{VFound, VToken};
 use crate::whole::{
-    escaped_length, held_escaped, held_number, held_pair, held_word, is_near, is_pair,
-    number_length, word_length,
+    escaped_length, held_escaped, held_number, held_pair, held_string, held_word, is_near, is_pair,
+    number_length, quoted_length, word_length,
 };
 use nl_base::{Place, ReadError, Reason};
 use nl_bytes::bytes::LIMIT;
@@ -115,7 +115,7 @@ fn pieced<S: Source>(
 
 /// Reads the next token.
 #[inline(always)]
-#[tactic(auto, using(crate::proofs::Held::letter_begins, crate::proofs::Held::digit_begins))]
+#[tactic(auto, using(crate::proofs::Held::name_begins, crate::proofs::Held::digit_begins))]
 pub fn found<S: Source>(
     bytes: &mut Bytes,
     alloc: Global,
@@ -134,7 +134,7 @@ pub fn found<S: Source>(
     if !is_near(bytes) {
         return pieced(bytes, alloc, source);
     }
-    if byte.is_ascii_alphabetic() {
+    if begins_name(byte) {
         let count = word_length(bytes.held());
         if count > 0 {
             return held_word(bytes, alloc, byte, count);
@@ -149,6 +149,11 @@ pub fn found<S: Source>(
         let count = escaped_length(name);
         if count > 0 {
             return held_escaped(bytes, alloc, count);
+        }
+    } else if byte == b'"' {
+        let (_, rest) = bytes.held().split_at(1);
+        if let Some(count) = quoted_length(rest) {
+            return held_string(bytes, alloc, count);
         }
     } else if is_pair(bytes.held()) {
         return held_pair(bytes, byte);

@@ -1,7 +1,7 @@
-ghost use Rattle.std.specs.Prelude.{◌≡◌, ◌-◌, ◌<◌, ◌≤◌};
+ghost use Rattle.std.specs.Prelude.{◌≡◌, ◌-◌, ◌<◌, ◌≤◌, true};
 ghost use Rattle.std.specs.List.{list_any};
 ghost use Rattle.nl_base.specs.Case.{same_bytes};
-ghost use Rattle.vlog_tokens.specs.Keywords.{is_keyword, is_small, bound, part, start_at, word, words_from};
+ghost use Rattle.vlog_tokens.specs.Keywords.{is_keyword, is_small, is_like_keyword, bound, part, start_at, word, words_from};
 
 /// The keywords in the order of the alphabet, one directly after another.
 static TEXT: [u8; 776] = *b"\
@@ -97,24 +97,47 @@ fn is_among(name: &[u8], start: usize, end: usize) -> bool
     false
 }
 
+#[inline(always)]
 fn is_small(b: u8) -> bool
     ensures { result ≡ is_small b }
 {
     b'a' <= b && b <= b'z'
 }
 
+/// Whether a name begins with two small letters and is no longer than the longest keyword, as each keyword. Most names of a
+/// netlist are not so.
+#[inline(always)]
+#[tactic(auto, unfolding(crate::specs::Keywords::is_like_keyword))]
+fn is_like_keyword(name: &[u8]) -> bool
+    ensures { result ≡ is_like_keyword name.now }
+{
+    if name.len() < 2 || name.len() > 19 {
+        return false;
+    }
+    if is_small(name[0]) {
+        return is_small(name[1]);
+    }
+    false
+}
+
+/// Whether a name that is like a keyword is one.
+#[inline(never)]
+fn is_of_letter(name: &[u8]) -> bool
+    requires { is_like_keyword name.now ≡ true }
+    ensures { result ≡ is_keyword name.now }
+{
+    let letter = usize::from(name[0] - b'a');
+    is_among(name, start_at(letter), start_at(letter + 1))
+}
+
 /// Whether a name is a keyword.
+#[inline(always)]
+#[tactic(auto, using(crate::proofs::Keywords::not_like))]
 pub fn is_keyword(name: &[u8]) -> bool
     ensures { result ≡ is_keyword name.now }
 {
-    match name {
-        [first, ..] => {
-            if is_small(*first) {
-                let letter = usize::from(*first - b'a');
-                return is_among(name, start_at(letter), start_at(letter + 1));
-            }
-            false
-        }
-        [] => false,
+    if is_like_keyword(name) {
+        return is_of_letter(name);
     }
+    false
 }

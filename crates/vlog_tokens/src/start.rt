@@ -1,5 +1,5 @@
 ghost use Rattle.std.specs.Prelude.{◌≡◌};
-ghost use Rattle.vlog_tokens.specs.Spelling.{start_of, is_mark, is_symbol};
+ghost use Rattle.vlog_tokens.specs.Spelling.{start_of, begins_name, is_mark, is_symbol};
 
 use crate::phase::Phase;
 use nl_bytes::Class;
@@ -25,6 +25,14 @@ pub enum Start {
     Sign,
     /// No token.
     Other,
+}
+
+/// Whether a byte begins a simple name or a keyword.
+#[inline(always)]
+pub fn begins_name(b: u8) -> bool
+    ensures { result ≡ begins_name b }
+{
+    b.is_ascii_alphabetic() || b == b'_'
 }
 
 /// Whether a byte is punctuation that begins no longer token.
@@ -54,7 +62,7 @@ pub fn start_of(b: u8) -> Start
     if Class::VerilogSpace.contains(b) {
         return Start::White;
     }
-    if b.is_ascii_alphabetic() || b == b'_' {
+    if begins_name(b) {
         return Start::Lexeme(Phase::Word);
     }
     if b.is_ascii_digit() {

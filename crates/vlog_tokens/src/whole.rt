@@ -3,7 +3,7 @@ ghost use Rattle.std.specs.Prelude.{◌≡◌, ◌+◌, ◌<◌, ◌≤◌, ◌�
 ghost use Rattle.nl_base.specs.Faults.{OnText};
 ghost use Rattle.nl_bytes.specs.Bytes.{given};
 ghost use Rattle.vlog_tokens.specs.Finding.{Finds};
-ghost use Rattle.vlog_tokens.specs.Held.{is_near, open_mark, front_mark, held_mark, past_space, past_mark, word_length, number_length, escaped_length, is_pair, pair_token, number_found};
+ghost use Rattle.vlog_tokens.specs.Held.{is_near, open_mark, front_mark, held_mark, past_space, past_mark, word_length, number_length, escaped_length, quoted_length, is_pair, pair_token, number_found};
 ghost use Rattle.vlog_tokens.specs.Items.{word_item};
 ghost use Rattle.vlog_tokens.specs.Spelling.{start_of};
 ghost use Rattle.vlog_tokens.specs.declared.start.Start.TheVariants.{Lexeme};
@@ -142,6 +142,22 @@ pub fn escaped_length(name: &[u8]) -> usize
     count
 }
 
+/// How many bytes a string without escapes has behind its first quote, where its last is there.
+#[inline(always)]
+#[tactic(auto, unfolding(crate::specs::Held::quoted_length))]
+pub fn quoted_length(rest: &[u8]) -> Option<usize>
+    ensures { result ≡ quoted_length rest.now }
+{
+    let count = Class::VerilogStringByte.front(rest);
+    if count >= rest.len() {
+        return None;
+    }
+    if rest[count] != b'"' {
+        return None;
+    }
+    Some(count)
+}
+
 /// Whether `(*` or `*)` is at the front.
 #[inline(always)]
 pub fn is_pair(held: &[u8]) -> bool
@@ -243,6 +259,31 @@ pub fn held_escaped(
         place,
         stop: place.offset + count as u64 + 2,
         token: VToken::Name(text),
+    }))
+}
+
+/// Uses a string of so many bytes between its quotes.
+#[inline(always)]
+pub fn held_string(
+    bytes: &mut Bytes,
+    alloc: Global,
+    count: usize,
+) -> Result<Option<VFound>, ReadError>
+    requires ahead { (rest : List ℕ) × (bytes.old.held ≡ 34 ∷ rest) }
+    requires near { is_near bytes.old ≡ true }
+    requires whole { quoted_length (drop 1 bytes.old.held) ≡ Some count }
+    ensures finds { (left : Option (List ℕ)) → Finds bytes.old bytes.new left left result }
+    ensures error { IfErr result (λ e. e ≡ ReadError.NoMemory) }
+{
+    let place = bytes.place();
+    let (_, rest) = bytes.held().split_at(1);
+    let (value, _) = rest.split_at(count);
+    let text = Text::copy(alloc, value)?;
+    bytes.pass(Class::LineByte, count + 2);
+    Ok(Some(VFound {
+        place,
+        stop: place.offset + count as u64 + 2,
+        token: VToken::Str(text),
     }))
 }
 

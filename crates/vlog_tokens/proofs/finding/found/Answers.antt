@@ -23,6 +23,9 @@ returns-then-count-gt0-2-clause-finds g c = finds_after (passes_space c.in_ok-ne
 pub returns-then-count-gt0-3-clause-finds : goal.returns-then-count-gt0-3-clause-finds
 returns-then-count-gt0-3-clause-finds g c = finds_after (passes_space c.in_ok-next.ensures.skips) (c.held_escaped.ensures.finds _)
 
+pub returns-in-Some-quoted_length-clause-finds : goal.returns-in-Some-quoted_length-clause-finds
+returns-in-Some-quoted_length-clause-finds g c = finds_after (passes_space c.in_ok-next.ensures.skips) (c.held_string.ensures.finds _)
+
 pub returns-then-is_pair-clause-finds : goal.returns-then-is_pair-clause-finds
 returns-then-is_pair-clause-finds g c = finds_after (passes_space c.in_ok-next.ensures.skips) (c.held_pair.ensures.finds _)
 
