@@ -1,16 +1,19 @@
 -- Rules on statements.
 use Rattle.std.proofs.Common.{◌≡◌, ℕ, List, [], ◌∷◌, ◌++◌, Option, None, Some, Bool, true, false, not, filter, find, flat_map, map, option_map, refl, sym, ap, ◌∙◌}
+use Rattle.std.specs.List.{list_any}
 use Rattle.std.specs.Prelude.{is_some, is_none, if◌then◌else◌}
 use Rattle.nl_base.specs.declared.rule.Rule.{Rule}
 use Rattle.nl_base.specs.declared.rule.Rule.TheVariants.{G3, G5, G17}
 use Rattle.vlog_design.specs.Reach.{module_named}
 use Rattle.vlog_design.specs.Design.{def_sets}
-use Rattle.vlog_design.specs.Names.{has_name, instance_names, instance_statement, instance_statements}
+use Rattle.vlog_design.specs.Names.{defparam_statement, has_name, instance_names, instance_statement, instance_statements}
 use Rattle.vlog_rules.proofs.SetLaws.{find_same}
 use Rattle.vlog_values.specs.declared.statement.DefSet.{DefSet}
 use Rattle.vlog_design.specs.Rules.{Objects, bad_directions, each_alone, each_statement, first_instance, first_of, refused, unknown_instances, unknown_module_in, without_direction}
 use Rattle.vlog_rules.proofs.RuleLaws.{first_filter, first_map}
+use Rattle.vlog_rules.specs.Defparams.{is_defparam}
 use Rattle.vlog_values.specs.declared.module.ItemV.{ItemV}
+use Rattle.vlog_values.specs.declared.module.ItemV.TheVariants.{Port, Net, Param, Assign, Instances as InstancesItem, Defparam}
 use Rattle.vlog_values.specs.declared.module.Module.{Module}
 use Rattle.vlog_values.specs.declared.statement.Instances.{Instances}
 
@@ -70,3 +73,18 @@ unknown_set_first m names found same e =
     let here : first_of (filter q (def_sets m)) ≡ found = first_filter q (def_sets m) ∙ (sym (find_same p q (def_sets m) (λ set. ap not (same set.instance))) ∙ sym e) in
     first_map (refused G17 m.name) (map (λ (set : DefSet). set.instance ∷ set.name ∷ []) (filter q (def_sets m)))
     ∙ (ap (option_map (refused G17 m.name)) (first_map (λ (set : DefSet). set.instance ∷ set.name ∷ []) (filter q (def_sets m)) ∙ ap (option_map (λ (set : DefSet). set.instance ∷ set.name ∷ [])) here) ∙ set_named m.name found)
+
+-- where no item gives values there are none
+
+no_sets : (items : List ItemV) → list_any is_defparam items ≡ false → flat_map (λ item. flat_map (λ statement. statement.sets) (defparam_statement item)) items ≡ []
+no_sets [] h = refl
+no_sets (Port d ∷ items) h = no_sets items h
+no_sets (Net d ∷ items) h = no_sets items h
+no_sets (Param d ∷ items) h = no_sets items h
+no_sets (Assign s ∷ items) h = no_sets items h
+no_sets (InstancesItem s ∷ items) h = no_sets items h
+no_sets (Defparam s ∷ items) h = absurd cc
+
+pub none_set : (m : Module) → list_any is_defparam m.items ≡ false → None ≡ first_of (map (refused G17 m.name) (unknown_instances m))
+unfolding unknown_instances
+none_set m h = sym (ap (λ sets. first_of (map (refused G17 m.name) (map (λ (set : DefSet). set.instance ∷ set.name ∷ []) (filter (λ set. not (has_name (instance_names m) set.instance)) sets)))) (no_sets m.items h))

@@ -1,3 +1,4 @@
+pub mod Defparams
 pub mod Redeclared
 pub mod Seen
 pub mod Wide
