@@ -1,8 +1,10 @@
 -- The first declaration that clashes with one before it.
 use Rattle.std.specs.Borrow.{Bor}
 use Rattle.vlog_design.specs.Tables.{names_of}
-use Rattle.std.proofs.Common.{not, bytes_eq, if◌then◌else◌, ◌≡◌, ℕ, ◌+◌, ◌<◌, ◌≤◌, List, [], ◌∷◌, ◌++◌, Bool, true, false, cond, Some, None, drop, get_or, length, map, ap, refl, sym, ◌∙◌, add-one, drop-cons, drop_of_length-le}
+use Rattle.std.proofs.Common.{not, bytes_eq, if◌then◌else◌, ◌≡◌, ℕ, ◌+◌, ◌<◌, ◌≤◌, List, [], ◌∷◌, ◌++◌, Bool, true, false, cond, Some, None, drop, get_or, length, map, take, ap, refl, sym, ◌∙◌, add-one, drop-cons, drop_of_length-le}
 use Rattle.std.specs.List.{list_any}
+use Rattle.std.proofs.Math.Seq.{take-suc}
+use Rattle.std.proofs.lemmas.List.{map-append}
 use Rattle.vlog_design.specs.Names.{clashing, has_name}
 use Rattle.vlog_design.specs.Rules.{first_of}
 
@@ -50,3 +52,18 @@ repeated_there before after keys i d false h e n a = cc
 
 pub repeated_none : (before : List (List ℕ)) (keys : List (Bor (List ℕ))) (i : ℕ) → length keys ≤ i → first_of (clashing bytes_eq before (names_of (drop i keys))) ≡ None
 repeated_none before keys i h = clash_none (λ k. k.now) bytes_eq before keys i h
+
+-- the same where those before are the front of the list itself
+
+pub among_here : (keys : List (Bor (List ℕ))) (i : ℕ) (d : Bor (List ℕ)) → i < length keys → true ≡ has_name (names_of (take i keys)) (get_or keys i d).now →
+    first_of (clashing bytes_eq (names_of (take i keys)) (names_of (drop i keys))) ≡ Some (get_or keys i d).now
+among_here keys i d h e = clash_here (λ k. k.now) bytes_eq (names_of (take i keys)) keys i d h e
+
+pub among_there : (keys : List (Bor (List ℕ))) (i : ℕ) (d : Bor (List ℕ)) → i < length keys → false ≡ has_name (names_of (take i keys)) (get_or keys i d).now →
+    first_of (clashing bytes_eq (names_of (take (i + 1) keys)) (names_of (drop (i + 1) keys))) ≡ first_of (clashing bytes_eq (names_of (take i keys)) (names_of (drop i keys)))
+among_there keys i d h e =
+    ap (λ names. first_of (clashing bytes_eq names (names_of (drop (i + 1) keys)))) (ap (λ n. names_of (take n keys)) (add-one i) ∙ (ap names_of (take-suc keys i d h) ∙ map-append (λ k. k.now) (take i keys) (get_or keys i d ∷ [])))
+    ∙ sym (clash_there (λ k. k.now) bytes_eq (names_of (take i keys)) keys i d h e)
+
+pub among_none : (keys : List (Bor (List ℕ))) (i : ℕ) → length keys ≤ i → first_of (clashing bytes_eq (names_of (take i keys)) (names_of (drop i keys))) ≡ None
+among_none keys i h = clash_none (λ k. k.now) bytes_eq (names_of (take i keys)) keys i h

@@ -1,6 +1,6 @@
 // Names that stand twice in a list.
 ghost use Rattle.std.specs.Prelude.{◌≡◌, [], bytes_eq, map, IfOk, option_copied};
-ghost use Rattle.vlog_design.specs.Names.{clashing};
+ghost use Rattle.vlog_design.specs.Names.{clashing, has_name};
 ghost use Rattle.vlog_design.specs.Rules.{conn_names, first_of};
 ghost use Rattle.vlog_design.specs.Tables.{names_of};
 
@@ -9,8 +9,35 @@ use std::alloc::Global;
 use vlog_design::names::Names;
 use vlog_values::{Conns, Module, NamedConn, ParamSet};
 
-/// The first name that stands in the list before.
-pub fn first_repeated<'a>(alloc: Global, names: &[&'a [u8]]) -> Result<Option<&'a [u8]>, NoMemory>
+/// Up to how many names are compared with each other, since a set of so few takes longer.
+const FEW: usize = 8;
+
+/// Whether the name is one of these.
+fn is_among(names: &[&[u8]], name: &[u8]) -> bool
+    ensures { result ≡ has_name (names_of names.now) name.now }
+{
+    for other in names {
+        if name == *other {
+            return true;
+        }
+    }
+    false
+}
+
+/// The first of a few names that stands in the list before, found without a set.
+fn first_among<'a>(names: &[&'a [u8]]) -> Option<&'a [u8]>
+    ensures { option_copied result ≡ first_of (clashing bytes_eq [] (names_of names.now)) }
+{
+    for place in 0..names.len() {
+        if is_among(&names[..place], names[place]) {
+            return Some(names[place]);
+        }
+    }
+    None
+}
+
+/// The first of many names that stands in the list before.
+fn first_in_set<'a>(alloc: Global, names: &[&'a [u8]]) -> Result<Option<&'a [u8]>, NoMemory>
     ensures { IfOk result (λ found. option_copied found ≡ first_of (clashing bytes_eq [] (names_of names.now))) }
 {
     let mut seen = Names::empty(alloc);
@@ -21,6 +48,16 @@ pub fn first_repeated<'a>(alloc: Global, names: &[&'a [u8]]) -> Result<Option<&'
         }
     }
     Ok(None)
+}
+
+/// The first name that stands in the list before.
+pub fn first_repeated<'a>(alloc: Global, names: &[&'a [u8]]) -> Result<Option<&'a [u8]>, NoMemory>
+    ensures { IfOk result (λ found. option_copied found ≡ first_of (clashing bytes_eq [] (names_of names.now))) }
+{
+    if names.len() <= FEW {
+        return Ok(first_among(names));
+    }
+    first_in_set(alloc, names)
 }
 
 /// The names of modules.

@@ -1,6 +1,6 @@
 use Rattle.std.proofs.Common.{◌∙◌, sym}
 use Rattle.vlog_rules.proofs.Clashes.{repeated_here, repeated_none, repeated_there}
-use Rattle.vlog_rules.proofs.repeats.first_repeated.Goals as goal
+use Rattle.vlog_rules.proofs.repeats.first_in_set.Goals as goal
 
 pub returns-then-not-new : goal.returns-then-not-new
 returns-then-not-new c =
