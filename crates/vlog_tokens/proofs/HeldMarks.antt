@@ -30,7 +30,7 @@ use Rattle.vlog_tokens.proofs.Streams.{passes_space}
 use Rattle.vlog_tokens.proofs.Readers.{reads_found}
 use Rattle.vlog_tokens.proofs.Held.{finds_after, token_found, held_within}
 
-either : (s t : Bool) {P : Type 0} → (s ≡ true → P) → (t ≡ true → P) → (s || t) ≡ true → P
+pub either : (s t : Bool) {P : Type 0} → (s ≡ true → P) → (t ≡ true → P) → (s || t) ≡ true → P
 either true t f g e = f refl
 either false t f g e = g e
 
@@ -100,7 +100,7 @@ mark_at a mark (b ∷ bs) ahead e = go (eqb b 40) refl (is_mark b) refl bs ahead
 abbrev some_ahead : ℕ → Result (Option ℕ) Halt
 some_ahead b = Ok (Some b)
 
-space_passed : (w : Window) (b : ℕ) (tail : List ℕ) → w.place.offset + length w.held ≤ LIMIT → drop (space_length w.held) w.held ≡ b ∷ tail → (l : Option (List ℕ)) → Passes w (past_space w) l l
+pub space_passed : (w : Window) (b : ℕ) (tail : List ℕ) → w.place.offset + length w.held ≤ LIMIT → drop (space_length w.held) w.held ≡ b ∷ tail → (l : Option (List ℕ)) → Passes w (past_space w) l l
 space_passed w b tail near ahead l =
     let n = space_length w.held in
     let enough : n ≤ length w.held = prefix_len-le-length is_verilog_space w.held in
@@ -135,7 +135,7 @@ mark_next w mark e = go (is_near w) refl e
     go true d h = record { near = d; at = mark_at (past_space w) mark (drop (space_length w.held) w.held) refl h }
     go false d h = absurd cc
 
-space_offset : (w : Window) → (past_space w).place.offset + length (past_space w).held ≡ w.place.offset + length w.held
+pub space_offset : (w : Window) → (past_space w).place.offset + length (past_space w).held ≡ w.place.offset + length w.held
 space_offset w = omega (arith, place_past-offset w.place (take (space_length w.held) w.held), length-take (space_length w.held) w.held, length-drop (space_length w.held) w.held, prefix_len-le-length is_verilog_space w.held)
 
 past_mark_is : (w : Window) → past_mark w ≡ past 1 (past_space w)
@@ -188,7 +188,7 @@ mark_taken s w spent e small mark is live i =
 
 -- ---- the bytes are used
 
-window_is : (b : Window) (xs : List ℕ) (p : Place) → b.held ≡ xs → b.place ≡ p → b ≡ record { held = xs; place = p }
+pub window_is : (b : Window) (xs : List ℕ) (p : Place) → b.held ≡ xs → b.place ≡ p → b ≡ record { held = xs; place = p }
 window_is b xs p e f = rw (← e, ← f) refl
 
 pub space_past : (a b : Window) (n : ℕ) → n ≡ space_length a.held → b.held ≡ drop n a.held → b.place ≡ place_past a.place (take n a.held) → b ≡ past_space a

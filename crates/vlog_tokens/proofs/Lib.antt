@@ -11,3 +11,4 @@ pub mod Readers
 pub mod Held
 pub mod HeldMarks
 pub mod HeldStrings
+pub mod HeldWords

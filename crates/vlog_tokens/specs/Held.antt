@@ -62,6 +62,23 @@ name_length bs n = if nat_lt 1024 n || nat_le (length bs) n then 0 else n
 unfoldable pub word_length : List ℕ → ℕ
 word_length bs = name_length bs (prefix_len is_name_byte bs)
 
+-- how many bytes a simple name or a keyword has at the front of some bytes, where its end is there; 0 where not
+unfoldable pub front_length : List ℕ → ℕ
+front_length [] = 0
+front_length (b ∷ bs) = if marks.begins_name b then word_length (b ∷ bs) else 0
+
+-- the simple name or the keyword at the front of some bytes, where its end is there; no bytes where not
+abbrev pub front_word : List ℕ → List ℕ
+front_word bs = take (front_length bs) bs
+
+-- the simple name or the keyword that is next behind white space, where the bytes that are held show it and its end; no bytes where not
+unfoldable pub held_word : Window → List ℕ
+held_word w = if is_near w then front_word (drop (space_length w.held) w.held) else []
+
+-- what is held behind white space and that word
+unfoldable pub past_word : Window → Window
+past_word w = past (length (held_word w)) (past_space w)
+
 -- a byte that makes a number a real: a point or an `e`
 abbrev pub makes_real : ℕ → Bool
 makes_real b = b == 46 || is_mark b

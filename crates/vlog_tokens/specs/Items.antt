@@ -6,6 +6,7 @@ use Rattle.nl_base.specs.declared.fault.Reason.TheVariants.{NumberRange}
 use Rattle.nl_base.specs.Case.{same_bytes}
 use Rattle.vlog_values.specs.declared.literal.Base.{Base}
 use Rattle.vlog_values.specs.declared.literal.Base.TheVariants.{Binary, Octal, Decimal, Hex}
+use Rattle.vlog_tokens.specs.declared.token.VToken.{VToken}
 use Rattle.vlog_tokens.specs.declared.token.VToken.TheVariants.{Name, Keyword, Number, Real, Directive}
 use Rattle.vlog_tokens.specs.declared.token.VToken.TheVariants as tokens
 use Rattle.vlog_tokens.specs.declared.item.Item.{Item}
@@ -20,6 +21,10 @@ use Rattle.vlog_tokens.specs.Scanning.{Lexeme}
 -- a simple name that is in the list of keywords is that keyword
 abbrev pub word_item : List ℕ → Item
 word_item text = if is_keyword text then Token (Keyword text) else Token (Name text)
+
+-- the same as a token
+abbrev pub word_token : List ℕ → VToken
+word_token text = if is_keyword text then Keyword text else Name text
 
 abbrev pub number_item : Option ℤ → Option Item
 number_item (Some n) = Some (Token (Number n))

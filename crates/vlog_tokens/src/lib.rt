@@ -15,6 +15,7 @@ pub mod item;
 pub mod keyword;
 pub mod lexeme;
 pub mod mark;
+pub mod next;
 pub mod number;
 pub mod phase;
 pub mod scan;

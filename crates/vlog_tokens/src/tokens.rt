@@ -1,7 +1,8 @@
-ghost use Rattle.std.specs.Prelude.{◌≡◌, ◌+◌, ◌≤◌, ℕ, Some, length, IfOk, IsFalse};
+ghost use Rattle.std.specs.Prelude.{◌≡◌, ◌+◌, ◌<◌, ◌≤◌, ℕ, Some, length, IfOk, IsFalse};
 ghost use Rattle.nl_bytes.specs.declared.bytes.TheConstants.{LIMIT};
 
 use crate::finding::found;
+use crate::next::{held_word, pass_word};
 use crate::token::VFound;
 use crate::whole::{held_mark, pass_mark};
 use nl_base::{NoMemory, Place, ReadError};
@@ -32,7 +33,8 @@ impl VTokens {
     ghost use Rattle.readers.specs.Sources.{ReadsToken, Supply, supply};
     ghost use Rattle.vlog_tokens.specs.declared.token.VToken.TheVariants.{Punct};
     ghost use Rattle.vlog_tokens.specs.Language.{vlog, fresh};
-    ghost use Rattle.vlog_tokens.specs.Held.{held_mark, past_mark};
+    ghost use Rattle.vlog_tokens.specs.Held.{held_mark, past_mark, held_word, past_word};
+    ghost use Rattle.vlog_tokens.specs.Items.{word_token};
 
     /// A reader at the start of a text.
     ///
@@ -88,6 +90,32 @@ impl VTokens {
         // The buffer holds at most 4,096 bytes, as its call says.
         let _here = self.bytes.place();
         pass_mark(&mut self.bytes)
+    }
+
+    /// The simple name or the keyword that is next, where the bytes that are held show it and its end; no bytes where not.
+    #[inline(always)]
+    pub fn held_word(&self) -> &[u8]
+        ensures word { result.now ≡ held_word self.now.window }
+        ensures held { length self.now.window.held ≤ 4096 }
+    {
+        // The buffer holds at most 4,096 bytes, as its call says.
+        let _here = self.bytes.place();
+        held_word(&self.bytes)
+    }
+
+    /// Takes the word that is next, which has so many bytes.
+    ///
+    /// A reader that is not spent then stands as after a call of `next` that answers this word.
+    #[inline(always)]
+    pub fn take_word(&mut self, count: usize)
+        requires some { 0 < count }
+        requires word { count ≡ length (held_word self.old.window) }
+        ensures left { self.new ≡ record { window = past_word self.old.window; spent = self.old.spent } }
+        ensures reads { IsFalse self.old.spent → (i : Supply) → (x : VFound) × (x.token ≡ word_token (held_word self.old.window)) × ReadsToken vlog (Ok (Some x)) self.old.window self.old.spent self.new.window self.new.spent i i }
+    {
+        // The buffer holds at most 4,096 bytes, as its call says.
+        let _here = self.bytes.place();
+        pass_word(&mut self.bytes, count)
     }
 
     /// Reads the next token, or `None` at the end of the input.

@@ -75,7 +75,7 @@ pub fn held_mark(bytes: &Bytes) -> Option<u8>
 
 /// Uses the white space that is held.
 #[inline(always)]
-fn pass_space(bytes: &mut Bytes)
+pub fn pass_space(bytes: &mut Bytes)
     requires near { is_near bytes.old ≡ true }
     ensures { bytes.new ≡ past_space bytes.old }
 {

@@ -1,0 +1,17 @@
+use Rattle.vlog_tokens.proofs.HeldWords.{word_next, word_past, word_room}
+use Rattle.vlog_tokens.proofs.next.pass_word.Goals as goal
+
+pub pass_space-requires : goal.pass_space-requires
+pass_space-requires c = record { near = (word_next _ _ c.requires.word c.requires.some).near }
+
+pub pass-requires-clause-held : goal.pass-requires-clause-held
+pass-requires-clause-held c = (word_room c.args.bytes.now _ _ c.requires.word c.requires.some c.pass_space.ensures).0
+
+pub pass-requires-clause-within : goal.pass-requires-clause-within
+pass-requires-clause-within c = (word_room c.args.bytes.now _ _ c.requires.word c.requires.some c.pass_space.ensures).1
+
+pub pass-requires-clause-each : goal.pass-requires-clause-each
+pass-requires-clause-each c = (word_room c.args.bytes.now _ _ c.requires.word c.requires.some c.pass_space.ensures).2
+
+pub returns : goal.returns
+returns c = word_past c.args.bytes.now _ _ _ c.requires.word c.pass_space.ensures c.pass.ensures.held c.pass.ensures.place
