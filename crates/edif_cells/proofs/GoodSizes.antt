@@ -7,13 +7,13 @@ use Rattle.std.proofs.lemmas.Int.{ints}
 use Rattle.std.proofs.lemmas.Bool.{false≢true}
 use Rattle.std.proofs.lemmas.Bool.Decides.{nat_tests}
 use Rattle.std.proofs.lemmas.Option.{slice_get-map}
-use Rattle.edif_names.specs.Names.{HasSize, IsSize}
-use Rattle.edif_names.specs.declared.name.PortName.{PortName}
-use Rattle.edif_names.specs.declared.name.PortName.TheVariants.{Single, Array}
-use Rattle.edif_nets.specs.declared.port.Port.{Port}
+use Rattle.edif_values.specs.Names.{HasSize, IsSize}
+use Rattle.edif_values.specs.declared.name.PortName.{PortName}
+use Rattle.edif_values.specs.declared.name.PortName.TheVariants.{Single, Array}
+use Rattle.edif_values.specs.declared.port.Port.{Port}
 use Rattle.net_hier.specs.declared.nodes.Node.{Node}
 use Rattle.net_hier.specs.declared.nodes.Node.TheVariants as nodes
-use Rattle.edif_library.specs.declared.cell.Cell.{Cell}
+use Rattle.edif_values.specs.declared.cell.Cell.{Cell}
 use Rattle.edif_design.specs.CellRules.{bit_of, has_good_sizes, is_bad_size, is_no_member, only_bit, size_of}
 use Rattle.edif_design.specs.Parts.{ports}
 use Rattle.edif_nets_rules.specs.Scopes.{ScopeLists, inner_ports, node_found, port_at}

@@ -1,8 +1,8 @@
 // A cell of a design, made of a cell of an EDIF file.
 ghost use Rattle.std.specs.Prelude.{◌≡◌, ◌≤◌, false, true, ℕ, None, Some, IfOk, get_or, length, map, slice_get};
 ghost use Rattle.std.specs.List.{flat_map, list_any};
-ghost use Rattle.edif_library.specs.Sizes.{cell_size};
-ghost use Rattle.edif_library.specs.declared.cell.Cell.{Cell};
+ghost use Rattle.edif_values.specs.Sizes.{cell_size};
+ghost use Rattle.edif_values.specs.declared.cell.Cell.{Cell};
 ghost use Rattle.edif_design.specs.CellRules.{has_good_sizes};
 ghost use Rattle.edif_design.specs.Design.{cell_value, net_joins, net_value, port_value};
 ghost use Rattle.edif_design.specs.Parts.{instances, nets, numbered, ports};
@@ -13,10 +13,9 @@ use crate::joins::joins_made;
 use crate::parts::{instances_made, nets_made, ports_made};
 use crate::properties::all_properties;
 use edif_design::FileTables;
-use edif_library::Cell;
-use edif_names::original;
 use edif_nets_rules::parts::{contents_of, instances_in, nets_in, ports_of};
 use edif_nets_rules::{InstanceTable, PortTable, Scope};
+use edif_values::{Cell, original};
 use net_hier::{HCell, HInst, HNet, HPort, Join};
 use nl_base::{NoMemory, Seq, Text};
 use std::alloc::Global;

@@ -8,8 +8,8 @@ ghost use Rattle.edif_nets_rules.specs.Scopes.{found_of, lists_of};
 ghost use Rattle.edif_nets_rules.specs.Spots.{node_at};
 ghost use Rattle.edif_cells.specs.Values.{HasGoodSizes, join_of, joins_of};
 
-use edif_nets::{Net, PortRef};
 use edif_nets_rules::{Scope, Spot, find_port, member_of, spot_of};
+use edif_values::{Net, PortRef};
 use net_hier::{Join, Node};
 use nl_base::{NoMemory, Seq};
 use std::alloc::Global;

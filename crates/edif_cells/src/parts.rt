@@ -8,8 +8,7 @@ ghost use Rattle.edif_cells.specs.Values.{instance_at, instance_of, is_bad_port,
 ghost use Rattle.edif_nets_rules.specs.Lists.{seen};
 
 use crate::properties::{instance_properties, net_properties, port_properties};
-use edif_names::{original, port_original};
-use edif_nets::{Instance, Net, Port, direction};
+use edif_values::{Instance, Net, Port, direction, original, port_original};
 use net_hier::{HInst, HNet, HPort};
 use nl_base::{NoMemory, Seq, Text};
 use std::alloc::Global;

@@ -5,13 +5,13 @@ use Rattle.std.specs.List.{cons_option, filter_map, flat_map}
 use Rattle.std.specs.Option.{option_and_then}
 use Rattle.std.proofs.lemmas.List.Elements.{Contains-append_cases}
 use Rattle.nl_base.specs.declared.value.Dir.TheVariants.{Output}
-use Rattle.edif_names.specs.declared.name.NameDef.{NameDef}
-use Rattle.edif_nets.specs.Directions.{direction_of, told}
-use Rattle.edif_nets.specs.declared.instance.Instance.{Instance}
-use Rattle.edif_nets.specs.declared.net.Net.{Net}
-use Rattle.edif_nets.specs.declared.net.PortRef.{PortRef}
-use Rattle.edif_nets.specs.declared.port.Port.{Port}
-use Rattle.edif_library.specs.declared.file.EdifFile.{EdifFile}
+use Rattle.edif_values.specs.declared.name.NameDef.{NameDef}
+use Rattle.edif_values.specs.Directions.{direction_of, told}
+use Rattle.edif_values.specs.declared.instance.Instance.{Instance}
+use Rattle.edif_values.specs.declared.net.Net.{Net}
+use Rattle.edif_values.specs.declared.net.PortRef.{PortRef}
+use Rattle.edif_values.specs.declared.port.Port.{Port}
+use Rattle.edif_values.specs.declared.file.EdifFile.{EdifFile}
 use Rattle.edif_design.specs.CellRules.{Owner, bit_meant, bit_of, node_of, owner_bit, owner_of, port_candidates, size_of}
 use Rattle.edif_design.specs.Design.{cell_value, instance_value, net_joins, port_value}
 use Rattle.edif_design.specs.Parts.{nets, numbered}

@@ -1,7 +1,7 @@
 -- A planned file is one for its design.
 use Rattle.std.proofs.Common.{◌≡◌, ℕ, List, [], None, Some, length, refl, sym, ap, ◌∙◌, subst}
 use Rattle.std.specs.Prelude.{slice_get}
-use Rattle.edif_library.specs.declared.file.EdifFile.{EdifFile}
+use Rattle.edif_values.specs.declared.file.EdifFile.{EdifFile}
 use Rattle.edif_design.specs.Design.{edif_cells, edif_properties, edif_top}
 use Rattle.edif_design.specs.FileRules.{first_E, recursion_refusals}
 use Rattle.edif_resolve.proofs.Fitting.{good_cells}

@@ -4,7 +4,7 @@ use Rattle.net_hier.specs.Constants.{ConstantNames}
 use Rattle.net_hier.specs.Design.{Design}
 use Rattle.net_hier.specs.SameCells.{SameCells}
 use Rattle.net_hier.specs.SameDesign.{SameDesign}
-use Rattle.edif_library.specs.declared.file.EdifFile.{EdifFile}
+use Rattle.edif_values.specs.declared.file.EdifFile.{EdifFile}
 use Rattle.edif_design.specs.Design.{edif_design}
 use Rattle.edif_design.specs.FileRules.{first_E}
 use Rattle.edif_copies.specs.Missing.{AreMissing}

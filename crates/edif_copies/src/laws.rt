@@ -4,7 +4,7 @@ ghost use Rattle.edif_copies.specs.Answers.{IsEdifFor};
 ghost use Rattle.edif_copies.specs.Planned.{IsPlannedFile};
 ghost use Rattle.edif_design.specs.Design.{cell_value};
 ghost use Rattle.edif_design.specs.References.{linked_cell, place_in};
-ghost use Rattle.edif_library.specs.declared.file.EdifFile.{EdifFile};
+ghost use Rattle.edif_values.specs.declared.file.EdifFile.{EdifFile};
 ghost use Rattle.edif_plans.specs.Made.{new_cell_for};
 ghost use Rattle.edif_plans.specs.declared.head.Head.{Head};
 ghost use Rattle.net_hier.specs.Cells.{IsConstantCell};

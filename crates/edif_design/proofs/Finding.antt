@@ -6,9 +6,9 @@ use Rattle.std.proofs.lemmas.Option.{slice_get-get_or, slice_get-map, slice_get_
 use Rattle.edif_lookup.specs.Tables.{meaning, meant_by, named}
 use Rattle.edif_lookup.specs.declared.definitions.Meaning.TheVariants.{Nothing}
 use Rattle.edif_lookup.proofs.Naming.{meaning-named}
-use Rattle.edif_library.specs.declared.cell.Cell.{Cell}
-use Rattle.edif_library.specs.declared.file.EdifFile.{EdifFile}
-use Rattle.edif_library.specs.declared.library.Library.{Library}
+use Rattle.edif_values.specs.declared.cell.Cell.{Cell}
+use Rattle.edif_values.specs.declared.file.EdifFile.{EdifFile}
+use Rattle.edif_values.specs.declared.library.Library.{Library}
 use Rattle.edif_design.specs.CellRules.{means_view}
 use Rattle.edif_design.specs.Parts.{libraries, numbered}
 use Rattle.edif_design.specs.References.{CellPlace, all_cells, cell_candidates, cells_of_library, file_cells, library_candidates}

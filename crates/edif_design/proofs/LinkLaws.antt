@@ -6,8 +6,8 @@ use Rattle.nl_base.specs.declared.rule.Rule.TheVariants.{E2, E3}
 use Rattle.edif_lookup.specs.Candidates.{the_only}
 use Rattle.edif_lookup.specs.Refusals.{broken_reference, if_some, lower, lowest}
 use Rattle.edif_lookup.specs.Tables.{meant_by}
-use Rattle.edif_library.specs.declared.file.EdifFile.{EdifFile}
-use Rattle.edif_library.specs.declared.library.Library.{Library}
+use Rattle.edif_values.specs.declared.file.EdifFile.{EdifFile}
+use Rattle.edif_values.specs.declared.library.Library.{Library}
 use Rattle.edif_design.specs.CellRules.{link_refusals}
 use Rattle.edif_design.specs.References.{CellPlace, cell_candidates, library_candidates, link_meant, number_meant}
 use Rattle.edif_design.specs.Tables.{link_by_candidates, link_in, linked_as, linked_number, linked_refusal}

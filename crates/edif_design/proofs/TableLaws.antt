@@ -9,8 +9,8 @@ use Rattle.std.proofs.lemmas.List.Elements.{filter-append}
 use Rattle.std.proofs.lemmas.Grind.{flat_map-append}
 use Rattle.edif_lookup.specs.Tables.{named}
 use Rattle.edif_lookup.proofs.ListLaws.{drop_more, enumerate_from-append, enumerate_more, filter_map_more, flat_map_more, map_more}
-use Rattle.edif_library.specs.declared.cell.Cell.{Cell}
-use Rattle.edif_library.specs.declared.library.Library.{Library}
+use Rattle.edif_values.specs.declared.cell.Cell.{Cell}
+use Rattle.edif_values.specs.declared.library.Library.{Library}
 use Rattle.edif_design.specs.Parts.{cells_in}
 use Rattle.edif_design.specs.References.{CellPlace, place_in}
 use Rattle.edif_design.specs.Tables.{cell_ident, library_ident, place_of, places_from, seen, tables_from}

@@ -6,9 +6,9 @@ use Rattle.std.specs.List.{cons_option, enumerate_from, filter_map, flat_map}
 use Rattle.std.proofs.lemmas.List.{append-nil, map-append, length-append, length-map, get_or-map}
 use Rattle.edif_lookup.specs.Tables.{named, written}
 use Rattle.edif_lookup.proofs.ListLaws.{drop_more, enumerate_from-append, filter_map_more}
-use Rattle.edif_library.specs.declared.cell.Cell.{Cell}
-use Rattle.edif_library.specs.declared.library.Library.{Library}
-use Rattle.edif_library.specs.declared.library.LibraryItem.{LibraryItem}
+use Rattle.edif_values.specs.declared.cell.Cell.{Cell}
+use Rattle.edif_values.specs.declared.library.Library.{Library}
+use Rattle.edif_values.specs.declared.library.LibraryItem.{LibraryItem}
 use Rattle.edif_design.specs.Parts.{cell_in, cells_in}
 use Rattle.edif_design.specs.References.{CellPlace, place_in}
 use Rattle.edif_design.specs.Tables.{cell_ident, seen, tables_from}

@@ -11,9 +11,9 @@ use Rattle.nl_base.specs.Case.{same_bytes, same_up_to_case, small}
 use Rattle.edif_lookup.specs.Candidates.{candidates, first_or_all, the_only}
 use Rattle.edif_lookup.specs.Tables.{meaning, meant_by, written}
 use Rattle.edif_lookup.proofs.ListLaws.{filter_map_more}
-use Rattle.edif_library.specs.declared.cell.Cell.{Cell}
-use Rattle.edif_library.specs.declared.cell.CellItem.{CellItem}
-use Rattle.edif_library.specs.declared.view.View.{View}
+use Rattle.edif_values.specs.declared.cell.Cell.{Cell}
+use Rattle.edif_values.specs.declared.cell.CellItem.{CellItem}
+use Rattle.edif_values.specs.declared.view.View.{View}
 use Rattle.edif_design.specs.CellRules.{means_view}
 use Rattle.edif_design.specs.Parts.{numbered, view_in, views}
 use Rattle.edif_design.specs.Views.{entry_names, held_names, is_one, means_one, view_ident, view_names}

@@ -2,18 +2,18 @@
 -- of EDIF 2 0 0 say of it.
 use Rattle.std.specs.Prelude.{ℕ, ◌+◌, Bool, cond, List, [], ◌∷◌, ◌++◌, map, get_or, Option, Some, None, option_map}
 use Rattle.std.specs.List.{filter_map, flat_map}
-use Rattle.edif_names.specs.Names.{original, port_original}
-use Rattle.edif_names.specs.declared.property.Property.{Property}
-use Rattle.edif_nets.specs.Directions.{direction_of}
-use Rattle.edif_nets.specs.declared.instance.Instance.{Instance}
-use Rattle.edif_nets.specs.declared.instance.InstanceItem.{InstanceItem}
-use Rattle.edif_nets.specs.declared.instance.InstanceItem.TheVariants as instance_items
-use Rattle.edif_nets.specs.declared.net.Net.{Net}
-use Rattle.edif_nets.specs.declared.net.NetItem.{NetItem}
-use Rattle.edif_nets.specs.declared.net.NetItem.TheVariants as net_items
-use Rattle.edif_nets.specs.declared.port.Port.{Port}
-use Rattle.edif_nets.specs.declared.port.PortItem.{PortItem}
-use Rattle.edif_nets.specs.declared.port.PortItem.TheVariants as port_items
+use Rattle.edif_values.specs.Names.{original, port_original}
+use Rattle.edif_values.specs.declared.property.Property.{Property}
+use Rattle.edif_values.specs.Directions.{direction_of}
+use Rattle.edif_values.specs.declared.instance.Instance.{Instance}
+use Rattle.edif_values.specs.declared.instance.InstanceItem.{InstanceItem}
+use Rattle.edif_values.specs.declared.instance.InstanceItem.TheVariants as instance_items
+use Rattle.edif_values.specs.declared.net.Net.{Net}
+use Rattle.edif_values.specs.declared.net.NetItem.{NetItem}
+use Rattle.edif_values.specs.declared.net.NetItem.TheVariants as net_items
+use Rattle.edif_values.specs.declared.port.Port.{Port}
+use Rattle.edif_values.specs.declared.port.PortItem.{PortItem}
+use Rattle.edif_values.specs.declared.port.PortItem.TheVariants as port_items
 use Rattle.net_hier.specs.declared.cells.HCell.{HCell}
 use Rattle.net_hier.specs.declared.cells.HInst.{HInst}
 use Rattle.net_hier.specs.declared.cells.HNet.{HNet}
@@ -21,17 +21,17 @@ use Rattle.net_hier.specs.declared.cells.HPort.{HPort}
 use Rattle.net_hier.specs.declared.cells.HProp.{HProp}
 use Rattle.net_hier.specs.declared.nodes.Join.{Join}
 use Rattle.net_hier.specs.declared.nodes.Node.TheVariants as nodes
-use Rattle.edif_library.specs.declared.cell.Cell.{Cell}
-use Rattle.edif_library.specs.declared.cell.CellItem.{CellItem}
-use Rattle.edif_library.specs.declared.cell.CellItem.TheVariants as cell_items
-use Rattle.edif_library.specs.declared.file.Design.{Design}
-use Rattle.edif_library.specs.declared.file.DesignItem.{DesignItem}
-use Rattle.edif_library.specs.declared.file.DesignItem.TheVariants as design_items
-use Rattle.edif_library.specs.declared.file.EdifFile.{EdifFile}
-use Rattle.edif_library.specs.declared.view.InterfaceItem.{InterfaceItem}
-use Rattle.edif_library.specs.declared.view.InterfaceItem.TheVariants as interface_items
-use Rattle.edif_library.specs.declared.view.ViewItem.{ViewItem}
-use Rattle.edif_library.specs.declared.view.ViewItem.TheVariants as view_items
+use Rattle.edif_values.specs.declared.cell.Cell.{Cell}
+use Rattle.edif_values.specs.declared.cell.CellItem.{CellItem}
+use Rattle.edif_values.specs.declared.cell.CellItem.TheVariants as cell_items
+use Rattle.edif_values.specs.declared.file.Design.{Design}
+use Rattle.edif_values.specs.declared.file.DesignItem.{DesignItem}
+use Rattle.edif_values.specs.declared.file.DesignItem.TheVariants as design_items
+use Rattle.edif_values.specs.declared.file.EdifFile.{EdifFile}
+use Rattle.edif_values.specs.declared.view.InterfaceItem.{InterfaceItem}
+use Rattle.edif_values.specs.declared.view.InterfaceItem.TheVariants as interface_items
+use Rattle.edif_values.specs.declared.view.ViewItem.{ViewItem}
+use Rattle.edif_values.specs.declared.view.ViewItem.TheVariants as view_items
 use Rattle.edif_design.specs.CellRules.{bit_meant}
 use Rattle.edif_design.specs.Parts.{designs, instances, nets, numbered, ports}
 use Rattle.edif_design.specs.Reach.{reached_cells, reached_marks}

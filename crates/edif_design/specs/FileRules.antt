@@ -7,13 +7,13 @@ use Rattle.net_graph.specs.Marks.{is_marked, marks_of}
 use Rattle.net_hier.specs.Design.{cells_below}
 use Rattle.net_hier.specs.declared.cells.HCell.{HCell}
 use Rattle.net_hier.specs.declared.cells.HInst.{HInst}
-use Rattle.edif_names.specs.Names.{original}
-use Rattle.edif_library.specs.declared.cell.Cell.{Cell}
-use Rattle.edif_library.specs.declared.file.Design.{Design}
-use Rattle.edif_library.specs.declared.file.EdifFile.{EdifFile}
-use Rattle.edif_library.specs.declared.file.FileItem.{FileItem}
-use Rattle.edif_library.specs.declared.file.FileItem.TheVariants as file_items
-use Rattle.edif_library.specs.declared.library.Library.{Library}
+use Rattle.edif_values.specs.Names.{original}
+use Rattle.edif_values.specs.declared.cell.Cell.{Cell}
+use Rattle.edif_values.specs.declared.file.Design.{Design}
+use Rattle.edif_values.specs.declared.file.EdifFile.{EdifFile}
+use Rattle.edif_values.specs.declared.file.FileItem.{FileItem}
+use Rattle.edif_values.specs.declared.file.FileItem.TheVariants as file_items
+use Rattle.edif_values.specs.declared.library.Library.{Library}
 use Rattle.edif_design.specs.CellRules.{cell_refusals, link_refusals}
 use Rattle.edif_design.specs.Design.{edif_cells}
 use Rattle.edif_design.specs.Parts.{cells_in, designs, libraries_in, numbered, views}

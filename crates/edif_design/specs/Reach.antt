@@ -2,7 +2,7 @@
 use Rattle.std.specs.Prelude.{ℕ, Bool, List, [], map, Option, Some, None}
 use Rattle.std.specs.List.{filter, filter_map}
 use Rattle.net_graph.specs.Marks.{is_marked, marks_of}
-use Rattle.edif_library.specs.declared.file.EdifFile.{EdifFile}
+use Rattle.edif_values.specs.declared.file.EdifFile.{EdifFile}
 use Rattle.edif_design.specs.Parts.{numbered}
 use Rattle.edif_design.specs.References.{CellPlace, all_cells, numbers_meant, top}
 

@@ -2,12 +2,12 @@
 use Rattle.std.specs.Prelude.{ℕ, ◌==◌, List, [], ◌∷◌, map, slice_get, Option, Some, None, option_map}
 use Rattle.std.specs.List.{filter, flat_map}
 use Rattle.std.specs.Option.{option_and_then}
-use Rattle.edif_nets.specs.declared.instance.Instance.{Instance}
+use Rattle.edif_values.specs.declared.instance.Instance.{Instance}
 use Rattle.edif_lookup.specs.Candidates.{candidates, the_only}
-use Rattle.edif_library.specs.declared.cell.Cell.{Cell}
-use Rattle.edif_library.specs.declared.file.Design.{Design}
-use Rattle.edif_library.specs.declared.file.EdifFile.{EdifFile}
-use Rattle.edif_library.specs.declared.library.Library.{Library}
+use Rattle.edif_values.specs.declared.cell.Cell.{Cell}
+use Rattle.edif_values.specs.declared.file.Design.{Design}
+use Rattle.edif_values.specs.declared.file.EdifFile.{EdifFile}
+use Rattle.edif_values.specs.declared.library.Library.{Library}
 use Rattle.edif_design.specs.Parts.{cells_in, designs, instances, libraries, numbered}
 
 -- a cell, and the number of the library in which it stands

@@ -8,9 +8,9 @@ use Rattle.nl_base.specs.declared.rule.Rule.TheVariants.{E2, E3, E6}
 use Rattle.edif_lookup.specs.Tables.{meant_by, named}
 use Rattle.edif_lookup.specs.declared.definitions.Meaning.{Meaning}
 use Rattle.edif_lookup.specs.declared.definitions.Meaning.TheVariants.{Nothing, One, Several}
-use Rattle.edif_library.specs.declared.cell.Cell.{Cell}
-use Rattle.edif_library.specs.declared.file.EdifFile.{EdifFile}
-use Rattle.edif_library.specs.declared.library.Library.{Library}
+use Rattle.edif_values.specs.declared.cell.Cell.{Cell}
+use Rattle.edif_values.specs.declared.file.EdifFile.{EdifFile}
+use Rattle.edif_values.specs.declared.library.Library.{Library}
 use Rattle.edif_design.specs.Parts.{cells_in, libraries, numbered}
 use Rattle.edif_design.specs.References.{CellPlace, all_cells, cell_candidates, cells_of_library, file_cells, library_candidates, place_in}
 use Rattle.edif_design.specs.Views.{view_names}

@@ -4,8 +4,8 @@ use Rattle.std.specs.Borrow.{Bor}
 use Rattle.edif_lookup.specs.Candidates.{candidates, the_only}
 use Rattle.edif_lookup.specs.declared.definitions.Meaning.{Meaning}
 use Rattle.edif_lookup.specs.declared.definitions.Meaning.TheVariants.{Nothing, One, Several}
-use Rattle.edif_library.specs.declared.cell.Cell.{Cell}
-use Rattle.edif_library.specs.declared.view.View.{View}
+use Rattle.edif_values.specs.declared.cell.Cell.{Cell}
+use Rattle.edif_values.specs.declared.view.View.{View}
 use Rattle.edif_design.specs.Parts.{numbered, views}
 
 -- the identifier of a view, and the identifiers of the views of a cell

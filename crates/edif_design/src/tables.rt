@@ -2,7 +2,7 @@
 ghost use Rattle.std.specs.Prelude.{◌≡◌, ◌≤◌, ◌<◌, ◌^◌, ◌+◌, ◌++◌, length, map, slice_get, option_map, vec_len, option_to_list, IfOk, OnOk};
 ghost use Rattle.std.specs.List.{enumerate_from, flat_map};
 ghost use Rattle.edif_lookup.specs.Tables.{meant_by, named, written};
-ghost use Rattle.edif_library.specs.Sizes.{edif_size};
+ghost use Rattle.edif_values.specs.Sizes.{edif_size};
 ghost use Rattle.net_hier.specs.Valid.{count_limit};
 ghost use Rattle.edif_design.specs.CellRules.{means_view};
 ghost use Rattle.edif_design.specs.Parts.{cell_in, cells_in, libraries, library_in, numbered};
@@ -11,8 +11,8 @@ ghost use Rattle.edif_design.specs.Tables.{cell_ident, library_ident, place_of, 
 ghost use Rattle.edif_design.specs.Views.{view_names};
 
 use crate::views::CellViews;
-use edif_library::{Cell, EdifFile, FileItem, Library, LibraryItem};
 use edif_lookup::{Definitions, Meaning};
+use edif_values::{Cell, EdifFile, FileItem, Library, LibraryItem};
 use nl_base::NoMemory;
 use std::alloc::Global;
 use std::marker::Model;
@@ -37,8 +37,8 @@ pub struct FileTables<'a> {
 impl<'a> Model for FileTables<'a> {
     ghost use Rattle.edif_design.specs.Tables.{HasTables};
     ghost use Rattle.std.specs.Coded.{codes};
-    ghost use Rattle.edif_library.specs.declared.file.EdifFile.{EdifFile};
-    ghost use Rattle.edif_status.specs.contracts.user.UserTree as trees;
+    ghost use Rattle.edif_values.specs.declared.file.EdifFile.{EdifFile};
+    ghost use Rattle.edif_values.specs.contracts.user.UserTree as trees;
 
     ghost Value = { EdifFile };
 

@@ -5,8 +5,8 @@ ghost use Rattle.edif_lookup.specs.Tables.{meaning};
 ghost use Rattle.edif_design.specs.Parts.{view_in};
 ghost use Rattle.edif_design.specs.Views.{entry_names, is_one, means_one, view_ident, view_names};
 
-use edif_library::{Cell, CellItem};
 use edif_lookup::{Definitions, Meaning};
+use edif_values::{Cell, CellItem};
 use nl_base::{NoMemory, fold_eq};
 use std::alloc::Global;
 use std::marker::Model;

@@ -4,7 +4,7 @@ use Rattle.nl_base.specs.declared.rule.Refusal.{Refusal}
 use Rattle.edif_lookup.specs.Refusals.{lower, lowest}
 use Rattle.edif_lookup.proofs.FirstLaws.{first-lowest}
 use Rattle.edif_lookup.proofs.Orders.{none_left}
-use Rattle.edif_library.specs.declared.file.EdifFile.{EdifFile}
+use Rattle.edif_values.specs.declared.file.EdifFile.{EdifFile}
 use Rattle.edif_design.specs.Design.{edif_cells}
 use Rattle.edif_design.specs.FileRules.{first_E, recursion_refusals, refusals}
 

@@ -2,19 +2,19 @@
 use Rattle.std.proofs.Common.{◌≡◌, ℕ, true, false, List, [], ◌∷◌, None, Some, IfSome, map, sym, subst}
 use Rattle.std.specs.Prelude.{slice_get}
 use Rattle.std.specs.List.{AllByRecursion}
-use Rattle.edif_tokens.specs.Proper.{AreBytes}
-use Rattle.edif_names.specs.Names.{original}
-use Rattle.edif_nets.specs.Values.{IsInstance, IsNet, IsPort}
-use Rattle.edif_nets.specs.declared.port.Port.{Port}
+use Rattle.edif_values.specs.Proper.{AreBytes}
+use Rattle.edif_values.specs.Names.{original}
+use Rattle.edif_values.specs.Values.{IsInstance, IsNet, IsPort}
+use Rattle.edif_values.specs.declared.port.Port.{Port}
 use Rattle.edif_library.specs.Text.{EdifReads}
-use Rattle.edif_library.specs.declared.file.EdifFile.{EdifFile}
+use Rattle.edif_values.specs.declared.file.EdifFile.{EdifFile}
 use Rattle.edif_design.specs.CellRules.{is_bad_size, size_of}
 use Rattle.edif_design.specs.Design.{cell_value, edif_cells, edif_design, instance_value, net_value, numbers_in_design, port_value}
 use Rattle.edif_design.specs.FileRules.{first_E, refusals}
 use Rattle.edif_design.specs.Parts.{instances, nets, numbered, ports}
 use Rattle.edif_design.specs.Reach.{is_reached}
 use Rattle.edif_design.specs.References.{CellPlace, LinkedCell, all_cells, linked_cell}
-use Rattle.edif_rereading.specs.Values as values
+use Rattle.edif_values.specs.Values as values
 use Rattle.edif_rereading.proofs.Kept.{read_values}
 use Rattle.edif_resolve.specs.Answers.{IsDesignOf}
 use Rattle.edif_resolve.proofs.Clean.{ports_clean, reached_clean}

@@ -3,38 +3,36 @@ use Rattle.std.proofs.Common.{IfSome, map}
 use Rattle.std.specs.List.{AllByRecursion, filter_map, flat_map}
 use Rattle.nl_base.specs.declared.value.PropValue.{PropValue}
 use Rattle.nl_base.specs.declared.value.PropValue.TheVariants as values
-use Rattle.edif_names.specs.Values.{IsProperty, IsPropValue}
-use Rattle.edif_names.specs.declared.property.Property.{Property}
-use Rattle.edif_nets.specs.Values.{IsInstance, IsInstanceItem, IsNet, IsNetItem, IsPort, IsPortItem}
-use Rattle.edif_nets.specs.declared.instance.Instance.{Instance}
-use Rattle.edif_nets.specs.declared.instance.InstanceItem.{InstanceItem}
-use Rattle.edif_nets.specs.declared.instance.InstanceItem.TheVariants as instance_items
-use Rattle.edif_nets.specs.declared.net.Net.{Net}
-use Rattle.edif_nets.specs.declared.net.NetItem.{NetItem}
-use Rattle.edif_nets.specs.declared.net.NetItem.TheVariants as net_items
-use Rattle.edif_nets.specs.declared.port.Port.{Port}
-use Rattle.edif_nets.specs.declared.port.PortItem.{PortItem}
-use Rattle.edif_nets.specs.declared.port.PortItem.TheVariants as port_items
-use Rattle.edif_library.specs.declared.cell.Cell.{Cell}
-use Rattle.edif_library.specs.declared.cell.CellItem.{CellItem}
-use Rattle.edif_library.specs.declared.cell.CellItem.TheVariants as cell_items
-use Rattle.edif_library.specs.declared.file.DesignItem.{DesignItem}
-use Rattle.edif_library.specs.declared.file.DesignItem.TheVariants as design_items
-use Rattle.edif_library.specs.declared.file.EdifFile.{EdifFile}
-use Rattle.edif_library.specs.declared.file.FileItem.{FileItem}
-use Rattle.edif_library.specs.declared.file.FileItem.TheVariants as file_items
-use Rattle.edif_library.specs.declared.library.LibraryItem.{LibraryItem}
-use Rattle.edif_library.specs.declared.library.LibraryItem.TheVariants as library_items
-use Rattle.edif_library.specs.declared.view.ContentsItem.{ContentsItem}
-use Rattle.edif_library.specs.declared.view.ContentsItem.TheVariants as contents_items
-use Rattle.edif_library.specs.declared.view.InterfaceItem.{InterfaceItem}
-use Rattle.edif_library.specs.declared.view.InterfaceItem.TheVariants as interface_items
-use Rattle.edif_library.specs.declared.view.ViewItem.{ViewItem}
-use Rattle.edif_library.specs.declared.view.ViewItem.TheVariants as view_items
+use Rattle.edif_values.specs.Values.{IsProperty, IsPropValue, IsInstance, IsInstanceItem, IsNet, IsNetItem, IsPort, IsPortItem, IsCell, IsCellItem, IsContentsItem, IsDesign, IsDesignItem, IsEdifValue, IsFileItem, IsInterfaceItem, IsLibrary, IsLibraryItem, IsView, IsViewItem}
+use Rattle.edif_values.specs.declared.property.Property.{Property}
+use Rattle.edif_values.specs.declared.instance.Instance.{Instance}
+use Rattle.edif_values.specs.declared.instance.InstanceItem.{InstanceItem}
+use Rattle.edif_values.specs.declared.instance.InstanceItem.TheVariants as instance_items
+use Rattle.edif_values.specs.declared.net.Net.{Net}
+use Rattle.edif_values.specs.declared.net.NetItem.{NetItem}
+use Rattle.edif_values.specs.declared.net.NetItem.TheVariants as net_items
+use Rattle.edif_values.specs.declared.port.Port.{Port}
+use Rattle.edif_values.specs.declared.port.PortItem.{PortItem}
+use Rattle.edif_values.specs.declared.port.PortItem.TheVariants as port_items
+use Rattle.edif_values.specs.declared.cell.Cell.{Cell}
+use Rattle.edif_values.specs.declared.cell.CellItem.{CellItem}
+use Rattle.edif_values.specs.declared.cell.CellItem.TheVariants as cell_items
+use Rattle.edif_values.specs.declared.file.DesignItem.{DesignItem}
+use Rattle.edif_values.specs.declared.file.DesignItem.TheVariants as design_items
+use Rattle.edif_values.specs.declared.file.EdifFile.{EdifFile}
+use Rattle.edif_values.specs.declared.file.FileItem.{FileItem}
+use Rattle.edif_values.specs.declared.file.FileItem.TheVariants as file_items
+use Rattle.edif_values.specs.declared.library.LibraryItem.{LibraryItem}
+use Rattle.edif_values.specs.declared.library.LibraryItem.TheVariants as library_items
+use Rattle.edif_values.specs.declared.view.ContentsItem.{ContentsItem}
+use Rattle.edif_values.specs.declared.view.ContentsItem.TheVariants as contents_items
+use Rattle.edif_values.specs.declared.view.InterfaceItem.{InterfaceItem}
+use Rattle.edif_values.specs.declared.view.InterfaceItem.TheVariants as interface_items
+use Rattle.edif_values.specs.declared.view.ViewItem.{ViewItem}
+use Rattle.edif_values.specs.declared.view.ViewItem.TheVariants as view_items
 use Rattle.edif_design.specs.Design.{cell_properties, design_property, design_properties, edif_properties, instance_property, interface_property, net_property, port_property, property_value, view_property}
 use Rattle.edif_design.specs.Parts.{cell_contents, cell_in, cells_in, contents, contents_in, design_in, designs, instance_in, instances, libraries, library_in, net_in, nets, numbered, port_in, ports, view_in, views}
 use Rattle.edif_design.specs.References.{all_cells, place_in}
-use Rattle.edif_rereading.specs.Values.{IsCell, IsCellItem, IsContentsItem, IsDesign, IsDesignItem, IsEdifValue, IsFileItem, IsInterfaceItem, IsLibrary, IsLibraryItem, IsView, IsViewItem}
 use Rattle.net_hier.specs.declared.cells.HProp.{HProp}
 use Rattle.net_values.specs.Sound.{AreSoundProps, IsSoundValue}
 use Rattle.edif_design_laws.proofs.Lists.{all_append, all_flat, all_map, all_numbered, all_some}

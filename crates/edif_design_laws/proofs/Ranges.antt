@@ -2,10 +2,10 @@
 use Rattle.std.proofs.Common.{◌≡◌, inl, inr, ℕ, ◌<◌, ◌≤◌, ◌^◌, false, List, IfSome, pos, negsuc, sym, subst, arith}
 use Rattle.std.specs.Prelude.{◌-ℤ◌, nat_abs}
 use Rattle.std.proofs.lemmas.Int.{ints}
-use Rattle.edif_names.specs.Names.{array_name, original, port_original}
-use Rattle.edif_names.specs.declared.name.PortName.{PortName}
-use Rattle.edif_names.specs.declared.name.PortName.TheVariants.{Single, Array}
-use Rattle.edif_names.proofs.Names.{array_named}
+use Rattle.edif_values.specs.Names.{array_name, original, port_original}
+use Rattle.edif_values.specs.declared.name.PortName.{PortName}
+use Rattle.edif_values.specs.declared.name.PortName.TheVariants.{Single, Array}
+use Rattle.edif_values.proofs.Names.{array_named}
 use Rattle.edif_cells.proofs.GoodSizes.{good_name}
 use Rattle.edif_design.specs.CellRules.{is_bad_size, size_of}
 use Rattle.vlog_values.specs.Values.{IsRange}

@@ -3,10 +3,10 @@ ghost use Rattle.std.specs.Prelude.{◌≡◌, ℕ, List, None};
 ghost use Rattle.edif_design.specs.Design.{edif_design};
 ghost use Rattle.edif_design.specs.FileRules.{first_E};
 ghost use Rattle.edif_library.specs.Text.{EdifReads};
-ghost use Rattle.edif_library.specs.declared.file.EdifFile.{EdifFile};
-ghost use Rattle.edif_rereading.specs.Values.{IsEdifValue};
+ghost use Rattle.edif_values.specs.declared.file.EdifFile.{EdifFile};
+ghost use Rattle.edif_values.specs.Values.{IsEdifValue};
 ghost use Rattle.edif_resolve.specs.Answers.{IsDesignOf};
-ghost use Rattle.edif_tokens.specs.Proper.{AreBytes};
+ghost use Rattle.edif_values.specs.Proper.{AreBytes};
 ghost use Rattle.net_hier.specs.Design.{Design};
 ghost use Rattle.net_values.specs.Sound.{IsSound};
 

@@ -1,8 +1,8 @@
 // The parts that the cursor itself reads.
 ghost use Rattle.std.specs.Prelude.{◌≡◌, true, List};
 ghost use Rattle.edif_keywords.specs.Aliases.{Alias};
-ghost use Rattle.edif_keywords.specs.Keywords.{has};
-ghost use Rattle.edif_keywords.specs.declared.keyword.Keyword.{Keyword};
+ghost use Rattle.edif_values.specs.Keywords.{has};
+ghost use Rattle.edif_values.specs.declared.keyword.Keyword.{Keyword};
 ghost use Rattle.edif_keywords.specs.Grammar.{begin, closing, header, integer, opening, string, view_type, word};
 ghost use Rattle.edif_exact.specs.Open.{IsReadWholly};
 

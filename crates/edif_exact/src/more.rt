@@ -1,6 +1,6 @@
 // Where the readers of parts need one more token.
 ghost use Rattle.edif_keywords.specs.Grammar.{comment};
-ghost use Rattle.edif_keywords.specs.declared.keyword.Keyword.{Keyword};
+ghost use Rattle.edif_values.specs.declared.keyword.Keyword.{Keyword};
 ghost use Rattle.edif_names.specs.Grammar.{name, port_name, scaled, property};
 ghost use Rattle.edif_status.specs.Grammar.{user, note, status};
 ghost use Rattle.edif_nets.specs.Grammar.{port, designator, instance, net};

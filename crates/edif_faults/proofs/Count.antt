@@ -9,7 +9,7 @@ use Rattle.nl_base.specs.Place.{place_after, place_at_start}
 use Rattle.nl_bytes.specs.declared.bytes.TheConstants.{LIMIT}
 use Rattle.nl_bytes.specs.Classes.{is_space}
 use Rattle.edif_tokens.specs.declared.token.Found.{Found}
-use Rattle.edif_tokens.specs.declared.token.Token.{Token}
+use Rattle.edif_values.specs.declared.token.Token.{Token}
 use Rattle.edif_tokens.specs.Spelling.{Piece, Flaw, token_at, start_of}
 use Rattle.edif_tokens.specs.Streams.{Finish, End, Bad, Over, Stream, ends, follow, limited, limited_from}
 use Rattle.edif_tokens.specs.Stream.{stop_of, stream_from, tokens_from, then_tokens}

@@ -19,7 +19,7 @@ use Rattle.edif_tokens.specs.Stream.{all_tokens}
 use Rattle.edif_keywords.specs.Aliases.{Alias}
 use Rattle.edif_keywords.specs.Language.{edif, ahead_of, last, finish_of}
 use Rattle.edif_keywords.specs.Reasons.{trailing}
-use Rattle.edif_library.specs.declared.file.EdifFile.{EdifFile}
+use Rattle.edif_values.specs.declared.file.EdifFile.{EdifFile}
 use Rattle.edif_library.specs.Grammar.{file}
 use Rattle.edif_library.proofs.Live.{live_file, closed_file}
 use Rattle.edif_rereading.specs.Whole.{EdifSpells}

@@ -1,29 +1,29 @@
 -- Ported: live by proper tokens.
 use Rattle.std.proofs.Common.{◌≡◌, refl, arith, Bool, true, false, cond, List, [], ◌∷◌, pos, codes}
-use Rattle.edif_tokens.specs.declared.token.Token.TheVariants.{Number}
+use Rattle.edif_values.specs.declared.token.Token.TheVariants.{Number}
 use Rattle.edif_faults.proofs.Base.{live_one}
-use Rattle.edif_keywords.specs.declared.keyword.Keyword.{Keyword}
-use Rattle.edif_keywords.specs.declared.keyword.Keyword.TheVariants as k
-use Rattle.edif_keywords.specs.Keywords.{has, same_keyword}
+use Rattle.edif_values.specs.declared.keyword.Keyword.{Keyword}
+use Rattle.edif_values.specs.declared.keyword.Keyword.TheVariants as k
+use Rattle.edif_values.specs.Keywords.{has, same_keyword}
 use Rattle.edif_keywords.specs.Language.{Edif}
 use Rattle.edif_keywords.specs.Reasons as say
 use Rattle.edif_keywords.specs.Grammar.{level}
 use Rattle.edif_faults.proofs.Base.{Lives, live_word, live_closing, live_choice, live_view_type, live_keyword, live_begin, seen, live_items}
-use Rattle.edif_names.specs.declared.name.NameDef.{NameDef}
+use Rattle.edif_values.specs.declared.name.NameDef.{NameDef}
 use Rattle.edif_faults.proofs.NamesLive.{live_name, live_scaled, live_property}
-use Rattle.edif_status.specs.declared.note.Note.{Note}
+use Rattle.edif_values.specs.declared.note.Note.{Note}
 use Rattle.edif_status.specs.Grammar.{note_keywords, note}
 use Rattle.edif_faults.proofs.StatusLive.{live_note, live_status}
 use Rattle.edif_faults.proofs.NetsLive.{live_designator, live_port, live_instance, live_net}
-use Rattle.edif_library.specs.declared.view.InterfaceItem.{InterfaceItem}
-use Rattle.edif_library.specs.declared.view.ContentsItem.{ContentsItem}
-use Rattle.edif_library.specs.declared.view.ViewItem.{ViewItem}
-use Rattle.edif_library.specs.declared.cell.CellKind.TheVariants as kinds
-use Rattle.edif_library.specs.declared.cell.CellItem.{CellItem}
-use Rattle.edif_library.specs.declared.library.Scale.{Scale}
-use Rattle.edif_library.specs.declared.library.LibraryItem.{LibraryItem}
-use Rattle.edif_library.specs.declared.file.DesignItem.{DesignItem}
-use Rattle.edif_library.specs.declared.file.FileItem.{FileItem}
+use Rattle.edif_values.specs.declared.view.InterfaceItem.{InterfaceItem}
+use Rattle.edif_values.specs.declared.view.ContentsItem.{ContentsItem}
+use Rattle.edif_values.specs.declared.view.ViewItem.{ViewItem}
+use Rattle.edif_values.specs.declared.cell.CellKind.TheVariants as kinds
+use Rattle.edif_values.specs.declared.cell.CellItem.{CellItem}
+use Rattle.edif_values.specs.declared.library.Scale.{Scale}
+use Rattle.edif_values.specs.declared.library.LibraryItem.{LibraryItem}
+use Rattle.edif_values.specs.declared.file.DesignItem.{DesignItem}
+use Rattle.edif_values.specs.declared.file.FileItem.{FileItem}
 use Rattle.edif_library.specs.Grammar.{cell, cell_item, cell_keywords, cell_note, cell_property, cell_ref, cell_rest, cell_status, cell_type, cell_view, contents_instance, contents_item, contents_keywords, contents_net, contents_note, contents_rest, design, design_item, design_keywords, design_note, design_property, design_rest, design_status, file_body, file_design, file_item, file_keywords, file_library, file_note, file_rest, file_status, has_contents, has_view, interface, interface_designator, interface_item, interface_keywords, interface_note, interface_port, interface_property, interface_rest, kind_words, library, library_cell, library_item, library_keywords, library_note, library_ref, library_rest, library_status, netlist, notes_rest, number_definition, scale, scales_rest, technology, unit, view, view_contents, view_item, view_keywords, view_note, view_property, view_rest, view_status}
 
 live_one_of : {A : Type 0} (b : Bool) (p q : Edif A) → Lives p → Lives q → Lives (cond b p q)

@@ -8,13 +8,13 @@ use Rattle.nl_base.specs.declared.place.Place.{Place}
 use Rattle.nl_base.specs.Place.{place_at_start}
 use Rattle.nl_base.specs.Identifiers.{is_identifier}
 use Rattle.nl_base.specs.Case.{small}
-use Rattle.edif_tokens.specs.Proper.{IsProper}
+use Rattle.edif_values.specs.Proper.{IsProper}
 use Rattle.edif_tokens.specs.declared.token.Found.{Found}
-use Rattle.edif_tokens.specs.declared.token.Token.TheVariants.{Word, Number}
+use Rattle.edif_values.specs.declared.token.Token.TheVariants.{Word, Number}
 use Rattle.readers.specs.Parts.{one, at_token, while_next}
-use Rattle.edif_keywords.specs.declared.keyword.Keyword.{Keyword}
-use Rattle.edif_keywords.specs.declared.keyword.Keyword.TheVariants as k
-use Rattle.edif_keywords.specs.Keywords.{spelling, has, same_keyword}
+use Rattle.edif_values.specs.declared.keyword.Keyword.{Keyword}
+use Rattle.edif_values.specs.declared.keyword.Keyword.TheVariants as k
+use Rattle.edif_values.specs.Keywords.{spelling, has, same_keyword}
 use Rattle.edif_keywords.specs.Aliases.{Alias, one_more}
 use Rattle.edif_keywords.specs.Language.{Edif}
 use Rattle.edif_keywords.specs.Reasons as say

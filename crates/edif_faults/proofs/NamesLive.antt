@@ -2,14 +2,14 @@
 use Rattle.std.proofs.Common.{refl, Bool, true, false, cond, List, [], ◌∷◌}
 use Rattle.grammar.specs.Part.{sequence}
 use Rattle.edif_faults.proofs.Base.{live_if}
-use Rattle.edif_keywords.specs.declared.keyword.Keyword.{Keyword}
-use Rattle.edif_keywords.specs.declared.keyword.Keyword.TheVariants as k
-use Rattle.edif_keywords.specs.Keywords.{has, same_keyword}
+use Rattle.edif_values.specs.declared.keyword.Keyword.{Keyword}
+use Rattle.edif_values.specs.declared.keyword.Keyword.TheVariants as k
+use Rattle.edif_values.specs.Keywords.{has, same_keyword}
 use Rattle.edif_keywords.specs.Language.{Edif}
 use Rattle.edif_keywords.specs.Reasons as say
 use Rattle.edif_keywords.specs.Grammar.{keyword, form_or}
 use Rattle.edif_faults.proofs.Base.{Lives, live_word, live_string, live_integer, live_closing, live_keyword, live_begin, live_items, live_comment}
-use Rattle.edif_names.specs.declared.property.PropTail.{PropTail}
+use Rattle.edif_values.specs.declared.property.PropTail.{PropTail}
 use Rattle.edif_names.specs.Grammar.{renamed, plain, name, array, renamed_port, plain_port, port_form, port_name, exponential, whole, scaled, string_value, integer_value, number_value, boolean_value, value_form, value, owner, remark, tail_form, tail_item, tails, property}
 
 live_one_of : {A : Type 0} (b : Bool) (p q : Edif A) → Lives p → Lives q → Lives (cond b p q)

@@ -3,9 +3,9 @@ use Rattle.std.proofs.Common.{◌≡◌, refl, arith, Bool, true, false, cond, L
 use Rattle.grammar.specs.Part.{gives, sequence}
 use Rattle.nl_base.specs.declared.value.Dir.TheVariants as dirs
 use Rattle.edif_faults.proofs.Base.{live_if}
-use Rattle.edif_keywords.specs.declared.keyword.Keyword.{Keyword}
-use Rattle.edif_keywords.specs.declared.keyword.Keyword.TheVariants as k
-use Rattle.edif_keywords.specs.Keywords.{has, same_keyword}
+use Rattle.edif_values.specs.declared.keyword.Keyword.{Keyword}
+use Rattle.edif_values.specs.declared.keyword.Keyword.TheVariants as k
+use Rattle.edif_values.specs.Keywords.{has, same_keyword}
 use Rattle.edif_keywords.specs.Language.{Edif}
 use Rattle.edif_keywords.specs.Reasons as say
 use Rattle.edif_keywords.specs.Reasons.{meant_by}
@@ -13,10 +13,10 @@ use Rattle.edif_keywords.specs.Grammar.{closing, keyword, form_or}
 use Rattle.edif_faults.proofs.Base.{Lives, live_word, live_string, live_integer, live_closing, live_choice, live_keyword, live_begin, live_items}
 use Rattle.edif_faults.proofs.NamesLive.{live_name, live_port_name, live_property}
 use Rattle.edif_faults.proofs.StatusLive.{live_note}
-use Rattle.edif_nets.specs.declared.port.PortItem.{PortItem}
-use Rattle.edif_nets.specs.declared.instance.InstanceItem.{InstanceItem}
-use Rattle.edif_nets.specs.declared.net.PortRef.{PortRef}
-use Rattle.edif_nets.specs.declared.net.NetItem.{NetItem}
+use Rattle.edif_values.specs.declared.port.PortItem.{PortItem}
+use Rattle.edif_values.specs.declared.instance.InstanceItem.{InstanceItem}
+use Rattle.edif_values.specs.declared.net.PortRef.{PortRef}
+use Rattle.edif_values.specs.declared.net.NetItem.{NetItem}
 use Rattle.edif_nets.specs.Grammar.{designator, direction_words, direction, port_property, port_designator, port_note, port_item, has_direction, port_keywords, port_rest, port, library_named, no_library, maybe_library, cell_ref, view_ref, instance_property, instance_designator, instance_note, instance_item, instance_keywords, instance_rest, instance, member, whole_port, port_or_member, instance_named, no_instance, maybe_instance, port_ref, joined_keywords, joined_rest, joined, net_property, net_note, net_item, net_keywords, net_rest, net}
 
 live_one_of : {A : Type 0} (b : Bool) (p q : Edif A) → Lives p → Lives q → Lives (cond b p q)

@@ -2,14 +2,14 @@
 use Rattle.std.proofs.Common.{refl, ℕ, zero, suc, Bool, true, false, cond, List, [], ◌∷◌, None, ℤ}
 use Rattle.grammar.specs.Part.{gives, sequence}
 use Rattle.edif_faults.proofs.Base.{live_if, live_while}
-use Rattle.edif_keywords.specs.declared.keyword.Keyword.{Keyword}
-use Rattle.edif_keywords.specs.declared.keyword.Keyword.TheVariants as k
-use Rattle.edif_keywords.specs.Keywords.{has, same_keyword}
+use Rattle.edif_values.specs.declared.keyword.Keyword.{Keyword}
+use Rattle.edif_values.specs.declared.keyword.Keyword.TheVariants as k
+use Rattle.edif_values.specs.Keywords.{has, same_keyword}
 use Rattle.edif_keywords.specs.Language.{Edif}
 use Rattle.edif_keywords.specs.Reasons as say
 use Rattle.edif_keywords.specs.Grammar.{closing, keyword, form_or}
 use Rattle.edif_faults.proofs.Base.{Lives, live_word, live_string, live_integer, live_closing, live_keyword, live_begin, live_items, live_comment}
-use Rattle.edif_status.specs.declared.user.UserTree.{UserTree}
+use Rattle.edif_values.specs.declared.user.UserTree.{UserTree}
 use Rattle.edif_status.specs.Grammar.{TreeStart, Whole, Opens, tree_of, tree_rest, trees_by, trees, user, remark, user_note, note, clock, stamp, version_text, no_version, maybe_version, author, program, data_origin, written_note, written_item, written_keywords, written_rest, written, status_written, status_note, status_item, status_keywords, status_rest, status}
 
 live_one_of : {A : Type 0} (b : Bool) (p q : Edif A) → Lives p → Lives q → Lives (cond b p q)

@@ -6,14 +6,14 @@ use Rattle.nl_base.specs.declared.fault.Reason.{Reason}
 use Rattle.nl_base.specs.declared.place.Place.{Place}
 use Rattle.readers.specs.Parts.{one, while_next}
 use Rattle.edif_tokens.specs.declared.token.Found.{Found}
-use Rattle.edif_keywords.specs.declared.keyword.Keyword.TheVariants as k
-use Rattle.edif_keywords.specs.Keywords.{has, same_keyword}
+use Rattle.edif_values.specs.declared.keyword.Keyword.TheVariants as k
+use Rattle.edif_values.specs.Keywords.{has, same_keyword}
 use Rattle.edif_keywords.specs.Aliases.{Alias}
 use Rattle.edif_keywords.specs.Language.{Edif}
 use Rattle.edif_keywords.specs.Reasons as say
 use Rattle.edif_keywords.specs.Grammar.{begin, forms, comment, version, level, keyword_level, alias, map_keywords, map_form, map_item, map_items, keyword_map, header}
 use Rattle.edif_names.specs.Grammar.{name}
-use Rattle.edif_library.specs.declared.file.EdifFile.{EdifFile}
+use Rattle.edif_values.specs.declared.file.EdifFile.{EdifFile}
 use Rattle.edif_library.specs.Grammar.{file, file_body}
 use Rattle.grammar_laws.specs.GoesOn.{AllOf}
 use Rattle.grammar_laws.proofs.Ending.{IsToken}

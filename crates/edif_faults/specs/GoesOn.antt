@@ -2,7 +2,7 @@
 use Rattle.std.specs.Prelude.{List, []}
 use Rattle.grammar.specs.Whole.{Terminal, proper, end, whole}
 use Rattle.nl_base.specs.declared.place.Place.{Place}
-use Rattle.edif_tokens.specs.Proper.{IsProper}
+use Rattle.edif_values.specs.Proper.{IsProper}
 use Rattle.edif_tokens.specs.declared.token.Found.{Found}
 use Rattle.edif_keywords.specs.Reasons.{trailing}
 use Rattle.edif_library.specs.Grammar.{file}

@@ -1,9 +1,9 @@
 -- A word is an allowed keyword exactly where one of those that are allowed is spelled so.
 use Rattle.std.proofs.Common.{◌≡◌, ◌∙◌, sym, ap, refl, cond, ◌||◌, Bool, true, false, ℕ, List, [], ◌∷◌, Option, Some, None}
 use Rattle.std.specs.List.{find}
-use Rattle.edif_keywords.specs.declared.keyword.Keyword.{Keyword}
-use Rattle.edif_keywords.specs.Keywords.{is_spelled, keywords, keyword_of, same_keyword, has, if_allowed, allowed_keyword}
-use Rattle.edif_keywords.proofs.Same.{spelled_alike, same_as_itself, one_answer}
+use Rattle.edif_values.specs.declared.keyword.Keyword.{Keyword}
+use Rattle.edif_values.specs.Keywords.{is_spelled, keywords, keyword_of, same_keyword, has, if_allowed, allowed_keyword}
+use Rattle.edif_values.proofs.Same.{spelled_alike, same_as_itself, one_answer}
 use Rattle.edif_keywords.proofs.Slots.{find_passes, found}
 
 -- where a word is a keyword, a keyword is spelled so exactly where it is this one

@@ -7,15 +7,15 @@ use Rattle.nl_base.specs.declared.place.Place.{Place}
 use Rattle.nl_base.specs.declared.fault.Reason.{Reason}
 use Rattle.nl_base.specs.declared.fault.ReadError.{ReadError}
 use Rattle.edif_tokens.specs.declared.token.Found.{Found}
-use Rattle.edif_tokens.specs.declared.token.Token.{Token}
-use Rattle.edif_tokens.specs.declared.token.Token.TheVariants.{LeftParen, RightParen, Word, Number, Str}
+use Rattle.edif_values.specs.declared.token.Token.{Token}
+use Rattle.edif_values.specs.declared.token.Token.TheVariants.{LeftParen, RightParen, Word, Number, Str}
 use Rattle.readers.specs.Parts.{any}
 use Rattle.readers.specs.Sources.{Ahead}
 use Rattle.readers.specs.Readers.{reading, looking, IsToken, IsNext, IsCause}
 use Rattle.readers.proofs.Choices.{reads_alike, read_grouped, Fits, Misses, while_token, while_no_token, while_next_is, while_next_is_no, cause_while, due_while, due_if, due_one, due_then, if_token, if_no_token}
 use Rattle.std.proofs.lemmas.List.{map_push}
 use Rattle.readers.proofs.Reading.{sequences}
-use Rattle.edif_keywords.specs.declared.keyword.Keyword.{Keyword}
+use Rattle.edif_values.specs.declared.keyword.Keyword.{Keyword}
 use Rattle.edif_keywords.specs.Aliases.{Alias}
 use Rattle.edif_keywords.specs.Language.{edif, Edif}
 use Rattle.edif_keywords.specs.Reasons.{at_opening, at_string, opening_of, closing_of, string_of, opens, has_string, is_opening, is_string}

@@ -10,7 +10,7 @@ use Rattle.std.proofs.lemmas.Slice.Eq.{bytes_eq-Decides}
 use Rattle.std.specs.List.{find}
 use Rattle.std.specs.Prelude.{option_map}
 use Rattle.nl_base.specs.Case.{small, same_bytes}
-use Rattle.edif_keywords.specs.Keywords.{keyword_of}
+use Rattle.edif_values.specs.Keywords.{keyword_of}
 use Rattle.edif_keywords.specs.Aliases.{Alias, alias_of, means}
 
 -- ---- a number that is not in a list

@@ -8,8 +8,8 @@ use Rattle.nl_base.specs.declared.fault.Reason.{Reason}
 use Rattle.nl_base.specs.declared.fault.ReadError.TheVariants as errors
 use Rattle.nl_bytes.specs.Bytes.{Window}
 use Rattle.edif_tokens.specs.declared.token.Found.{Found}
-use Rattle.edif_tokens.specs.declared.token.Token.{Token}
-use Rattle.edif_tokens.specs.declared.token.Token.TheVariants.{LeftParen, RightParen, Word}
+use Rattle.edif_values.specs.declared.token.Token.{Token}
+use Rattle.edif_values.specs.declared.token.Token.TheVariants.{LeftParen, RightParen, Word}
 use Rattle.edif_tokens.specs.Held.{mark_token}
 use Rattle.edif_tokens.specs.Held as tokens
 use Rattle.edif_tokens.specs.Stream.{ReadsToken}
@@ -21,10 +21,10 @@ use Rattle.readers.proofs.Looking.{ok_first}
 use Rattle.readers.proofs.Moving.{still, near_no_memory}
 use Rattle.readers.proofs.Reading.{no_memory}
 use Rattle.readers.proofs.Taking.{takes_next}
-use Rattle.edif_keywords.specs.declared.keyword.Keyword.{Keyword}
+use Rattle.edif_values.specs.declared.keyword.Keyword.{Keyword}
 use Rattle.edif_keywords.specs.Aliases.{Alias, means, or_alias}
-use Rattle.edif_keywords.specs.Keywords.{has, allowed_keyword, if_allowed}
-use Rattle.edif_keywords.specs.Keywords as k
+use Rattle.edif_values.specs.Keywords.{has, allowed_keyword, if_allowed}
+use Rattle.edif_values.specs.Keywords as k
 use Rattle.edif_keywords.specs.Calls.{is_unlooked, held_mark, past_mark, held_word, past_word}
 use Rattle.edif_keywords.specs.Grammar.{word, opening, closing, keyword}
 use Rattle.edif_keywords.specs.Language.{edif}

@@ -9,16 +9,17 @@ use Rattle.nl_base.specs.declared.place.Place.{Place}
 use Rattle.nl_base.specs.declared.fault.Reason.{Reason}
 use Rattle.nl_bytes.proofs.Uses.{AllByRecursion-push}
 use Rattle.edif_tokens.specs.declared.token.Found.{Found}
-use Rattle.edif_tokens.specs.declared.token.Token.{Token}
-use Rattle.edif_tokens.specs.declared.token.Token.TheVariants.{LeftParen, RightParen, Word, Number, Str}
-use Rattle.edif_tokens.specs.Proper.{IsProper, AreProper}
+use Rattle.edif_values.specs.declared.token.Token.{Token}
+use Rattle.edif_values.specs.declared.token.Token.TheVariants.{LeftParen, RightParen, Word, Number, Str}
+use Rattle.edif_values.specs.Proper.{IsProper}
+use Rattle.edif_tokens.specs.Proper.{AreProper}
 use Rattle.edif_tokens.specs.Streams as streams
 use Rattle.readers.specs.Parts.{at_token, of_token, one, if_next, while_next}
-use Rattle.edif_keywords.specs.declared.keyword.Keyword.{Keyword}
-use Rattle.edif_keywords.specs.Keywords.{has}
+use Rattle.edif_values.specs.declared.keyword.Keyword.{Keyword}
+use Rattle.edif_values.specs.Keywords.{has}
 use Rattle.edif_keywords.specs.Aliases.{Alias, means}
 use Rattle.edif_keywords.specs.Language.{Edif, last}
-use Rattle.edif_keywords.specs.Values.{IsWord, IsInteger, IsString, AreStrings}
+use Rattle.edif_values.specs.Values.{IsWord, IsInteger, IsString, AreStrings}
 use Rattle.edif_keywords.specs.Reasons as say
 use Rattle.edif_keywords.specs.Grammar.{word, string, integer, opening, closing, keyword, begin, forms, item, items, strings, comment, form_or}
 

@@ -8,7 +8,6 @@ pub mod Looks
 pub mod Maps
 pub mod NextToken
 pub mod OneToken
-pub mod Same
 pub mod Slots
 pub mod Spelled
 pub mod Tables

@@ -5,17 +5,17 @@ use Rattle.grammar.specs.Part.{gives, sequence, leaves}
 use Rattle.grammar.specs.Clear.{IsLive}
 use Rattle.nl_base.specs.Place.{place_at_start}
 use Rattle.edif_tokens.specs.declared.token.Found.{Found}
-use Rattle.edif_tokens.specs.declared.token.Token.{Token}
-use Rattle.edif_tokens.specs.declared.token.Token.TheVariants.{LeftParen, RightParen, Word, Number, Str}
+use Rattle.edif_values.specs.declared.token.Token.{Token}
+use Rattle.edif_values.specs.declared.token.Token.TheVariants.{LeftParen, RightParen, Word, Number, Str}
 use Rattle.readers.proofs.Shapes.{live_one, live_while, Shut, shut_gives, shut_one, shut_then, shut_while}
-use Rattle.edif_keywords.specs.declared.keyword.Keyword.{Keyword}
-use Rattle.edif_keywords.specs.declared.keyword.Keyword.TheVariants as k
-use Rattle.edif_keywords.specs.Keywords.{spelling, has, same_keyword}
+use Rattle.edif_values.specs.declared.keyword.Keyword.{Keyword}
+use Rattle.edif_values.specs.declared.keyword.Keyword.TheVariants as k
+use Rattle.edif_values.specs.Keywords.{spelling, has, same_keyword}
 use Rattle.edif_keywords.specs.Aliases.{Alias, means}
 use Rattle.edif_keywords.specs.Language.{Edif}
 use Rattle.edif_keywords.specs.Reasons as say
 use Rattle.edif_keywords.specs.Grammar.{word, string, integer, opening, closing, choice, view_type, keyword, begin, forms, items, strings, comment, version_number, version, level, keyword_level, new_word, known_word, alias, map_keywords, map_form, map_item, map_items, keyword_map, header}
-use Rattle.edif_keywords.proofs.Spelled.{found_by_spelling}
+use Rattle.edif_values.proofs.Spelled.{found_by_spelling}
 use Rattle.edif_keywords.proofs.Free.{numbered, unused}
 
 -- a token somewhere

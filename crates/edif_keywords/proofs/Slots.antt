@@ -7,10 +7,11 @@ use Rattle.std.specs.Str.{bytes_eq}
 use Rattle.std.proofs.lemmas.Slice.Eq.{bytes_eq-Decides}
 use Rattle.std.specs.List.{find}
 use Rattle.nl_base.specs.Case.{small, same_up_to_case}
-use Rattle.edif_keywords.specs.declared.keyword.Keyword.{Keyword}
-use Rattle.edif_keywords.specs.Keywords.{spelling, is_spelled, keywords, keyword_of}
+use Rattle.edif_values.specs.declared.keyword.Keyword.{Keyword}
+use Rattle.edif_values.specs.Keywords.{spelling, is_spelled, keywords, keyword_of}
 use Rattle.edif_keywords.specs.Slots.{start_at, candidates, of_slot}
-use Rattle.edif_keywords.proofs.Spelled.{found_in_all, found_in_slot}
+use Rattle.edif_values.proofs.Spelled.{found_in_all}
+use Rattle.edif_keywords.proofs.Spelled.{found_in_slot}
 
 -- whether a test passes for each number below a bound
 abbrev passes_below : (ℕ → Bool) → ℕ → Bool

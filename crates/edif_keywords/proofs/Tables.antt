@@ -10,8 +10,8 @@ use Rattle.std.specs.declared.alloc.Global.{Global}
 use Rattle.indexmap.specs.IndexMap.{IndexMap, get, insert_entry}
 use Rattle.indexmap.proofs.CallerLemmas.{insert_entry-new}
 use Rattle.nl_base.specs.Case.{small, same_bytes}
-use Rattle.edif_keywords.specs.declared.keyword.Keyword.{Keyword}
-use Rattle.edif_keywords.specs.Keywords.{keyword_of}
+use Rattle.edif_values.specs.declared.keyword.Keyword.{Keyword}
+use Rattle.edif_values.specs.Keywords.{keyword_of}
 use Rattle.edif_keywords.specs.Aliases.{Alias, alias_of, aliases_in, means, or_alias, one_more}
 
 -- the alias of a word is what the map has at the word in small letters

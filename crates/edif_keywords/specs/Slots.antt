@@ -1,7 +1,7 @@
 -- The table by which a word is found: a word is compared with the keywords of its slot alone.
 use Rattle.std.specs.Prelude.{ℕ, ◌+◌, ◌*◌, ◌%◌, List, [], ◌∷◌, length, slice_index, slice_range}
 use Rattle.nl_base.specs.Case.{small}
-use Rattle.edif_keywords.specs.declared.keyword.Keyword.{Keyword}
+use Rattle.edif_values.specs.declared.keyword.Keyword.{Keyword}
 use Rattle.edif_keywords.specs.declared.find.TheConstants.{STARTS, BY_SLOT}
 
 -- a word's slot, by its length and its first letter

@@ -5,7 +5,7 @@ ghost use Rattle.edif_keywords.specs.declared.aliases.AliasFault.TheVariants.{No
 ghost use Rattle.edif_keywords.specs.Aliases.{alias_of, aliases_in, means, one_more};
 
 use crate::find::find_keyword;
-use crate::keyword::Keyword;
+use edif_values::Keyword;
 use indexmap::IndexMap;
 use nl_base::{NoMemory, Text};
 use std::alloc::Global;

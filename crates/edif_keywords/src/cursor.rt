@@ -8,7 +8,8 @@ ghost use Rattle.edif_keywords.specs.Language.{edif};
 ghost use Rattle.edif_keywords.specs.Reasons.{opens, has_string, trailing};
 
 use crate::aliases::Aliases;
-use edif_tokens::{Found, Token, Tokens};
+use edif_tokens::{Found, Tokens};
+use edif_values::Token;
 use nl_base::{Place, ReadError, Reason, Seq, TextFault};
 use nl_io::Source;
 use std::alloc::Global;

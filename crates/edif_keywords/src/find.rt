@@ -1,9 +1,9 @@
 ghost use Rattle.std.specs.Prelude.{◌≡◌, ◌<◌, ◌≤◌};
 ghost use Rattle.std.specs.List.{find};
-ghost use Rattle.edif_keywords.specs.Keywords.{keyword_of, allowed_keyword, is_spelled};
+ghost use Rattle.edif_values.specs.Keywords.{keyword_of, allowed_keyword, is_spelled};
 ghost use Rattle.edif_keywords.specs.Slots.{candidates, of_slot, part, start_at};
 
-use crate::keyword::{Keyword, spelling};
+use edif_values::{Keyword, spelling};
 use nl_base::fold_eq;
 
 /// How many slots there are. A word's slot is a number made of its length and its first letter.

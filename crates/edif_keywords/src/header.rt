@@ -9,11 +9,11 @@ ghost use Rattle.edif_keywords.specs.Grammar.{opening, version_number, version, 
 
 use crate::comment::read_comment;
 use crate::cursor::Cursor;
-use crate::keyword::{Keyword, same_keyword};
 use crate::reasons::{
     keyword_level_of, known_word_of, level_of, map_keyword_of, new_word_of, version_of,
 };
 use edif_tokens::Found;
+use edif_values::{Keyword, same_keyword};
 use nl_base::{Ident, ReadError};
 use nl_io::Source;
 use std::alloc::Global;

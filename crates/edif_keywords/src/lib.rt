@@ -13,12 +13,11 @@ pub mod comment;
 pub mod cursor;
 pub mod find;
 pub mod header;
-pub mod keyword;
 pub mod parts;
 mod reasons;
 
+pub use edif_values::{Keyword, is_among, spelling};
 pub use aliases::{AliasFault, Aliases};
 pub use comment::read_comment;
 pub use cursor::Cursor;
 pub use find::find_keyword;
-pub use keyword::{Keyword, is_among, spelling};

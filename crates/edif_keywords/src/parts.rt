@@ -8,11 +8,11 @@ ghost use Rattle.edif_keywords.specs.Reasons.{rows};
 
 use crate::cursor::Cursor;
 use crate::find::find_allowed;
-use crate::keyword::Keyword;
 use crate::reasons::{
     choice_of, closing_of, integer_of, keyword_of, opening_of, string_of, view_type_of, word_of,
 };
 use edif_tokens::Found;
+use edif_values::Keyword;
 use nl_base::{Ident, Int, ReadError, Text};
 use nl_io::Source;
 use std::alloc::Global;

@@ -3,8 +3,7 @@ ghost use Rattle.std.specs.Prelude.{◌≡◌, pos};
 ghost use Rattle.edif_keywords.specs.Reasons as say;
 
 use crate::aliases::Aliases;
-use crate::keyword::{Keyword, is_among, same_keyword};
-use edif_tokens::Token;
+use edif_values::{Keyword, Token, is_among, same_keyword};
 use nl_base::{Ident, Int, Reason, Text, fold_eq};
 
 /// In `edifVersion`, the number that is due.

@@ -11,7 +11,7 @@ use Rattle.readers.specs.Readers.{fault_at}
 use Rattle.edif_tokens.specs.Stream.{all_tokens}
 use Rattle.edif_keywords.specs.Language.{edif, ahead_of}
 use Rattle.edif_keywords.specs.Reasons.{trailing}
-use Rattle.edif_library.specs.declared.file.EdifFile.{EdifFile}
+use Rattle.edif_values.specs.declared.file.EdifFile.{EdifFile}
 use Rattle.edif_library.specs.Grammar.{file}
 use Rattle.edif_library.proofs.Live.{live_file, closed_file}
 use Rattle.edif_rereading.specs.Whole.{EdifSpells}

@@ -1,7 +1,7 @@
 // What bytes of any length spell, with no limit on an input.
 ghost use Rattle.std.specs.Prelude.{◌≡◌, ℕ, List};
 ghost use Rattle.nl_base.specs.declared.fault.TextFault.{TextFault};
-ghost use Rattle.edif_library.specs.declared.file.EdifFile.{EdifFile};
+ghost use Rattle.edif_values.specs.declared.file.EdifFile.{EdifFile};
 ghost use Rattle.edif_rereading.specs.Whole.{EdifSpells};
 ghost use Rattle.edif_laws.specs.AnyLength.{EdifFails};
 

@@ -7,8 +7,8 @@ use Rattle.std.proofs.lemmas.Bool.Decides.{nat_tests}
 use Rattle.nl_base.specs.declared.fault.Reason.{Reason}
 use Rattle.nl_base.specs.declared.fault.Reason.TheVariants.{EndOfInput, BadByte, BadEscape, TokenTooLong, NumberRange}
 use Rattle.nl_bytes.specs.Classes.{is_space, is_word_byte, is_string_byte}
-use Rattle.edif_tokens.specs.declared.token.Token.{Token}
-use Rattle.edif_tokens.specs.declared.token.Token.TheVariants.{LeftParen, RightParen, Word, Number, Str}
+use Rattle.edif_values.specs.declared.token.Token.{Token}
+use Rattle.edif_values.specs.declared.token.Token.TheVariants.{LeftParen, RightParen, Word, Number, Str}
 use Rattle.edif_tokens.specs.declared.scan.Start.TheVariants.{Other}
 use Rattle.edif_tokens.specs.Flaws.{Piece, flaw, ◌>>=◌}
 use Rattle.edif_tokens.specs.Strings.{Within, string_at, is_full}

@@ -3,8 +3,8 @@ use Rattle.std.proofs.Common.{◌≡◌, ℕ, ◌≤◌, Bool, List, [], ◌∷�
 use Rattle.std.specs.List.{prefix_len}
 use Rattle.std.specs.Char.{is_ascii_digit}
 use Rattle.nl_bytes.specs.Classes.{is_word_byte}
-use Rattle.edif_tokens.specs.declared.token.Token.{Token}
-use Rattle.edif_tokens.specs.declared.token.Token.TheVariants.{LeftParen, RightParen, Word, Number, Str}
+use Rattle.edif_values.specs.declared.token.Token.{Token}
+use Rattle.edif_values.specs.declared.token.Token.TheVariants.{LeftParen, RightParen, Word, Number, Str}
 use Rattle.edif_lexemes.specs.Lexemes.{IsLexeme, IsString, MayFollow, IsWithin, IsNext}
 use Rattle.edif_lexemes.proofs.Moves.{Spelled, bounded, ended}
 use Rattle.edif_lexemes.proofs.Strings.{string_outcome, piece_of}

@@ -9,7 +9,7 @@ use Rattle.nl_base.specs.Place.{place_after, place_past}
 use Rattle.nl_base.proofs.Places.{place_past-append}
 use Rattle.nl_bytes.specs.Classes.{is_space}
 use Rattle.edif_tokens.specs.declared.token.Found.{Found}
-use Rattle.edif_tokens.specs.declared.token.Token.{Token}
+use Rattle.edif_values.specs.declared.token.Token.{Token}
 use Rattle.edif_tokens.specs.Flaws.{Piece, flaw}
 use Rattle.edif_tokens.specs.Spelling.{token_at}
 use Rattle.edif_tokens.specs.Streams.{Finish, End, Bad, Over, Stream, ends, follow, limited}

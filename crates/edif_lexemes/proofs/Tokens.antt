@@ -4,8 +4,8 @@ use Rattle.std.specs.Prelude.{ℤ, nat_abs}
 use Rattle.std.specs.Char.{is_ascii_digit, is_ascii_alphabetic}
 use Rattle.std.proofs.lemmas.Bool.{lt-ltb, ltb-true, ltb-false, eqb-true}
 use Rattle.nl_bytes.specs.Classes.{is_space, is_word_byte}
-use Rattle.edif_tokens.specs.declared.token.Token.{Token}
-use Rattle.edif_tokens.specs.declared.token.Token.TheVariants.{LeftParen, RightParen, Word, Number, Str}
+use Rattle.edif_values.specs.declared.token.Token.{Token}
+use Rattle.edif_values.specs.declared.token.Token.TheVariants.{LeftParen, RightParen, Word, Number, Str}
 use Rattle.edif_tokens.specs.declared.scan.Start.{Start}
 use Rattle.edif_tokens.specs.Flaws.{Piece, Flaw, ◌>>=◌}
 use Rattle.edif_tokens.specs.Strings.{Within, string_at, is_full}

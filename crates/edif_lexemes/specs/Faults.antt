@@ -6,7 +6,7 @@ use Rattle.nl_base.specs.declared.fault.Reason.{Reason}
 use Rattle.nl_base.specs.declared.fault.Reason.TheVariants.{EndOfInput, BadByte, BadEscape, TokenTooLong, NumberRange}
 use Rattle.nl_bytes.specs.Classes.{is_space, is_word_byte, is_string_byte}
 use Rattle.edif_tokens.specs.Spelling.{may_follow}
-use Rattle.edif_tokens.specs.declared.token.Token.{Token}
+use Rattle.edif_values.specs.declared.token.Token.{Token}
 use Rattle.edif_lexemes.specs.Strings.{MOST, Code, code_value, Part, parts_bytes, parts_value, Front, Between, Escaping, Coding, IsFront, front_bytes, front_value, is_some}
 use Rattle.edif_lexemes.specs.Lexemes.{IsLexeme, IsInteger, EndsRun, is_run, goes_on, one_of}
 

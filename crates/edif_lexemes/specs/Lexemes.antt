@@ -5,8 +5,8 @@ use Rattle.std.specs.Char.{is_ascii_digit}
 use Rattle.nl_base.specs.Identifiers.{is_identifier}
 use Rattle.nl_bytes.specs.Classes.{is_word_byte}
 use Rattle.edif_tokens.specs.Spelling.{decimal_value, may_follow}
-use Rattle.edif_tokens.specs.declared.token.Token.{Token}
-use Rattle.edif_tokens.specs.declared.token.Token.TheVariants.{LeftParen, RightParen, Word, Number, Str}
+use Rattle.edif_values.specs.declared.token.Token.{Token}
+use Rattle.edif_values.specs.declared.token.Token.TheVariants.{LeftParen, RightParen, Word, Number, Str}
 use Rattle.edif_lexemes.specs.Strings.{MOST, AreDigits, Part, AreParts, parts_bytes, parts_value}
 
 -- ---- one predicate for each kind of token

@@ -6,7 +6,7 @@ use Rattle.nl_base.specs.declared.fault.Reason.{Reason}
 use Rattle.nl_base.specs.declared.fault.TextFault.{TextFault}
 use Rattle.nl_base.specs.Place.{place_past}
 use Rattle.edif_tokens.specs.declared.token.Found.{Found}
-use Rattle.edif_tokens.specs.declared.token.Token.{Token}
+use Rattle.edif_values.specs.declared.token.Token.{Token}
 use Rattle.edif_tokens.specs.Streams.{Finish, End, Bad, Over, Stream, limited}
 use Rattle.edif_tokens.specs.Stream.{stop_of}
 use Rattle.edif_lexemes.specs.Strings.{AreWhite}

@@ -1,10 +1,10 @@
 -- Each keyword's spelling is a word.
 use Rattle.std.proofs.Common.{refl, lit≤}
-use Rattle.edif_keywords.specs.declared.keyword.Keyword.{Keyword}
-use Rattle.edif_keywords.specs.declared.keyword.Keyword.TheVariants as k
-use Rattle.edif_keywords.specs.Keywords.{spelling}
-use Rattle.edif_tokens.specs.Proper.{IsProper}
-use Rattle.edif_tokens.specs.declared.token.Token.TheVariants as t
+use Rattle.edif_values.specs.declared.keyword.Keyword.{Keyword}
+use Rattle.edif_values.specs.declared.keyword.Keyword.TheVariants as k
+use Rattle.edif_values.specs.Keywords.{spelling}
+use Rattle.edif_values.specs.Proper.{IsProper}
+use Rattle.edif_values.specs.declared.token.Token.TheVariants as t
 
 pub spelling_word : (a : Keyword) → IsProper (t.Word (spelling a))
 spelling_word k.Array = (refl, lit≤ tt)

@@ -1,9 +1,9 @@
 -- The tokens of what is laid out are those of the forms.
 use Rattle.std.proofs.Common.{◌≡◌, ℕ, zero, suc, ◌+◌, List, [], ◌∷◌, ◌++◌, refl, sym, ap, ◌∙◌, subst, append_assoc, append-nil}
-use Rattle.edif_tokens.specs.declared.token.Token.{Token}
-use Rattle.edif_tokens.specs.declared.token.Token.TheVariants as t
-use Rattle.edif_keywords.specs.declared.keyword.Keyword.{Keyword}
-use Rattle.edif_keywords.specs.Keywords.{spelling}
+use Rattle.edif_values.specs.declared.token.Token.{Token}
+use Rattle.edif_values.specs.declared.token.Token.TheVariants as t
+use Rattle.edif_values.specs.declared.keyword.Keyword.{Keyword}
+use Rattle.edif_values.specs.Keywords.{spelling}
 use Rattle.edif_lexing.specs.Lexing.{Lexes}
 use Rattle.edif_writer.specs.Layout.{Form, Word, Number, Str, Line, Group, Forms, none, more, Block, Flat, Deep, Blocks, end, below, inline, spaced, listed, blanks, laid, lines}
 use Rattle.edif_lexing.specs.Tokens.{tokens, part_tokens, heading_tokens, block_tokens, line_tokens, IsWritable, AreWritable, CanBeLaid, AllCanBeLaid}

@@ -14,11 +14,11 @@ use Rattle.nl_base.specs.Place.{place_after, place_past}
 use Rattle.nl_bytes.specs.Bytes.{first}
 use Rattle.nl_bytes.specs.Classes.{is_space, is_word_byte}
 use Rattle.edif_tokens.specs.declared.token.Found.{Found}
-use Rattle.edif_tokens.specs.declared.token.Token.{Token}
-use Rattle.edif_tokens.specs.declared.token.Token.TheVariants as t
+use Rattle.edif_values.specs.declared.token.Token.{Token}
+use Rattle.edif_values.specs.declared.token.Token.TheVariants as t
 use Rattle.edif_tokens.specs.declared.scan.Start.TheVariants.{Letter, Ampersand, Digit}
 use Rattle.edif_tokens.specs.Flaws.{Piece, Flaw}
-use Rattle.edif_tokens.specs.Proper.{IsProper}
+use Rattle.edif_values.specs.Proper.{IsProper}
 use Rattle.edif_tokens.specs.Spelling.{token_at, start_of, may_follow, ended, span_at, integer_of, decimal_value}
 use Rattle.edif_tokens.specs.Streams.{Stream, follow}
 use Rattle.edif_tokens.specs.Stream.{tokens_from, found_at}

@@ -7,12 +7,12 @@ use Rattle.std.proofs.lemmas.Bool.{lt-leb, le-ltb}
 use Rattle.std.proofs.lemmas.Bool.Decides.{nat_tests}
 use Rattle.std.proofs.lemmas.Fmt.{decimal_by_steps}
 use Rattle.nl_bytes.specs.Classes.{is_space, is_string_byte}
-use Rattle.edif_tokens.specs.declared.token.Token.{Token}
-use Rattle.edif_tokens.specs.declared.token.Token.TheVariants as t
+use Rattle.edif_values.specs.declared.token.Token.{Token}
+use Rattle.edif_values.specs.declared.token.Token.TheVariants as t
 use Rattle.edif_tokens.specs.Spelling.{token_at}
 use Rattle.edif_tokens.specs.Strings.{Within, Escape, Code, string_at, is_full}
 use Rattle.edif_tokens.specs.Strings as within
-use Rattle.edif_tokens.specs.Proper.{IsProper}
+use Rattle.edif_values.specs.Proper.{IsProper}
 use Rattle.edif_writer.specs.Strings.{is_plain, quoted, written}
 use Rattle.edif_lexing.specs.Lexing.{Lexes}
 use Rattle.edif_lexing.proofs.Lexing.{piece, lexes_token}

@@ -2,7 +2,7 @@
 use Rattle.std.specs.Prelude.{◌≡◌, ⊤, ℕ, List, map}
 use Rattle.nl_base.specs.declared.place.Place.{Place}
 use Rattle.edif_tokens.specs.declared.token.Found.{Found}
-use Rattle.edif_tokens.specs.declared.token.Token.{Token}
+use Rattle.edif_values.specs.declared.token.Token.{Token}
 use Rattle.edif_tokens.specs.Streams.{Finish, End, Bad, Over, Stream}
 use Rattle.edif_tokens.specs.Stream.{tokens_from}
 

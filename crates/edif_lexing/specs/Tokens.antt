@@ -1,9 +1,9 @@
 -- The tokens of forms and blocks, and which of them can be written.
 use Rattle.std.specs.Prelude.{⊤, List, [], ◌∷◌, ◌++◌}
-use Rattle.edif_keywords.specs.Keywords.{spelling}
-use Rattle.edif_tokens.specs.declared.token.Token.{Token}
-use Rattle.edif_tokens.specs.declared.token.Token.TheVariants as t
-use Rattle.edif_tokens.specs.Proper.{IsProper}
+use Rattle.edif_values.specs.Keywords.{spelling}
+use Rattle.edif_values.specs.declared.token.Token.{Token}
+use Rattle.edif_values.specs.declared.token.Token.TheVariants as t
+use Rattle.edif_values.specs.Proper.{IsProper}
 use Rattle.edif_writer.specs.Layout.{Form, Word, Number, Str, Line, Group, Forms, none, more, Block, Flat, Deep, Blocks, end, below}
 
 abbrev mutual

@@ -2,9 +2,10 @@
 use Rattle.std.proofs.Common.{◌≡◌, Bool, true, false, List, [], ◌∷◌, ◌++◌, ◌||◌, refl, ap, ◌∙◌}
 use Rattle.std.specs.List.{list_any}
 use Rattle.edif_keywords.proofs.Forms.{item_loops}
-use Rattle.edif_library.specs.declared.view.ViewItem.{ViewItem}
-use Rattle.edif_library.specs.declared.cell.CellItem.{CellItem}
-use Rattle.edif_library.specs.Grammar.{is_contents, has_contents, is_view, has_view}
+use Rattle.edif_values.specs.declared.view.ViewItem.{ViewItem}
+use Rattle.edif_values.specs.declared.cell.CellItem.{CellItem}
+use Rattle.edif_values.specs.Values.{is_contents, is_view}
+use Rattle.edif_library.specs.Grammar.{has_contents, has_view}
 
 any_more : {A : Type 0} (p : A → Bool) (s : List A) (x : A) → list_any p (s ++ x ∷ []) ≡ (list_any p s || p x)
 any_more p [] x = by (p x)

@@ -3,39 +3,39 @@
 use Rattle.std.specs.Prelude.{ℕ, Bool, true, false, List, [], ◌∷◌, codes, cond}
 use Rattle.std.specs.List.{list_any}
 use Rattle.grammar.specs.Part.{gives, under, ◌>>=◌}
-use Rattle.edif_keywords.specs.declared.keyword.Keyword.{Keyword}
-use Rattle.edif_keywords.specs.declared.keyword.Keyword.TheVariants as k
-use Rattle.edif_keywords.specs.Keywords.{same_keyword}
+use Rattle.edif_values.specs.declared.keyword.Keyword.{Keyword}
+use Rattle.edif_values.specs.declared.keyword.Keyword.TheVariants as k
+use Rattle.edif_values.specs.Keywords.{same_keyword}
 use Rattle.edif_keywords.specs.Aliases.{Alias}
 use Rattle.edif_keywords.specs.Language.{Edif}
 use Rattle.edif_keywords.specs.Grammar.{word, closing, choice, view_type, begin, items, level, header}
-use Rattle.edif_names.specs.declared.name.NameDef.{NameDef}
+use Rattle.edif_values.specs.declared.name.NameDef.{NameDef}
 use Rattle.edif_names.specs.Grammar.{name, scaled, property}
-use Rattle.edif_status.specs.declared.note.Note.{Note}
+use Rattle.edif_values.specs.declared.note.Note.{Note}
 use Rattle.edif_status.specs.Grammar.{note, note_keywords, status}
 use Rattle.edif_nets.specs.Grammar.{designator, port, instance, net}
-use Rattle.edif_library.specs.declared.view.InterfaceItem.{InterfaceItem}
-use Rattle.edif_library.specs.declared.view.InterfaceItem.TheVariants as interface_items
-use Rattle.edif_library.specs.declared.view.ContentsItem.{ContentsItem}
-use Rattle.edif_library.specs.declared.view.ContentsItem.TheVariants as contents_items
-use Rattle.edif_library.specs.declared.view.ViewItem.{ViewItem}
-use Rattle.edif_library.specs.declared.view.ViewItem.TheVariants as view_items
-use Rattle.edif_library.specs.declared.view.View.{View}
-use Rattle.edif_library.specs.declared.cell.CellKind.{CellKind}
-use Rattle.edif_library.specs.declared.cell.CellKind.TheVariants as kinds
-use Rattle.edif_library.specs.declared.cell.CellItem.{CellItem}
-use Rattle.edif_library.specs.declared.cell.CellItem.TheVariants as cell_items
-use Rattle.edif_library.specs.declared.cell.Cell.{Cell}
-use Rattle.edif_library.specs.declared.library.Scale.{Scale}
-use Rattle.edif_library.specs.declared.library.LibraryItem.{LibraryItem}
-use Rattle.edif_library.specs.declared.library.LibraryItem.TheVariants as library_items
-use Rattle.edif_library.specs.declared.library.Library.{Library}
-use Rattle.edif_library.specs.declared.file.DesignItem.{DesignItem}
-use Rattle.edif_library.specs.declared.file.DesignItem.TheVariants as design_items
-use Rattle.edif_library.specs.declared.file.Design.{Design}
-use Rattle.edif_library.specs.declared.file.FileItem.{FileItem}
-use Rattle.edif_library.specs.declared.file.FileItem.TheVariants as file_items
-use Rattle.edif_library.specs.declared.file.EdifFile.{EdifFile}
+use Rattle.edif_values.specs.declared.view.InterfaceItem.{InterfaceItem}
+use Rattle.edif_values.specs.declared.view.InterfaceItem.TheVariants as interface_items
+use Rattle.edif_values.specs.declared.view.ContentsItem.{ContentsItem}
+use Rattle.edif_values.specs.declared.view.ContentsItem.TheVariants as contents_items
+use Rattle.edif_values.specs.declared.view.ViewItem.{ViewItem}
+use Rattle.edif_values.specs.declared.view.ViewItem.TheVariants as view_items
+use Rattle.edif_values.specs.declared.view.View.{View}
+use Rattle.edif_values.specs.declared.cell.CellKind.{CellKind}
+use Rattle.edif_values.specs.declared.cell.CellKind.TheVariants as kinds
+use Rattle.edif_values.specs.declared.cell.CellItem.{CellItem}
+use Rattle.edif_values.specs.declared.cell.CellItem.TheVariants as cell_items
+use Rattle.edif_values.specs.declared.cell.Cell.{Cell}
+use Rattle.edif_values.specs.declared.library.Scale.{Scale}
+use Rattle.edif_values.specs.declared.library.LibraryItem.{LibraryItem}
+use Rattle.edif_values.specs.declared.library.LibraryItem.TheVariants as library_items
+use Rattle.edif_values.specs.declared.library.Library.{Library}
+use Rattle.edif_values.specs.declared.file.DesignItem.{DesignItem}
+use Rattle.edif_values.specs.declared.file.DesignItem.TheVariants as design_items
+use Rattle.edif_values.specs.declared.file.Design.{Design}
+use Rattle.edif_values.specs.declared.file.FileItem.{FileItem}
+use Rattle.edif_values.specs.declared.file.FileItem.TheVariants as file_items
+use Rattle.edif_values.specs.declared.file.EdifFile.{EdifFile}
 
 -- ---- interfaces and contents
 
@@ -136,13 +136,6 @@ abbrev pub view_item : Keyword → Edif ViewItem
 view_item q =
     cond (same_keyword q k.Contents) view_contents (cond (same_keyword q k.Property) view_property (cond (same_keyword q k.Status) view_status (view_note q)))
 
--- whether an item is contents
-abbrev pub is_contents : ViewItem → Bool
-is_contents (view_items.Contents is) = true
-is_contents (view_items.Property p) = false
-is_contents (view_items.Status s) = false
-is_contents (view_items.Note n) = false
-
 -- whether some items have contents
 unfoldable pub has_contents : List ViewItem → Bool
 has_contents is = list_any is_contents is
@@ -211,13 +204,6 @@ cell_note q = do
 abbrev pub cell_item : Keyword → Edif CellItem
 cell_item q =
     cond (same_keyword q k.View) cell_view (cond (same_keyword q k.Property) cell_property (cond (same_keyword q k.Status) cell_status (cell_note q)))
-
--- whether an item is a view
-abbrev pub is_view : CellItem → Bool
-is_view (cell_items.View v) = true
-is_view (cell_items.Property p) = false
-is_view (cell_items.Status s) = false
-is_view (cell_items.Note n) = false
 
 -- whether some items have a view
 unfoldable pub has_view : List CellItem → Bool

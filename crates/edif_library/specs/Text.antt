@@ -6,7 +6,7 @@ use Rattle.readers.specs.Readers.{fault_at}
 use Rattle.readers.specs.Texts.{tokens_of, SpellsText}
 use Rattle.edif_keywords.specs.Language.{edif}
 use Rattle.edif_keywords.specs.Reasons.{trailing}
-use Rattle.edif_library.specs.declared.file.EdifFile.{EdifFile}
+use Rattle.edif_values.specs.declared.file.EdifFile.{EdifFile}
 use Rattle.edif_library.specs.Grammar.{file}
 
 -- The bytes are a text of the file: their tokens, up to the end of the input, spell it.

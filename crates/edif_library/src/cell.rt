@@ -3,41 +3,17 @@ ghost use Rattle.readers.specs.Sources.{supply};
 ghost use Rattle.readers.specs.Readers.{same, Reads};
 ghost use Rattle.edif_keywords.specs.Language.{edif};
 ghost use Rattle.edif_keywords.specs.Grammar.{item};
-ghost use Rattle.edif_library.specs.Grammar.{cell_view, cell_property, cell_status, cell_note, cell_item, is_view, cell_keywords, cell_rest, cell_type, cell};
+ghost use Rattle.edif_values.specs.Values.{is_view};
+ghost use Rattle.edif_library.specs.Grammar.{cell_view, cell_property, cell_status, cell_note, cell_item, cell_keywords, cell_rest, cell_type, cell};
 
-use crate::view::{View, read_view};
-use edif_keywords::keyword::same_keyword;
-use edif_keywords::{Cursor, Keyword};
-use edif_names::{NameDef, Property, read_name, read_property};
-use edif_status::{Note, Status, read_note, read_status};
+use crate::view::read_view;
+use edif_keywords::Cursor;
+use edif_names::{read_name, read_property};
+use edif_status::{read_note, read_status};
+use edif_values::{Cell, CellItem, CellKind, Keyword, Note, Property, Status, View, same_keyword};
 use nl_base::{ReadError, Seq};
 use nl_io::Source;
 use std::alloc::Global;
-
-/// The type of a cell. Ties and rippers mean what generic cells mean.
-#[derive(Clone, Copy, PartialEq, Eq)]
-pub enum CellKind {
-    Generic,
-    Tie,
-    Ripper,
-}
-
-/// A part of a cell behind its type. A cell has at most one view.
-#[derive(Drop)]
-pub enum CellItem {
-    View(View),
-    Property(Property),
-    Status(Status),
-    Note(Note),
-}
-
-/// A cell of a library (EDIF 2 0 0, cell).
-#[derive(Drop)]
-pub struct Cell {
-    pub name: NameDef,
-    pub kind: CellKind,
-    pub items: Seq<CellItem>,
-}
 
 /// Reads on after the keyword `cell`.
 #[tactic(auto, using(readers::proofs::Reading::sequences), unfolding(crate::specs::Grammar::cell))]

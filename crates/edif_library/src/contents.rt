@@ -6,11 +6,10 @@ ghost use Rattle.edif_keywords.specs.Language.{edif};
 ghost use Rattle.edif_keywords.specs.Grammar.{item};
 ghost use Rattle.edif_library.specs.Grammar.{contents_instance, contents_net, contents_note, contents_item, contents_keywords, contents_rest};
 
-use crate::view::ContentsItem;
-use edif_keywords::keyword::same_keyword;
-use edif_keywords::{Cursor, Keyword};
+use edif_keywords::Cursor;
 use edif_nets::{read_instance, read_net};
 use edif_status::read_note;
+use edif_values::{ContentsItem, Keyword, same_keyword};
 use nl_base::{ReadError, Seq};
 use nl_io::Source;
 use std::alloc::Global;

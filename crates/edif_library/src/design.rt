@@ -6,11 +6,10 @@ ghost use Rattle.edif_keywords.specs.Language.{edif};
 ghost use Rattle.edif_keywords.specs.Grammar.{item};
 ghost use Rattle.edif_library.specs.Grammar.{library_ref, cell_ref, design_property, design_status, design_note, design_item, design_keywords, design_rest, design};
 
-use crate::file::{Design, DesignItem};
-use edif_keywords::keyword::same_keyword;
-use edif_keywords::{Cursor, Keyword};
+use edif_keywords::Cursor;
 use edif_names::{read_name, read_property};
 use edif_status::{read_note, read_status};
+use edif_values::{Design, DesignItem, Keyword, same_keyword};
 use nl_base::{Ident, ReadError, Seq};
 use nl_io::Source;
 use std::alloc::Global;

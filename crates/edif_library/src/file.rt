@@ -8,48 +8,15 @@ ghost use Rattle.edif_keywords.specs.Grammar.{item};
 ghost use Rattle.edif_library.specs.Grammar.{file_library, file_design, file_status, file_note, file_item, file_keywords, file_rest, file_body, file};
 
 use crate::design::read_design;
-use crate::library::{Library, read_library};
-use edif_keywords::keyword::same_keyword;
-use edif_keywords::{Cursor, Keyword};
-use edif_names::{NameDef, Property, read_name};
-use edif_status::{Note, Status, read_note, read_status};
+use crate::library::read_library;
+use edif_keywords::Cursor;
+use edif_names::read_name;
+use edif_status::{read_note, read_status};
 use edif_tokens::Tokens;
-use nl_base::{Ident, ReadError, Seq};
+use edif_values::{Design, EdifFile, FileItem, Keyword, Library, NameDef, Note, Status, same_keyword};
+use nl_base::{ReadError, Seq};
 use nl_io::Source;
 use std::alloc::Global;
-
-/// A part of a design behind its cell.
-#[derive(Drop)]
-pub enum DesignItem {
-    Property(Property),
-    Status(Status),
-    Note(Note),
-}
-
-/// A design: the cell that is the top of one (EDIF 2 0 0, design).
-#[derive(Drop)]
-pub struct Design {
-    pub name: NameDef,
-    pub cell: Ident,
-    pub library: Ident,
-    pub items: Seq<DesignItem>,
-}
-
-/// A part of a file.
-#[derive(Drop)]
-pub enum FileItem {
-    Library(Library),
-    Design(Design),
-    Status(Status),
-    Note(Note),
-}
-
-/// The value of an EDIF file (EDIF 2 0 0, edif). The level, the aliases and the comments of the keyword map are no part of it.
-#[derive(Drop)]
-pub struct EdifFile {
-    pub name: NameDef,
-    pub items: Seq<FileItem>,
-}
 
 /// Reads a text to its end as an EDIF file. The text has at most 268,435,456 bytes. Whatever it answers, at
 /// most 4,096 bytes more than these are taken from the source.

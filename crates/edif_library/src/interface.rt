@@ -6,12 +6,11 @@ ghost use Rattle.edif_keywords.specs.Language.{edif};
 ghost use Rattle.edif_keywords.specs.Grammar.{item};
 ghost use Rattle.edif_library.specs.Grammar.{interface_port, interface_property, interface_designator, interface_note, interface_item, interface_keywords, interface_rest, interface};
 
-use crate::view::InterfaceItem;
-use edif_keywords::keyword::same_keyword;
-use edif_keywords::{Cursor, Keyword};
+use edif_keywords::Cursor;
 use edif_names::read_property;
 use edif_nets::{read_designator, read_port};
 use edif_status::read_note;
+use edif_values::{InterfaceItem, Keyword, same_keyword};
 use nl_base::{ReadError, Seq};
 use nl_io::Source;
 use std::alloc::Global;

@@ -1,7 +1,7 @@
 // The laws of what a text reads as.
 ghost use Rattle.std.specs.Prelude.{◌≡◌, ℕ, List};
 ghost use Rattle.nl_base.specs.declared.fault.TextFault.{TextFault};
-ghost use Rattle.edif_library.specs.declared.file.EdifFile.{EdifFile};
+ghost use Rattle.edif_values.specs.declared.file.EdifFile.{EdifFile};
 ghost use Rattle.edif_library.specs.Text.{EdifReads, EdifFault, EdifCut};
 
 /// A text reads as at most one file.

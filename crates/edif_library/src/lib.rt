@@ -14,12 +14,11 @@ pub mod file;
 mod interface;
 pub mod laws;
 pub mod library;
-pub mod size;
 mod technology;
 pub mod view;
 
-pub use cell::{Cell, CellItem, CellKind};
-pub use file::{Design, DesignItem, EdifFile, FileItem, read_edif};
-pub use library::{Library, LibraryItem, Scale};
-pub use size::edif_size;
-pub use view::{ContentsItem, InterfaceItem, View, ViewItem};
+pub use edif_values::{
+    Cell, CellItem, CellKind, ContentsItem, Design, DesignItem, EdifFile, FileItem, InterfaceItem,
+    Library, LibraryItem, Scale, View, ViewItem, edif_size,
+};
+pub use file::read_edif;

@@ -5,41 +5,15 @@ ghost use Rattle.edif_keywords.specs.Language.{edif};
 ghost use Rattle.edif_keywords.specs.Grammar.{item};
 ghost use Rattle.edif_library.specs.Grammar.{library_cell, library_status, library_note, library_item, library_keywords, library_rest, library};
 
-use crate::cell::{Cell, read_cell};
+use crate::cell::read_cell;
 use crate::technology::read_technology;
-use edif_keywords::keyword::same_keyword;
-use edif_keywords::{Cursor, Keyword};
-use edif_names::{NameDef, read_name};
-use edif_status::{Note, Status, read_note, read_status};
-use nl_base::{Ident, ReadError, Scaled, Seq};
+use edif_keywords::Cursor;
+use edif_names::read_name;
+use edif_status::{read_note, read_status};
+use edif_values::{Cell, Keyword, Library, LibraryItem, Note, Status, same_keyword};
+use nl_base::{ReadError, Seq};
 use nl_io::Source;
 use std::alloc::Global;
-
-/// What one number of a kind of unit is worth (EDIF 2 0 0, scale).
-#[derive(Drop)]
-pub struct Scale {
-    pub left: Scaled,
-    pub right: Scaled,
-    pub unit: Ident,
-}
-
-/// A part of a library behind its technology.
-#[derive(Drop)]
-pub enum LibraryItem {
-    Cell(Cell),
-    Status(Status),
-    Note(Note),
-}
-
-/// A library, or an external one (EDIF 2 0 0, library, external, technology). The notes are those of its technology.
-#[derive(Drop)]
-pub struct Library {
-    pub external: bool,
-    pub name: NameDef,
-    pub scales: Seq<Scale>,
-    pub notes: Seq<Note>,
-    pub items: Seq<LibraryItem>,
-}
 
 /// Reads on after the keyword `library`, or `external`.
 #[tactic(auto, using(readers::proofs::Reading::sequences), unfolding(crate::specs::Grammar::library))]

@@ -3,52 +3,18 @@ ghost use Rattle.readers.specs.Sources.{supply};
 ghost use Rattle.readers.specs.Readers.{same, Reads};
 ghost use Rattle.edif_keywords.specs.Language.{edif};
 ghost use Rattle.edif_keywords.specs.Grammar.{item};
-ghost use Rattle.edif_library.specs.Grammar.{view_contents, view_property, view_status, view_note, view_item, is_contents, view_keywords, view_rest, netlist, view};
+ghost use Rattle.edif_values.specs.Values.{is_contents};
+ghost use Rattle.edif_library.specs.Grammar.{view_contents, view_property, view_status, view_note, view_item, view_keywords, view_rest, netlist, view};
 
 use crate::contents::read_contents;
 use crate::interface::read_interface;
-use edif_keywords::keyword::same_keyword;
-use edif_keywords::{Cursor, Keyword};
-use edif_names::{NameDef, Property, read_name, read_property};
-use edif_nets::{Instance, Net, Port};
-use edif_status::{Note, Status, read_note, read_status};
-use nl_base::{ReadError, Seq, Text};
+use edif_keywords::Cursor;
+use edif_names::{read_name, read_property};
+use edif_status::{read_note, read_status};
+use edif_values::{Keyword, Note, Property, Status, View, ViewItem, same_keyword};
+use nl_base::{ReadError, Seq};
 use nl_io::Source;
 use std::alloc::Global;
-
-/// A part of an interface.
-#[derive(Drop)]
-pub enum InterfaceItem {
-    Port(Port),
-    Property(Property),
-    Designator(Text),
-    Note(Note),
-}
-
-/// A part of the contents of a view.
-#[derive(Drop)]
-pub enum ContentsItem {
-    Instance(Instance),
-    Net(Net),
-    Note(Note),
-}
-
-/// A part of a view behind its interface. A view has at most one contents.
-#[derive(Drop)]
-pub enum ViewItem {
-    Contents(Seq<ContentsItem>),
-    Property(Property),
-    Status(Status),
-    Note(Note),
-}
-
-/// A view of a cell, of the type NETLIST (EDIF 2 0 0, view, interface, contents).
-#[derive(Drop)]
-pub struct View {
-    pub name: NameDef,
-    pub interface: Seq<InterfaceItem>,
-    pub items: Seq<ViewItem>,
-}
 
 /// Reads on after the keyword `view`.
 #[tactic(auto, using(readers::proofs::Reading::sequences), unfolding(crate::specs::Grammar::view))]

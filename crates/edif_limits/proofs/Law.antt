@@ -25,7 +25,7 @@ use Rattle.edif_tokens.proofs.Limits.{tokens_whole}
 use Rattle.edif_keywords.specs.Aliases.{Alias}
 use Rattle.edif_keywords.specs.Language.{edif, ahead_of}
 use Rattle.edif_keywords.specs.Reasons.{trailing}
-use Rattle.edif_library.specs.declared.file.EdifFile.{EdifFile}
+use Rattle.edif_values.specs.declared.file.EdifFile.{EdifFile}
 use Rattle.edif_library.specs.Grammar.{file}
 use Rattle.edif_library.specs.Text.{EdifReads, EdifFault, EdifCut}
 use Rattle.edif_library.proofs.Live.{live_file, closed_file}

@@ -11,7 +11,7 @@ ghost use Rattle.edif_tokens.specs.declared.token.Found.{Found};
 ghost use Rattle.edif_tokens.specs.Stream.{all_tokens};
 ghost use Rattle.edif_keywords.specs.Language.{edif, ahead_of};
 ghost use Rattle.edif_keywords.specs.Reasons.{trailing};
-ghost use Rattle.edif_library.specs.declared.file.EdifFile.{EdifFile};
+ghost use Rattle.edif_values.specs.declared.file.EdifFile.{EdifFile};
 ghost use Rattle.edif_library.specs.Grammar.{file as file_part};
 ghost use Rattle.edif_library.specs.Text.{EdifReads, EdifFault, EdifCut};
 ghost use Rattle.edif_rereading.specs.Whole.{EdifSpells};

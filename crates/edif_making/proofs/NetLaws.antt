@@ -8,12 +8,10 @@ use Rattle.std.specs.List.{AllByRecursion, filter_map}
 use Rattle.std.proofs.lemmas.Fmt.{IsAscii-signed, length_signed_le}
 use Rattle.std.proofs.lemmas.List.Concat.{flat_map-cons}
 use Rattle.nl_base.specs.Ranges.{Bounds, index_at}
-use Rattle.edif_tokens.specs.Proper.{AreBytes}
-use Rattle.edif_keywords.specs.Values.{IsString}
-use Rattle.edif_names.specs.Values.{IsProperty}
-use Rattle.edif_names.specs.declared.property.Property.{Property}
-use Rattle.edif_nets.specs.Values.{IsNetItem}
-use Rattle.edif_nets.specs.declared.net.NetItem.TheVariants as net_items
+use Rattle.edif_values.specs.Proper.{AreBytes}
+use Rattle.edif_values.specs.Values.{IsString, IsProperty, IsNetItem}
+use Rattle.edif_values.specs.declared.property.Property.{Property}
+use Rattle.edif_values.specs.declared.net.NetItem.TheVariants as net_items
 use Rattle.edif_design.specs.Design.{net_property, property_value}
 use Rattle.edif_naming.specs.Naming.{seen}
 use Rattle.edif_naming.specs.Sound.{AreSoundProps, IsShort, IsSoundProp}

@@ -4,7 +4,7 @@ use Rattle.std.specs.Prelude.{option_map, slice_get}
 use Rattle.std.specs.List.{AllByRecursion}
 use Rattle.std.proofs.lemmas.List.{map-append}
 use Rattle.std.proofs.lemmas.Option.{slice_get-map}
-use Rattle.edif_keywords.specs.Values.{IsString}
+use Rattle.edif_values.specs.Values.{IsString}
 use Rattle.edif_naming.proofs.SoundLaws.{all_push}
 use Rattle.edif_plans.proofs.Lists.{is_at}
 use Rattle.edif_making.specs.declared.nets.Planned.{Planned}

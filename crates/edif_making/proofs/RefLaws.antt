@@ -3,7 +3,7 @@ use Rattle.std.proofs.Common.{arith, ◌≡◌, ℕ, zero, suc, ◌<◌, ◌≤�
 use Rattle.std.specs.Prelude.{IfSome, slice_get}
 use Rattle.std.specs.Option.{option_map_or}
 use Rattle.nl_base.specs.Ranges.{Bounds}
-use Rattle.edif_keywords.specs.Values.{IsInteger}
+use Rattle.edif_values.specs.Values.{IsInteger}
 use Rattle.net_hier.specs.Cells.{IsPinBit, IsPortBit}
 use Rattle.net_hier.specs.declared.cells.HInst.{HInst}
 use Rattle.edif_plans.specs.Plans.{HasHead, head_of}

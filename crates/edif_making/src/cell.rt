@@ -1,9 +1,8 @@
 // A cell of the file.
 ghost use Rattle.std.specs.Prelude.{◌≡◌, ◌∷◌, ◌<◌, [], None, get_or, length, map, IfOk};
 ghost use Rattle.std.specs.List.{AllByRecursion};
-ghost use Rattle.edif_keywords.specs.Values.{IsWord};
-ghost use Rattle.edif_names.specs.Values.{IsProperty};
-ghost use Rattle.edif_library.specs.declared.cell.CellItem.TheVariants as cell_items;
+ghost use Rattle.edif_values.specs.Values.{IsWord, IsProperty};
+ghost use Rattle.edif_values.specs.declared.cell.CellItem.TheVariants as cell_items;
 ghost use Rattle.edif_written.specs.Written.{cell_of as cell_for, contents_items_of, netlist};
 ghost use Rattle.edif_naming.specs.Naming.{name_for, seen, value_of};
 ghost use Rattle.edif_naming.specs.Sound.{AreSoundProps};
@@ -12,12 +11,10 @@ ghost use Rattle.net_live.specs.Last.{last_of};
 ghost use Rattle.edif_plans.specs.Made.{new_cell_for, output_for};
 
 use crate::contents::contents_of;
-use edif_library::{Cell, CellItem, CellKind, ContentsItem, InterfaceItem, View, ViewItem};
-use edif_names::{NameDef, PortName, Property};
 use edif_naming::{named, properties_of};
-use edif_nets::{Instance, Net, Port};
 use edif_parts::{interface_of, output_port, view_ident};
 use edif_plans::Head;
+use edif_values::{Cell, CellItem, CellKind, ContentsItem, Instance, InterfaceItem, NameDef, Net, Port, PortName, Property, View, ViewItem};
 use net_hier::{ConstName, HCell, HProp, Hier};
 use net_live::{add_props, last_values};
 use nl_base::{Ident, NoMemory, Seq};

@@ -1,10 +1,9 @@
 // The contents of a cell.
 ghost use Rattle.std.specs.Prelude.{◌≡◌, ◌++◌, map, IfOk};
-ghost use Rattle.edif_library.specs.declared.view.ContentsItem.TheVariants as contents_items;
+ghost use Rattle.edif_values.specs.declared.view.ContentsItem.TheVariants as contents_items;
 ghost use Rattle.edif_written.specs.Written.{contents_of as contents_for};
 
-use edif_library::ContentsItem;
-use edif_nets::{Instance, Net};
+use edif_values::{ContentsItem, Instance, Net};
 use nl_base::{NoMemory, Seq};
 use std::alloc::Global;
 

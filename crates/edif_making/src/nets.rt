@@ -1,10 +1,8 @@
 // The nets of a cell.
 ghost use Rattle.std.specs.Prelude.{◌≡◌, ◌<◌, ◌↔◌, ◌++◌, ◌∷◌, [], IsTrue, cond, length, map, IfOk, OnOk};
 ghost use Rattle.std.specs.List.{AllByRecursion};
-ghost use Rattle.edif_keywords.specs.Values.{IsString};
-ghost use Rattle.edif_names.specs.Values.{IsProperty};
-ghost use Rattle.edif_nets.specs.Values.{IsNet};
-ghost use Rattle.edif_nets.specs.declared.net.NetItem.TheVariants as net_items;
+ghost use Rattle.edif_values.specs.Values.{IsString, IsProperty, IsNet};
+ghost use Rattle.edif_values.specs.declared.net.NetItem.TheVariants as net_items;
 ghost use Rattle.edif_design.specs.Design.{net_value};
 ghost use Rattle.edif_meanings.specs.Apart.{AreApart};
 ghost use Rattle.edif_naming.specs.Naming.{value_of};
@@ -20,10 +18,9 @@ ghost use Rattle.edif_making.specs.Nets.{HasFewDigits, HaveRefs, HaveSoundNets, 
 ghost use Rattle.edif_making.specs.Scenes.{scene_of};
 
 use crate::refs::{Scope, refs_of};
-use edif_names::Property;
 use edif_naming::{named, properties_of};
-use edif_nets::{Net, NetItem};
 use edif_spaces::idents_of;
+use edif_values::{Net, NetItem, Property};
 use net_bits::Classes;
 use net_hier::{HCell, HNet, HPort, Node};
 use net_live::{bit_word, class_props, first_net, is_live, last_values};

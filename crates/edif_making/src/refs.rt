@@ -1,15 +1,14 @@
 // The references of a net.
 ghost use Rattle.std.specs.Prelude.{◌≡◌, ◌++◌, ◌<◌, ◌≤◌, [], length, get_or, option_to_list, IfOk, IfSome, OnOk};
 ghost use Rattle.std.specs.List.{AllByRecursion};
-ghost use Rattle.edif_keywords.specs.Values.{IsWord};
-ghost use Rattle.edif_nets.specs.Values.{IsPortRef};
+ghost use Rattle.edif_values.specs.Values.{IsWord, IsPortRef};
 ghost use Rattle.net_hier.specs.Cells.{IsPinBit, IsPortBit};
 ghost use Rattle.edif_plans.specs.References.{CanRefer, FitsScene, HasPin, added_place as place_of_added, below_at, constant_ref_for, member_for, own_ref_for, pin_ref_for, ports_at, range_at, ref_for, refs_for};
 ghost use Rattle.edif_making.specs.Scenes.{scene_of};
 
 use edif_naming::copied;
-use edif_nets::PortRef;
 use edif_plans::{Head, Instances, Plan};
+use edif_values::PortRef;
 use net_hier::{HCell, HInst, HPort, Hier, Node};
 use nl_base::{Ident, Int, NoMemory, Range, Seq};
 use std::alloc::Global;

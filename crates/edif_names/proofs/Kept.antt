@@ -1,13 +1,13 @@
 -- What names and properties spell from the tokens of a text are values that can be written.
 use Rattle.std.proofs.Common.{Bool, true, false, List, [], ◌∷◌, arith}
-use Rattle.edif_keywords.specs.declared.keyword.Keyword.{Keyword}
-use Rattle.edif_keywords.specs.declared.keyword.Keyword.TheVariants as k
-use Rattle.edif_keywords.specs.Keywords.{same_keyword}
+use Rattle.edif_values.specs.declared.keyword.Keyword.{Keyword}
+use Rattle.edif_values.specs.declared.keyword.Keyword.TheVariants as k
+use Rattle.edif_values.specs.Keywords.{same_keyword}
 use Rattle.edif_keywords.specs.Grammar.{closing}
 use Rattle.edif_keywords.proofs.Kept.{Kept, kept_gives, kept_then, kept_after, kept_cond, kept_word, kept_string, kept_integer, kept_begin, kept_item, kept_form_or, kept_all, kept_comment}
-use Rattle.edif_names.specs.declared.property.PropTail.{PropTail}
+use Rattle.edif_values.specs.declared.property.PropTail.{PropTail}
 use Rattle.edif_names.specs.Grammar.{renamed, plain, name, array, renamed_port, plain_port, port_form, port_name, exponential, whole, scaled, string_value, integer_value, number_value, boolean_value, value_form, value, owner, remark, tail_form, tails, property}
-use Rattle.edif_names.specs.Values.{IsNameDef, IsPortName, IsScaled, IsPropValue, IsPropTail, ArePropTails, IsProperty}
+use Rattle.edif_values.specs.Values.{IsNameDef, IsPortName, IsScaled, IsPropValue, IsPropTail, ArePropTails, IsProperty}
 
 -- ---- names
 

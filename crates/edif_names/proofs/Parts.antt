@@ -7,9 +7,9 @@ use Rattle.readers.specs.Sources.{Ahead}
 use Rattle.readers.specs.Readers.{reading, IsCause}
 use Rattle.readers.proofs.Choices.{due_one, due_then}
 use Rattle.readers.proofs.Reading.{sequences}
-use Rattle.edif_keywords.specs.declared.keyword.Keyword.{Keyword}
-use Rattle.edif_keywords.specs.declared.keyword.Keyword.TheVariants as k
-use Rattle.edif_keywords.specs.Keywords.{same_keyword}
+use Rattle.edif_values.specs.declared.keyword.Keyword.{Keyword}
+use Rattle.edif_values.specs.declared.keyword.Keyword.TheVariants as k
+use Rattle.edif_values.specs.Keywords.{same_keyword}
 use Rattle.edif_keywords.specs.Aliases.{Alias}
 use Rattle.edif_keywords.specs.Language.{edif}
 use Rattle.edif_keywords.specs.Reasons.{word_of, integer_of}

@@ -10,11 +10,10 @@
 
 pub mod name;
 pub mod number;
-pub mod original_name;
 pub mod property;
 pub mod value;
 
-pub use name::{NameDef, PortName, read_name, read_port_name};
+pub use edif_values::{NameDef, PortName, PropTail, Property, original, port_original};
+pub use name::{read_name, read_port_name};
 pub use number::read_scaled;
-pub use original_name::{original, port_original};
-pub use property::{PropTail, Property, read_property};
+pub use property::read_property;

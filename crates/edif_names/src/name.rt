@@ -3,25 +3,11 @@ ghost use Rattle.readers.specs.Readers.{same, Reads};
 ghost use Rattle.edif_keywords.specs.Language.{edif};
 ghost use Rattle.edif_names.specs.Grammar.{renamed, plain, name, array, renamed_port, plain_port, port_form, port_name};
 
-use edif_keywords::keyword::same_keyword;
-use edif_keywords::{Cursor, Keyword};
-use nl_base::{Ident, Int, ReadError, Text};
+use edif_keywords::Cursor;
+use edif_values::{Keyword, NameDef, PortName, same_keyword};
+use nl_base::ReadError;
 use nl_io::Source;
 use std::alloc::Global;
-
-/// The name of an object: an identifier, and the text that a `rename` gives it (EDIF 2 0 0, rename).
-#[derive(Drop)]
-pub struct NameDef {
-    pub ident: Ident,
-    pub text: Option<Text>,
-}
-
-/// The name of a port: of a scalar, or of an array with its size (EDIF 2 0 0, array).
-#[derive(Drop)]
-pub enum PortName {
-    Single(NameDef),
-    Array(NameDef, Int),
-}
 
 /// Reads a name: an identifier, or a `rename` with an identifier and a text.
 #[tactic(auto, using(crate::proofs::Parts::form_or_token), unfolding(crate::specs::Grammar::name))]

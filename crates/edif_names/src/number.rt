@@ -4,7 +4,8 @@ ghost use Rattle.readers.specs.Readers.{same, Reads};
 ghost use Rattle.edif_keywords.specs.Language.{edif};
 ghost use Rattle.edif_names.specs.Grammar.{exponential, whole, scaled};
 
-use edif_keywords::{Cursor, Keyword};
+use edif_keywords::Cursor;
+use edif_values::Keyword;
 use nl_base::{Int, ReadError, Scaled};
 use nl_io::Source;
 use std::alloc::Global;

@@ -4,28 +4,13 @@ ghost use Rattle.readers.specs.Readers.{same, Reads};
 ghost use Rattle.edif_keywords.specs.Language.{edif};
 ghost use Rattle.edif_names.specs.Grammar.{owner, remark, tail_form, tail_item, tails, property};
 
-use crate::name::{NameDef, read_name};
+use crate::name::read_name;
 use crate::value::read_value;
-use edif_keywords::keyword::same_keyword;
-use edif_keywords::{Cursor, Keyword, read_comment};
-use nl_base::{PropValue, ReadError, Seq, Text};
+use edif_keywords::{Cursor, read_comment};
+use edif_values::{Keyword, PropTail, Property, same_keyword};
+use nl_base::{ReadError, Seq};
 use nl_io::Source;
 use std::alloc::Global;
-
-/// What may follow the value of a property.
-#[derive(Drop)]
-pub enum PropTail {
-    Owner(Text),
-    Comment(Seq<Text>),
-}
-
-/// A property of an object (EDIF 2 0 0, property).
-#[derive(Drop)]
-pub struct Property {
-    pub name: NameDef,
-    pub value: PropValue,
-    pub tail: Seq<PropTail>,
-}
 
 /// Reads on after the keyword `property`: its name, its value, and its owners and comments.
 #[tactic(auto, using(readers::proofs::Reading::sequences), unfolding(crate::specs::Grammar::property))]

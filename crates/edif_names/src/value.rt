@@ -4,8 +4,8 @@ ghost use Rattle.edif_keywords.specs.Language.{edif};
 ghost use Rattle.edif_names.specs.Grammar.{string_value, integer_value, number_value, boolean_value, value_form, value};
 
 use crate::number::read_scaled;
-use edif_keywords::keyword::same_keyword;
-use edif_keywords::{Cursor, Keyword};
+use edif_keywords::Cursor;
+use edif_values::{Keyword, same_keyword};
 use nl_base::{PropValue, ReadError};
 use nl_io::Source;
 use std::alloc::Global;

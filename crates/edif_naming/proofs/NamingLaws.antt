@@ -8,8 +8,8 @@ use Rattle.nl_base.specs.Case.{same_bytes}
 use Rattle.nl_base.specs.Ranges.{Bounds, range_bits, square}
 use Rattle.nl_base.specs.RangeForm.{range_form}
 use Rattle.nl_base.proofs.RangeForm.{range_form-complete}
-use Rattle.edif_names.specs.Names.{named_array, original, port_original, renamed_as}
-use Rattle.edif_names.specs.declared.property.Property.{Property}
+use Rattle.edif_values.specs.Names.{named_array, original, port_original, renamed_as}
+use Rattle.edif_values.specs.declared.property.Property.{Property}
 use Rattle.net_hier.specs.declared.cells.HProp.{HProp}
 use Rattle.std.proofs.Math.ListN.{drop_of_length-le}
 use Rattle.edif_spaces.specs.Spaces.{AreIdents}

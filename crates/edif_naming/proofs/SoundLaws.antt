@@ -10,10 +10,9 @@ use Rattle.std.specs.Int.Signed.{mag}
 use Rattle.std.specs.Str.{IsAscii}
 use Rattle.nl_base.specs.Case.{same_bytes}
 use Rattle.nl_base.specs.Ranges.{Bounds, bracketed, range_bits, square}
-use Rattle.edif_tokens.specs.Proper.{AreBytes}
-use Rattle.edif_keywords.specs.Values.{IsString, IsWord}
-use Rattle.edif_names.specs.Values.{IsNameDef, IsPortName, IsProperty}
-use Rattle.edif_names.specs.declared.property.Property.{Property}
+use Rattle.edif_values.specs.Proper.{AreBytes}
+use Rattle.edif_values.specs.Values.{IsString, IsWord, IsNameDef, IsPortName, IsProperty}
+use Rattle.edif_values.specs.declared.property.Property.{Property}
 use Rattle.net_hier.specs.declared.cells.HProp.{HProp}
 use Rattle.edif_naming.specs.Naming.{IsSmallRange, array_text, name_for, port_name_for, property_for, seen}
 use Rattle.edif_naming.specs.Sound.{AreSoundProps, IsShort, IsSoundProp}

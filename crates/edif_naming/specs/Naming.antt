@@ -3,11 +3,11 @@ use Rattle.std.specs.Prelude.{ℕ, ◌<◌, ◌^◌, ◌++◌, List, [], cond, O
 use Rattle.std.specs.Borrow.{Bor}
 use Rattle.nl_base.specs.Case.{same_bytes}
 use Rattle.nl_base.specs.Ranges.{Bounds, bracketed, range_bits, square}
-use Rattle.edif_names.specs.Names.{original}
-use Rattle.edif_names.specs.declared.name.NameDef.{NameDef}
-use Rattle.edif_names.specs.declared.name.PortName.{PortName}
-use Rattle.edif_names.specs.declared.name.PortName.TheVariants.{Single, Array}
-use Rattle.edif_names.specs.declared.property.Property.{Property}
+use Rattle.edif_values.specs.Names.{original}
+use Rattle.edif_values.specs.declared.name.NameDef.{NameDef}
+use Rattle.edif_values.specs.declared.name.PortName.{PortName}
+use Rattle.edif_values.specs.declared.name.PortName.TheVariants.{Single, Array}
+use Rattle.edif_values.specs.declared.property.Property.{Property}
 use Rattle.net_hier.specs.declared.cells.HProp.{HProp}
 
 -- the name with this identifier and this original name: the identifier alone, where it is the name

@@ -1,8 +1,8 @@
 -- Names and values that can be written in EDIF: names of at most 1,048,000 bytes, and strings of at most 1,048,576 (EDIF 2 0 0, rename, array, property).
 use Rattle.std.specs.Prelude.{ℕ, ◌≤◌, List, length}
 use Rattle.std.specs.List.{AllByRecursion}
-use Rattle.edif_tokens.specs.Proper.{AreBytes}
-use Rattle.edif_names.specs.Values.{IsPropValue}
+use Rattle.edif_values.specs.Proper.{AreBytes}
+use Rattle.edif_values.specs.Values.{IsPropValue}
 use Rattle.net_hier.specs.declared.cells.HProp.{HProp}
 
 -- bytes, of which there are at most 1,048,000

@@ -2,13 +2,12 @@
 ghost use Rattle.std.specs.Prelude.{◌≡◌, ◌++◌, ◌∷◌, Some, pos, IfOk, OnOk};
 ghost use Rattle.std.specs.Fmt.{signed_decimal};
 ghost use Rattle.nl_base.specs.Ranges.{range_bits};
-ghost use Rattle.edif_names.specs.declared.name.PortName.TheVariants.{Array};
-ghost use Rattle.edif_keywords.specs.Values.{IsString, IsWord};
-ghost use Rattle.edif_names.specs.Values.{IsNameDef, IsPortName};
+ghost use Rattle.edif_values.specs.declared.name.PortName.TheVariants.{Array};
+ghost use Rattle.edif_values.specs.Values.{IsString, IsWord, IsNameDef, IsPortName};
 ghost use Rattle.edif_naming.specs.Naming.{IsSmallRange, array_text as text_of_array, name_for, port_name_for};
 ghost use Rattle.edif_naming.specs.Sound.{IsShort};
 
-use edif_names::{NameDef, PortName};
+use edif_values::{NameDef, PortName};
 use itoa::Buffer;
 use net_hier::HPort;
 use nl_base::{Ident, Int, NoMemory, Range, Text};

@@ -1,14 +1,14 @@
 // Properties.
 ghost use Rattle.std.specs.Prelude.{◌≡◌, map, length, IfOk};
 ghost use Rattle.std.specs.List.{AllByRecursion};
-ghost use Rattle.edif_names.specs.Values.{IsProperty};
+ghost use Rattle.edif_values.specs.Values.{IsProperty};
 ghost use Rattle.edif_naming.specs.Naming.{ident_of, property_for, seen, value_of};
 ghost use Rattle.edif_spaces.specs.Spaces.{AreIdents};
 ghost use Rattle.edif_naming.specs.Sound.{AreSoundProps, IsSoundProp};
 
 use crate::names::named;
-use edif_names::Property;
 use edif_spaces::idents_of;
+use edif_values::Property;
 use net_hier::HProp;
 use nl_base::{Ident, NoMemory, PropValue, Seq, Text};
 use std::alloc::Global;

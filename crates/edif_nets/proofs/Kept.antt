@@ -4,22 +4,21 @@ use Rattle.std.specs.List.{AllByRecursion, cons_option}
 use Rattle.std.proofs.lemmas.List.Elements.{filter_map-append}
 use Rattle.nl_base.specs.declared.value.Dir.{Dir}
 use Rattle.nl_bytes.proofs.Uses.{AllByRecursion-push}
-use Rattle.edif_keywords.specs.declared.keyword.Keyword.{Keyword}
-use Rattle.edif_keywords.specs.declared.keyword.Keyword.TheVariants as k
-use Rattle.edif_keywords.specs.Keywords.{has, same_keyword}
-use Rattle.edif_keywords.specs.Values.{IsWord, IsInteger, IsString}
+use Rattle.edif_values.specs.declared.keyword.Keyword.{Keyword}
+use Rattle.edif_values.specs.declared.keyword.Keyword.TheVariants as k
+use Rattle.edif_values.specs.Keywords.{has, same_keyword}
+use Rattle.edif_values.specs.Values.{IsWord, IsInteger, IsString, IsPortItem, ArePortItems, IsPort, IsInstanceItem, IsInstance, IsPortRef, IsNetItem, IsNet}
 use Rattle.edif_keywords.specs.Grammar.{closing, choice, begin}
-use Rattle.edif_keywords.proofs.Same.{spelled_alike}
+use Rattle.edif_values.proofs.Same.{spelled_alike}
 use Rattle.edif_keywords.proofs.Kept.{Kept, kept_gives, kept_then, kept_after, kept_cond, kept_weaker, kept_word, kept_string, kept_integer, kept_form_or, kept_items, kept_all}
 use Rattle.edif_names.proofs.Kept.{kept_name, kept_port_name, kept_property}
 use Rattle.edif_status.proofs.Kept.{kept_note}
-use Rattle.edif_nets.specs.declared.port.PortItem.{PortItem}
-use Rattle.edif_nets.specs.declared.port.PortItem.TheVariants as port_items
-use Rattle.edif_nets.specs.declared.instance.InstanceItem.{InstanceItem}
-use Rattle.edif_nets.specs.declared.net.PortRef.{PortRef}
-use Rattle.edif_nets.specs.declared.net.NetItem.{NetItem}
-use Rattle.edif_nets.specs.Directions.{told, directions}
-use Rattle.edif_nets.specs.Values.{IsPortItem, ArePortItems, IsPort, IsInstanceItem, IsInstance, IsPortRef, IsNetItem, IsNet}
+use Rattle.edif_values.specs.declared.port.PortItem.{PortItem}
+use Rattle.edif_values.specs.declared.port.PortItem.TheVariants as port_items
+use Rattle.edif_values.specs.declared.instance.InstanceItem.{InstanceItem}
+use Rattle.edif_values.specs.declared.net.PortRef.{PortRef}
+use Rattle.edif_values.specs.declared.net.NetItem.{NetItem}
+use Rattle.edif_values.specs.Directions.{told, directions}
 use Rattle.edif_nets.specs.Grammar.{designator, direction_words, direction, port_property, port_designator, port_note, port_item, is_direction, has_direction, port_keywords, port_rest, port, library_named, no_library, maybe_library, cell_ref, view_ref, instance_property, instance_designator, instance_note, instance_item, instance_keywords, instance_rest, instance, member, whole_port, port_or_member, instance_named, no_instance, maybe_instance, port_ref, joined_keywords, joined_rest, joined, net_property, net_note, net_item, net_keywords, net_rest, net}
 
 -- ---- ports

@@ -1,4 +1,3 @@
 pub mod Kept
 pub mod Live
 pub mod Parts
-pub mod Told

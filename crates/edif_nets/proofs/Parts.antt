@@ -10,14 +10,14 @@ use Rattle.readers.specs.Sources.{Ahead}
 use Rattle.readers.specs.Readers.{reading, IsCause}
 use Rattle.readers.proofs.Choices.{due_one, due_then}
 use Rattle.readers.proofs.Reading.{sequences}
-use Rattle.edif_keywords.specs.declared.keyword.Keyword.{Keyword}
-use Rattle.edif_keywords.specs.declared.keyword.Keyword.TheVariants as k
-use Rattle.edif_keywords.specs.Keywords.{same_keyword}
+use Rattle.edif_values.specs.declared.keyword.Keyword.{Keyword}
+use Rattle.edif_values.specs.declared.keyword.Keyword.TheVariants as k
+use Rattle.edif_values.specs.Keywords.{same_keyword}
 use Rattle.edif_keywords.specs.Aliases.{Alias}
 use Rattle.edif_keywords.specs.Language.{edif}
 use Rattle.edif_keywords.specs.Reasons.{word_of, closing_of}
 use Rattle.edif_keywords.proofs.Forms.{form_or_other, item_loops}
-use Rattle.edif_nets.specs.declared.port.PortItem.{PortItem}
+use Rattle.edif_values.specs.declared.port.PortItem.{PortItem}
 use Rattle.edif_nets.specs.Grammar.{direction, port_property, port_designator, port_note, port_item, is_direction, has_direction, no_library, instance_property, instance_designator, instance_note, instance_item, whole_port, no_instance, net_property, net_note, net_item}
 
 module _ (e : ReadError) (table : List Alias) (s : Option (Ahead Found)) (h : IsCause e (reading edif any table s)) where

@@ -1,3 +1,1 @@
-pub mod Directions
 pub mod Grammar
-pub mod Values

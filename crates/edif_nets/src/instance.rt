@@ -6,31 +6,13 @@ ghost use Rattle.edif_keywords.specs.Grammar.{item};
 ghost use Rattle.edif_nets.specs.Grammar.{library_named, no_library, maybe_library, cell_ref, view_ref, instance_property, instance_designator, instance_note, instance_item, instance_keywords, instance_rest, instance};
 
 use crate::port::read_designator;
-use edif_keywords::keyword::same_keyword;
-use edif_keywords::{Cursor, Keyword};
-use edif_names::{NameDef, Property, read_name, read_property};
-use edif_status::{Note, read_note};
-use nl_base::{Ident, ReadError, Seq, Text};
+use edif_keywords::Cursor;
+use edif_names::{read_name, read_property};
+use edif_status::read_note;
+use edif_values::{Instance, InstanceItem, Keyword, Note, Property, same_keyword};
+use nl_base::{Ident, ReadError, Seq};
 use nl_io::Source;
 use std::alloc::Global;
-
-/// A part of an instance behind its reference.
-#[derive(Drop)]
-pub enum InstanceItem {
-    Property(Property),
-    Designator(Text),
-    Note(Note),
-}
-
-/// An instance of a view of a cell (EDIF 2 0 0, instance, viewRef, cellRef, libraryRef).
-#[derive(Drop)]
-pub struct Instance {
-    pub name: NameDef,
-    pub view: Ident,
-    pub cell: Ident,
-    pub library: Option<Ident>,
-    pub items: Seq<InstanceItem>,
-}
 
 /// Reads on after the keyword `instance`: its name, the view of a cell that it refers to, and its items.
 #[tactic(auto, using(readers::proofs::Reading::sequences), unfolding(crate::specs::Grammar::instance))]

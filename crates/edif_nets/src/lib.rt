@@ -9,9 +9,8 @@
 pub mod instance;
 pub mod net;
 pub mod port;
-pub mod port_direction;
 
-pub use instance::{Instance, InstanceItem, read_instance};
-pub use net::{Net, NetItem, PortRef, read_net};
-pub use port::{Port, PortItem, read_designator, read_port};
-pub use port_direction::direction;
+pub use edif_values::{Instance, InstanceItem, Net, NetItem, Port, PortItem, PortRef, direction};
+pub use instance::read_instance;
+pub use net::read_net;
+pub use port::{read_designator, read_port};

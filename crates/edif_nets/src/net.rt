@@ -5,36 +5,13 @@ ghost use Rattle.edif_keywords.specs.Language.{edif};
 ghost use Rattle.edif_keywords.specs.Grammar.{item};
 ghost use Rattle.edif_nets.specs.Grammar.{member, whole_port, port_or_member, instance_named, no_instance, maybe_instance, port_ref, joined_keywords, joined_rest, joined, net_property, net_note, net_item, net_keywords, net_rest, net};
 
-use edif_keywords::keyword::same_keyword;
-use edif_keywords::{Cursor, Keyword};
-use edif_names::{NameDef, Property, read_name, read_property};
-use edif_status::{Note, read_note};
+use edif_keywords::Cursor;
+use edif_names::{read_name, read_property};
+use edif_status::read_note;
+use edif_values::{Keyword, Net, NetItem, Note, PortRef, Property, same_keyword};
 use nl_base::{Ident, Int, ReadError, Seq};
 use nl_io::Source;
 use std::alloc::Global;
-
-/// A reference to a port, or to a member of an array of ports, of the cell or of an instance (EDIF 2 0 0, portRef, member, instanceRef).
-#[derive(Drop)]
-pub struct PortRef {
-    pub port: Ident,
-    pub member: Option<Int>,
-    pub instance: Option<Ident>,
-}
-
-/// A part of a net behind what it joins.
-#[derive(Drop)]
-pub enum NetItem {
-    Property(Property),
-    Note(Note),
-}
-
-/// A net (EDIF 2 0 0, net, joined).
-#[derive(Drop)]
-pub struct Net {
-    pub name: NameDef,
-    pub joined: Seq<PortRef>,
-    pub items: Seq<NetItem>,
-}
 
 /// Reads on after the keyword `net`: its name, what it joins, and its items.
 #[tactic(auto, using(readers::proofs::Reading::sequences), unfolding(crate::specs::Grammar::net))]

@@ -6,29 +6,13 @@ ghost use Rattle.edif_keywords.specs.Grammar.{item};
 ghost use Rattle.edif_keywords.specs.Reasons.{rows};
 ghost use Rattle.edif_nets.specs.Grammar.{designator, direction_words, direction, port_property, port_designator, port_note, port_item, is_direction, port_keywords, port_rest, port};
 
-use edif_keywords::keyword::same_keyword;
-use edif_keywords::{Cursor, Keyword};
-use edif_names::{PortName, Property, read_port_name, read_property};
-use edif_status::{Note, read_note};
+use edif_keywords::Cursor;
+use edif_names::{read_port_name, read_property};
+use edif_status::read_note;
+use edif_values::{Keyword, Note, Port, PortItem, Property, same_keyword};
 use nl_base::{Dir, ReadError, Seq, Text};
 use nl_io::Source;
 use std::alloc::Global;
-
-/// A part of a port behind its name. A port has at most one direction; designators are kept and mean nothing.
-#[derive(Drop)]
-pub enum PortItem {
-    Direction(Dir),
-    Property(Property),
-    Designator(Text),
-    Note(Note),
-}
-
-/// A port of a cell (EDIF 2 0 0, port).
-#[derive(Drop)]
-pub struct Port {
-    pub name: PortName,
-    pub items: Seq<PortItem>,
-}
 
 /// Reads on after the keyword `port`: its name and its items.
 #[tactic(auto, using(readers::proofs::Reading::sequences), unfolding(crate::specs::Grammar::port))]

@@ -6,7 +6,7 @@ use Rattle.std.proofs.Math.Seq.{take-append_seam}
 use Rattle.nl_base.specs.Ranges.{Bounds, bracketed, HasRangeForm, range_bits}
 use Rattle.nl_base.specs.RangeForm.{range_form}
 use Rattle.nl_base.proofs.RangeForm.{range_form-is}
-use Rattle.edif_names.specs.Names.{array_name, named_array, sized_form}
+use Rattle.edif_values.specs.Names.{array_name, named_array, sized_form}
 
 -- a size below 0 is that of no range
 pub no_form_below : (text : List ℕ) (size : ℤ) → (size <ℤ pos 0) → sized_form text size ≡ None

@@ -4,11 +4,11 @@ use Rattle.std.specs.Prelude.{codes, slice_get}
 use Rattle.std.specs.Option.{option_and_then}
 use Rattle.nl_base.specs.declared.rule.Refusal.{Refusal}
 use Rattle.nl_base.specs.declared.rule.Rule.TheVariants.{E5, E12}
-use Rattle.edif_names.specs.Names.{original}
-use Rattle.edif_nets.specs.declared.instance.Instance.{Instance}
+use Rattle.edif_values.specs.Names.{original}
+use Rattle.edif_values.specs.declared.instance.Instance.{Instance}
 use Rattle.edif_lookup.specs.Refusals.{broken, lower, lowest}
 use Rattle.edif_lookup.proofs.Orders.{lowest-append}
-use Rattle.edif_library.specs.declared.file.EdifFile.{EdifFile}
+use Rattle.edif_values.specs.declared.file.EdifFile.{EdifFile}
 use Rattle.edif_design.specs.CellRules.{inner_cell, link_refusals, view_refusals}
 use Rattle.edif_design.specs.References.{file_cells, link_meant, number_meant}
 use Rattle.edif_nets_rules.specs.Walks.{instance_breaks}

@@ -9,16 +9,16 @@ use Rattle.edif_lookup.specs.Candidates.{candidates, first_or_all, the_only}
 use Rattle.edif_lookup.specs.Refusals.{broken, broken_reference, if_some}
 use Rattle.edif_lookup.specs.Tables.{meant_by}
 use Rattle.nl_base.specs.declared.rule.Rule.TheVariants.{E6, E7, E8, E11}
-use Rattle.edif_names.specs.Names.{original, port_original}
-use Rattle.edif_nets.specs.declared.instance.Instance.{Instance}
-use Rattle.edif_nets.specs.declared.net.PortRef.{PortRef}
-use Rattle.edif_nets.specs.declared.port.Port.{Port}
+use Rattle.edif_values.specs.Names.{original, port_original}
+use Rattle.edif_values.specs.declared.instance.Instance.{Instance}
+use Rattle.edif_values.specs.declared.net.PortRef.{PortRef}
+use Rattle.edif_values.specs.declared.port.Port.{Port}
 use Rattle.net_hier.specs.declared.nodes.Node.{Node}
-use Rattle.edif_library.specs.declared.cell.Cell.{Cell}
+use Rattle.edif_values.specs.declared.cell.Cell.{Cell}
 use Rattle.edif_design.specs.CellRules.{Owner, bit_meant, bit_of, bit_refusals, index_names, instance_candidates, instance_ref_refusals, member_refusals, node_of, owner_at, owner_bit, owner_names, owner_of, port_candidates, port_ident, port_name, port_ref_refusals, ref_refusals, same_node, size_of}
 use Rattle.edif_design.specs.Parts.{instances, numbered, ports}
 use Rattle.edif_design.specs.References.{CellPlace, LinkedCell, all_cells, cell_candidates, cells_of_library, file_cells, library_meant, link_meant, number_meant}
-use Rattle.edif_library.specs.declared.file.EdifFile.{EdifFile}
+use Rattle.edif_values.specs.declared.file.EdifFile.{EdifFile}
 use Rattle.std.proofs.lemmas.Option.{slice_get-map}
 use Rattle.edif_nets_rules.specs.Breaks.{found_breaks, port_breaks_at, ref_breaks, ref_node}
 use Rattle.edif_nets_rules.specs.Idents.{instance_ident, instances_meaning}

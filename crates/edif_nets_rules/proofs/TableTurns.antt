@@ -11,7 +11,7 @@ use Rattle.edif_lookup.specs.Tables.{named, written}
 use Rattle.edif_lookup.proofs.ListLaws.{enumerate_more}
 use Rattle.edif_lookup.proofs.NameLaws.{names_turn}
 use Rattle.edif_lookup.proofs.Orders.{lowest_turn}
-use Rattle.edif_nets.specs.declared.port.Port.{Port}
+use Rattle.edif_values.specs.declared.port.Port.{Port}
 use Rattle.edif_design.specs.CellRules.{port_breaks, port_ident, port_name, port_refusals, size_of}
 use Rattle.edif_design.specs.Parts.{numbered}
 use Rattle.edif_nets_rules.specs.Lists.{seen}

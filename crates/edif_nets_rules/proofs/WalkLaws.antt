@@ -15,17 +15,17 @@ use Rattle.nl_base.specs.declared.rule.Rule.TheVariants.{E5, E11}
 use Rattle.edif_lookup.specs.Refusals.{broken, if_some, is_in, lower, lowest}
 use Rattle.edif_lookup.proofs.NameLaws.{or_comm}
 use Rattle.edif_lookup.proofs.Orders.{lowest-append}
-use Rattle.edif_names.specs.Names.{original, port_original}
-use Rattle.edif_status.specs.declared.note.Note.{Note}
-use Rattle.edif_nets.specs.declared.instance.Instance.{Instance}
-use Rattle.edif_nets.specs.declared.net.Net.{Net}
-use Rattle.edif_nets.specs.declared.net.PortRef.{PortRef}
-use Rattle.edif_nets.specs.declared.port.Port.{Port}
+use Rattle.edif_values.specs.Names.{original, port_original}
+use Rattle.edif_values.specs.declared.note.Note.{Note}
+use Rattle.edif_values.specs.declared.instance.Instance.{Instance}
+use Rattle.edif_values.specs.declared.net.Net.{Net}
+use Rattle.edif_values.specs.declared.net.PortRef.{PortRef}
+use Rattle.edif_values.specs.declared.port.Port.{Port}
 use Rattle.net_hier.specs.declared.nodes.Node.{Node}
-use Rattle.edif_library.specs.declared.cell.Cell.{Cell}
-use Rattle.edif_library.specs.declared.file.EdifFile.{EdifFile}
-use Rattle.edif_library.specs.declared.view.ContentsItem.{ContentsItem}
-use Rattle.edif_library.specs.declared.view.ContentsItem.TheVariants as contents_items
+use Rattle.edif_values.specs.declared.cell.Cell.{Cell}
+use Rattle.edif_values.specs.declared.file.EdifFile.{EdifFile}
+use Rattle.edif_values.specs.declared.view.ContentsItem.{ContentsItem}
+use Rattle.edif_values.specs.declared.view.ContentsItem.TheVariants as contents_items
 use Rattle.edif_design.specs.CellRules.{bit_meant, bit_of, bits_of_nets, contents_refusals, index_names, member_refusals, net_refusals, port_name, ref_refusals, same_node, size_of}
 use Rattle.edif_design.specs.Parts.{instance_in, instances, net_in, ports}
 use Rattle.edif_design.specs.References.{LinkedCell, linked_by, linked_cell, place_in, with_number}

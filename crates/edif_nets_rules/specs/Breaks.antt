@@ -5,9 +5,9 @@ use Rattle.std.specs.List.{list_any}
 use Rattle.edif_lookup.specs.Refusals.{broken, if_some}
 use Rattle.nl_base.specs.declared.rule.Refusal.{Refusal}
 use Rattle.nl_base.specs.declared.rule.Rule.TheVariants.{E6, E7, E8, E9, E10, E11}
-use Rattle.edif_names.specs.Names.{port_original}
-use Rattle.edif_nets.specs.declared.net.PortRef.{PortRef}
-use Rattle.edif_nets.specs.declared.port.Port.{Port}
+use Rattle.edif_values.specs.Names.{port_original}
+use Rattle.edif_values.specs.declared.net.PortRef.{PortRef}
+use Rattle.edif_values.specs.declared.port.Port.{Port}
 use Rattle.net_hier.specs.declared.nodes.Node.{Node}
 use Rattle.edif_design.specs.CellRules.{bit_of, index_names, member_refusals, port_name, same_node, size_of}
 use Rattle.edif_nets_rules.specs.Scopes.{ScopeLists, found_of, instance_names, node_found, port_at}

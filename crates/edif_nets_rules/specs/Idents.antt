@@ -3,8 +3,8 @@ use Rattle.std.specs.Prelude.{ℕ, List}
 use Rattle.edif_lookup.specs.Candidates.{candidates}
 use Rattle.edif_lookup.specs.Tables.{meant_by}
 use Rattle.edif_lookup.specs.declared.definitions.Meaning.{Meaning}
-use Rattle.edif_nets.specs.declared.instance.Instance.{Instance}
-use Rattle.edif_nets.specs.declared.port.Port.{Port}
+use Rattle.edif_values.specs.declared.instance.Instance.{Instance}
+use Rattle.edif_values.specs.declared.port.Port.{Port}
 use Rattle.edif_design.specs.CellRules.{port_ident}
 use Rattle.edif_design.specs.Parts.{numbered}
 

@@ -4,10 +4,10 @@ use Rattle.std.specs.Borrow.{Bor}
 use Rattle.std.specs.Option.{option_and_then}
 use Rattle.edif_lookup.specs.declared.definitions.Meaning.{Meaning}
 use Rattle.edif_lookup.specs.declared.definitions.Meaning.TheVariants as meanings
-use Rattle.edif_names.specs.Names.{original}
-use Rattle.edif_nets.specs.declared.instance.Instance.{Instance}
-use Rattle.edif_nets.specs.declared.net.PortRef.{PortRef}
-use Rattle.edif_nets.specs.declared.port.Port.{Port}
+use Rattle.edif_values.specs.Names.{original}
+use Rattle.edif_values.specs.declared.instance.Instance.{Instance}
+use Rattle.edif_values.specs.declared.net.PortRef.{PortRef}
+use Rattle.edif_values.specs.declared.port.Port.{Port}
 use Rattle.net_hier.specs.declared.nodes.Node.{Node}
 use Rattle.edif_design.specs.CellRules.{bit_of, size_of}
 use Rattle.edif_design.specs.Parts.{instances, ports}

@@ -4,13 +4,13 @@ use Rattle.std.specs.List.{filter_map, flat_map, list_any}
 use Rattle.nl_base.specs.Case.{same_bytes}
 use Rattle.nl_base.specs.declared.rule.Refusal.{Refusal}
 use Rattle.nl_base.specs.declared.rule.Rule.TheVariants.{E5, E12}
-use Rattle.edif_names.specs.Names.{original}
-use Rattle.edif_nets.specs.declared.instance.Instance.{Instance}
-use Rattle.edif_nets.specs.declared.net.Net.{Net}
+use Rattle.edif_values.specs.Names.{original}
+use Rattle.edif_values.specs.declared.instance.Instance.{Instance}
+use Rattle.edif_values.specs.declared.net.Net.{Net}
 use Rattle.net_hier.specs.declared.nodes.Node.{Node}
 use Rattle.edif_lookup.specs.Refusals.{broken, is_in}
-use Rattle.edif_library.specs.declared.file.EdifFile.{EdifFile}
-use Rattle.edif_library.specs.declared.view.ContentsItem.{ContentsItem}
+use Rattle.edif_values.specs.declared.file.EdifFile.{EdifFile}
+use Rattle.edif_values.specs.declared.view.ContentsItem.{ContentsItem}
 use Rattle.edif_design.specs.CellRules.{bits_of_nets, inner_cell, link_refusals, same_node, view_refusals}
 use Rattle.edif_design.specs.Parts.{instance_in, net_in}
 use Rattle.edif_design.specs.References.{LinkedCell}

@@ -1,11 +1,10 @@
 // The identifiers, original names, sizes and indexes of ports, whatever their sizes are.
 ghost use Rattle.std.specs.Prelude.{◌≡◌};
-ghost use Rattle.edif_names.specs.Names.{port_original};
+ghost use Rattle.edif_values.specs.Names.{port_original};
 ghost use Rattle.edif_design.specs.CellRules.{port_ident, port_name, size_of};
 
 use crate::indexes::{Indexes, array_name};
-use edif_names::{PortName, original};
-use edif_nets::Port;
+use edif_values::{Port, PortName, original};
 
 /// The identifier by which references name the port.
 pub fn port_ident(port: &Port) -> &[u8]

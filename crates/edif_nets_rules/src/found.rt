@@ -10,8 +10,7 @@ use crate::faces::port_size;
 use crate::sizes::bit_of;
 use crate::tables::{InstanceTable, PortTable};
 use edif_lookup::Meaning;
-use edif_names::original;
-use edif_nets::{Port, PortRef};
+use edif_values::{Port, PortRef, original};
 use nl_base::{Ident, NoMemory};
 use std::alloc::Global;
 

@@ -2,7 +2,7 @@
 ghost use Rattle.std.specs.Prelude.{◌≡◌, ◌≤◌, ◌<◌, ◌^◌, IfOk, IfSome, length, nat_abs, option_map};
 ghost use Rattle.std.specs.Fmt.{signed_decimal};
 ghost use Rattle.nl_base.specs.Ranges.{index_at};
-ghost use Rattle.edif_names.specs.Names.{array_name, sized_form};
+ghost use Rattle.edif_values.specs.Names.{array_name, sized_form};
 
 use itoa::Buffer;
 use nl_base::{NoMemory, Range, Text, split_range};

@@ -10,8 +10,7 @@ use crate::references::{refused, unbroken};
 use edif_design::FileTables;
 use edif_design::links::{linked_number, linked_refusal};
 use edif_lookup::{lower, one_name, two_names};
-use edif_names::original;
-use edif_nets::Instance;
+use edif_values::{Instance, original};
 use nl_base::{Ident, NoMemory, Refusal, Rule};
 use std::alloc::Global;
 

@@ -7,7 +7,7 @@ ghost use Rattle.edif_nets_rules.specs.Lists.{seen};
 use crate::faces::{port_ident, port_name, port_size};
 use crate::references::{refused, unbroken};
 use edif_lookup::{Names, lower, two_names};
-use edif_nets::Port;
+use edif_values::Port;
 use nl_base::{NoMemory, Refusal, Rule};
 use std::alloc::Global;
 

@@ -16,7 +16,7 @@ use crate::indexes::{Indexes, index_text, member_text};
 use crate::naming::port_names;
 use crate::sizes::bit_of;
 use edif_lookup::{lower, one_name, refusal, two_names};
-use edif_nets::{Port, PortRef};
+use edif_values::{Port, PortRef};
 use nl_base::{Ident, NoMemory, Refusal, Rule, Seq, Text};
 use std::alloc::Global;
 

@@ -1,7 +1,7 @@
 // The ports and the instances of a cell, with tables in which references find them.
 ghost use Rattle.std.specs.Prelude.{◌≡◌, ◌≤◌, None, Some, length, slice_get, IfOk, MatchOption};
 ghost use Rattle.edif_lookup.specs.Tables.{named, written};
-ghost use Rattle.edif_library.specs.Sizes.{cell_size};
+ghost use Rattle.edif_values.specs.Sizes.{cell_size};
 ghost use Rattle.edif_design.specs.CellRules.{port_ident};
 ghost use Rattle.edif_design.specs.Parts.{numbered, ports};
 ghost use Rattle.edif_nets_rules.specs.Lists.{seen};
@@ -9,9 +9,8 @@ ghost use Rattle.edif_nets_rules.specs.Idents.{instance_ident, instances_meaning
 
 use crate::faces::port_ident;
 use crate::parts::ports_of;
-use edif_library::Cell;
 use edif_lookup::{Definitions, Meaning};
-use edif_nets::{Instance, Port};
+use edif_values::{Cell, Instance, Port};
 use nl_base::NoMemory;
 use std::alloc::Global;
 use std::marker::Model;
@@ -38,8 +37,8 @@ pub struct PortTable<'a> {
 impl<'a> Model for PortTable<'a> {
     ghost use Rattle.std.specs.Coded.{codes};
     ghost use Rattle.std.specs.Prelude.{◌≡◌, List};
-    ghost use Rattle.edif_status.specs.contracts.user.UserTree as user_tree;
-    ghost use Rattle.edif_nets.specs.declared.port.Port.{Port};
+    ghost use Rattle.edif_values.specs.contracts.user.UserTree as user_tree;
+    ghost use Rattle.edif_values.specs.declared.port.Port.{Port};
     ghost use Rattle.edif_lookup.specs.Tables.{named};
     ghost use Rattle.edif_design.specs.CellRules.{port_ident};
     ghost use Rattle.edif_design.specs.Parts.{numbered};
@@ -117,8 +116,8 @@ pub struct InstanceTable<'a> {
 impl<'a> Model for InstanceTable<'a> {
     ghost use Rattle.std.specs.Coded.{codes};
     ghost use Rattle.std.specs.Prelude.{◌≡◌, List};
-    ghost use Rattle.edif_status.specs.contracts.user.UserTree as user_tree;
-    ghost use Rattle.edif_nets.specs.declared.instance.Instance.{Instance};
+    ghost use Rattle.edif_values.specs.contracts.user.UserTree as user_tree;
+    ghost use Rattle.edif_values.specs.declared.instance.Instance.{Instance};
     ghost use Rattle.edif_lookup.specs.Tables.{named};
     ghost use Rattle.edif_design.specs.Parts.{numbered};
     ghost use Rattle.edif_nets_rules.specs.Lists.{seen};

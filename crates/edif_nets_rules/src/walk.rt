@@ -2,8 +2,8 @@
 ghost use Rattle.std.specs.Prelude.{◌≡◌, ◌≤◌, ◌∷◌, ◌++◌, List, [], map, IfOk, OnOk};
 ghost use Rattle.std.specs.List.{filter_map};
 ghost use Rattle.edif_lookup.specs.Refusals.{in_order, is_in, lowest};
-ghost use Rattle.edif_library.specs.Sizes.{cell_size};
-ghost use Rattle.edif_library.specs.declared.view.ContentsItem.{ContentsItem};
+ghost use Rattle.edif_values.specs.Sizes.{cell_size};
+ghost use Rattle.edif_values.specs.declared.view.ContentsItem.{ContentsItem};
 ghost use Rattle.edif_design.specs.CellRules.{cell_refusals, contents_refusals};
 ghost use Rattle.edif_design.specs.Parts.{ports};
 ghost use Rattle.edif_design.specs.References.{file_cells, linked_cell, numbers_meant, place_in};
@@ -21,10 +21,8 @@ use crate::ports::ports_refusal;
 use crate::references::{NetNames, add_bits, joined_refusal, unbroken};
 use crate::tables::{InstanceTable, PortTable};
 use edif_design::FileTables;
-use edif_library::{Cell, ContentsItem};
 use edif_lookup::{Names, lower};
-use edif_names::original;
-use edif_nets::{Instance, Net};
+use edif_values::{Cell, ContentsItem, Instance, Net, original};
 use nl_base::{NoMemory, Refusal, Rule};
 use std::alloc::Global;
 

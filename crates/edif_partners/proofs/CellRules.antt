@@ -1,8 +1,8 @@
 -- What is made of a cell breaks no rule.
 use Rattle.std.proofs.Common.{arith, ◌≡◌, ℕ, zero, suc, ◌<◌, Bool, true, List, [], ◌∷◌, Some, length, refl, sym, subst}
 use Rattle.std.specs.Prelude.{slice_get}
-use Rattle.edif_names.specs.declared.name.NameDef.{NameDef}
-use Rattle.edif_library.specs.declared.cell.Cell.{Cell}
+use Rattle.edif_values.specs.declared.name.NameDef.{NameDef}
+use Rattle.edif_values.specs.declared.cell.Cell.{Cell}
 use Rattle.net_bits.specs.Classes.{AreClasses, ClassTable}
 use Rattle.net_hier.specs.Valid.{IsGoodCell}
 use Rattle.net_hier.specs.declared.cells.HCell.{HCell}

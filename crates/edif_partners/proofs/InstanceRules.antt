@@ -3,10 +3,10 @@ use Rattle.std.proofs.Common.{◌≡◌, ℕ, zero, suc, ◌⊎◌, inl, inr, Bo
 use Rattle.std.specs.Prelude.{option_map, slice_get}
 use Rattle.std.proofs.lemmas.List.{map-append}
 use Rattle.std.proofs.lemmas.Option.{slice_get-map}
-use Rattle.edif_names.specs.Names.{original}
-use Rattle.edif_names.specs.declared.name.NameDef.{NameDef}
-use Rattle.edif_library.specs.declared.cell.Cell.{Cell}
-use Rattle.edif_nets.specs.declared.instance.Instance.{Instance}
+use Rattle.edif_values.specs.Names.{original}
+use Rattle.edif_values.specs.declared.name.NameDef.{NameDef}
+use Rattle.edif_values.specs.declared.cell.Cell.{Cell}
+use Rattle.edif_values.specs.declared.instance.Instance.{Instance}
 use Rattle.net_bits.specs.Classes.{ClassTable}
 use Rattle.net_hier.specs.Valid.{IsGoodCell}
 use Rattle.net_hier.specs.declared.cells.HCell.{HCell}

@@ -4,12 +4,12 @@ use Rattle.std.specs.Prelude.{◌↔◌, option_map, slice_get}
 use Rattle.std.specs.List.{flat_map}
 use Rattle.std.proofs.lemmas.Option.{slice_get-map}
 use Rattle.nl_base.specs.declared.value.PropValue.{PropValue}
-use Rattle.edif_names.specs.declared.name.NameDef.{NameDef}
-use Rattle.edif_names.specs.declared.property.Property.{Property}
-use Rattle.edif_library.specs.declared.cell.Cell.{Cell}
-use Rattle.edif_nets.specs.declared.instance.Instance.{Instance}
-use Rattle.edif_nets.specs.declared.net.Net.{Net}
-use Rattle.edif_nets.specs.declared.port.Port.{Port}
+use Rattle.edif_values.specs.declared.name.NameDef.{NameDef}
+use Rattle.edif_values.specs.declared.property.Property.{Property}
+use Rattle.edif_values.specs.declared.cell.Cell.{Cell}
+use Rattle.edif_values.specs.declared.instance.Instance.{Instance}
+use Rattle.edif_values.specs.declared.net.Net.{Net}
+use Rattle.edif_values.specs.declared.port.Port.{Port}
 use Rattle.net_bits.specs.Classes.{AreClasses, ClassTable, members_of}
 use Rattle.net_hier.specs.Cells.{IsBitOrConstant, IsLocallyConnected}
 use Rattle.net_hier.specs.Facts.{HasNetValue, SameValues}

@@ -4,7 +4,7 @@ use Rattle.std.specs.Prelude.{int_lt, option_map, slice_get}
 use Rattle.std.proofs.lemmas.Bool.Decides.{nat_tests}
 use Rattle.std.proofs.lemmas.Option.{slice_get-map}
 use Rattle.nl_base.specs.Ranges.{Bounds, range_bits}
-use Rattle.edif_nets.specs.declared.port.Port.{Port}
+use Rattle.edif_values.specs.declared.port.Port.{Port}
 use Rattle.net_hier.specs.Cells.{width_of}
 use Rattle.net_hier.specs.Valid.{Each, HaveOwnNames, IsPortWidth}
 use Rattle.net_hier.specs.declared.cells.HCell.{HCell}

@@ -4,14 +4,14 @@ use Rattle.std.specs.Prelude.{option_map, slice_get}
 use Rattle.std.specs.Option.{option_and_then, option_map_or}
 use Rattle.std.proofs.lemmas.Option.{slice_get-map}
 use Rattle.nl_base.specs.Ranges.{Bounds, range_bits}
-use Rattle.edif_names.specs.declared.name.NameDef.{NameDef}
-use Rattle.edif_names.specs.declared.property.Property.{Property}
-use Rattle.edif_library.specs.declared.cell.Cell.{Cell}
-use Rattle.edif_library.specs.declared.file.EdifFile.{EdifFile}
-use Rattle.edif_nets.specs.declared.instance.Instance.{Instance}
-use Rattle.edif_nets.specs.declared.net.Net.{Net}
-use Rattle.edif_nets.specs.declared.net.PortRef.{PortRef}
-use Rattle.edif_nets.specs.declared.port.Port.{Port}
+use Rattle.edif_values.specs.declared.name.NameDef.{NameDef}
+use Rattle.edif_values.specs.declared.property.Property.{Property}
+use Rattle.edif_values.specs.declared.cell.Cell.{Cell}
+use Rattle.edif_values.specs.declared.file.EdifFile.{EdifFile}
+use Rattle.edif_values.specs.declared.instance.Instance.{Instance}
+use Rattle.edif_values.specs.declared.net.Net.{Net}
+use Rattle.edif_values.specs.declared.net.PortRef.{PortRef}
+use Rattle.edif_values.specs.declared.port.Port.{Port}
 use Rattle.net_hier.specs.Cells.{IsPinBit, IsPortBit, width_of}
 use Rattle.net_hier.specs.declared.cells.HCell.{HCell}
 use Rattle.net_hier.specs.declared.cells.HInst.{HInst}

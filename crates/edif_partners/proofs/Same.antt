@@ -5,12 +5,12 @@ use Rattle.std.specs.List.{enumerate_from, filter_map}
 use Rattle.std.proofs.lemmas.Bool.{false≢true}
 use Rattle.std.proofs.lemmas.List.{length-map}
 use Rattle.std.proofs.lemmas.Option.{slice_get-map}
-use Rattle.edif_names.specs.Names.{original}
-use Rattle.edif_names.specs.declared.name.NameDef.{NameDef}
-use Rattle.edif_library.specs.declared.cell.Cell.{Cell}
-use Rattle.edif_library.specs.declared.file.EdifFile.{EdifFile}
-use Rattle.edif_nets.specs.declared.instance.Instance.{Instance}
-use Rattle.edif_nets.specs.declared.port.Port.{Port}
+use Rattle.edif_values.specs.Names.{original}
+use Rattle.edif_values.specs.declared.name.NameDef.{NameDef}
+use Rattle.edif_values.specs.declared.cell.Cell.{Cell}
+use Rattle.edif_values.specs.declared.file.EdifFile.{EdifFile}
+use Rattle.edif_values.specs.declared.instance.Instance.{Instance}
+use Rattle.edif_values.specs.declared.port.Port.{Port}
 use Rattle.net_bits.specs.Classes.{AreClasses, ClassTable}
 use Rattle.net_hier.specs.Cells.{IsConstantCell, IsConstantInstance}
 use Rattle.net_hier.specs.Constants.{ConstantNames}

@@ -4,8 +4,8 @@ use Rattle.net_bits.specs.Classes.{ClassTable}
 use Rattle.net_live.specs.Live.{needs_constant}
 use Rattle.edif_plans.specs.References.{added_place}
 use Rattle.edif_plans.specs.declared.added.Instances.{Instances}
-use Rattle.edif_library.specs.declared.cell.Cell.{Cell}
-use Rattle.edif_nets.specs.declared.port.Port.{Port}
+use Rattle.edif_values.specs.declared.cell.Cell.{Cell}
+use Rattle.edif_values.specs.declared.port.Port.{Port}
 use Rattle.net_hier.specs.Design.{IsCell}
 use Rattle.net_hier.specs.declared.cells.HCell.{HCell}
 use Rattle.edif_meanings.specs.Apart.{AreApart}

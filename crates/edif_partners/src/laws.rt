@@ -1,8 +1,8 @@
 // The laws of cells that are made of those of a design.
 ghost use Rattle.std.specs.Prelude.{◌≡◌, ◌↔◌, ℕ, Bool, true, List, [], get_or, slice_get, Some};
 ghost use Rattle.nl_base.specs.declared.value.PropValue.{PropValue};
-ghost use Rattle.edif_names.specs.declared.name.NameDef.{NameDef};
-ghost use Rattle.edif_library.specs.declared.cell.Cell.{Cell};
+ghost use Rattle.edif_values.specs.declared.name.NameDef.{NameDef};
+ghost use Rattle.edif_values.specs.declared.cell.Cell.{Cell};
 ghost use Rattle.net_bits.specs.Classes.{AreClasses, ClassTable};
 ghost use Rattle.net_hier.specs.Cells.{IsBitOrConstant, IsConstantCell, IsLocallyConnected};
 ghost use Rattle.net_hier.specs.Facts.{HasNetValue, cell_props};

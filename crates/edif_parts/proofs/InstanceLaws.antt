@@ -2,12 +2,10 @@
 use Rattle.std.proofs.Common.{lit≤, ◌≡◌, ℕ, ◌+◌, List, [], ◌∷◌, ◌++◌, length-append, map, length, refl, sym, ap, ◌∙◌}
 use Rattle.std.specs.List.{AllByRecursion, filter_map}
 use Rattle.std.proofs.lemmas.List.{length-map}
-use Rattle.edif_keywords.specs.Values.{IsWord}
-use Rattle.edif_names.specs.Values.{IsProperty}
-use Rattle.edif_names.specs.declared.property.Property.{Property}
-use Rattle.edif_nets.specs.Values.{IsInstanceItem}
-use Rattle.edif_nets.specs.declared.instance.Instance.{Instance}
-use Rattle.edif_nets.specs.declared.instance.InstanceItem.TheVariants as instance_items
+use Rattle.edif_values.specs.Values.{IsWord, IsProperty, IsInstanceItem}
+use Rattle.edif_values.specs.declared.property.Property.{Property}
+use Rattle.edif_values.specs.declared.instance.Instance.{Instance}
+use Rattle.edif_values.specs.declared.instance.InstanceItem.TheVariants as instance_items
 use Rattle.edif_naming.specs.Naming.{value_of}
 use Rattle.edif_naming.proofs.NamingLaws.{original_name_for}
 use Rattle.edif_design.specs.Design.{instance_property, property_value}

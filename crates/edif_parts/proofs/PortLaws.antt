@@ -4,13 +4,12 @@ use Rattle.std.specs.Borrow.{Bor}
 use Rattle.std.specs.List.{AllByRecursion, filter_map}
 use Rattle.nl_base.specs.Ranges.{Bounds}
 use Rattle.nl_base.specs.declared.value.Dir.{Dir}
-use Rattle.edif_names.specs.Values.{IsPortName, IsProperty}
-use Rattle.edif_names.specs.declared.property.Property.{Property}
-use Rattle.edif_nets.specs.Directions.{direction_of, directions, told}
-use Rattle.edif_nets.specs.Values.{ArePortItems, IsPort, IsPortItem}
-use Rattle.edif_nets.specs.declared.port.Port.{Port}
-use Rattle.edif_nets.specs.declared.port.PortItem.{PortItem}
-use Rattle.edif_nets.specs.declared.port.PortItem.TheVariants as port_items
+use Rattle.edif_values.specs.Values.{IsPortName, IsProperty, ArePortItems, IsPort, IsPortItem}
+use Rattle.edif_values.specs.declared.property.Property.{Property}
+use Rattle.edif_values.specs.Directions.{direction_of, directions, told}
+use Rattle.edif_values.specs.declared.port.Port.{Port}
+use Rattle.edif_values.specs.declared.port.PortItem.{PortItem}
+use Rattle.edif_values.specs.declared.port.PortItem.TheVariants as port_items
 use Rattle.net_hier.specs.declared.cells.HPort.{HPort}
 use Rattle.net_hier.specs.declared.cells.HProp.{HProp}
 use Rattle.net_live.specs.Last.{is_named, last_of}

@@ -1,8 +1,8 @@
 -- The instances that are written (EDIF 2 0 0, instance, viewRef, cellRef, libraryRef).
 use Rattle.std.specs.Prelude.{ℕ, List, map, Some}
-use Rattle.edif_names.specs.declared.property.Property.{Property}
-use Rattle.edif_nets.specs.declared.instance.Instance.{Instance}
-use Rattle.edif_nets.specs.declared.instance.InstanceItem.TheVariants as instance_items
+use Rattle.edif_values.specs.declared.property.Property.{Property}
+use Rattle.edif_values.specs.declared.instance.Instance.{Instance}
+use Rattle.edif_values.specs.declared.instance.InstanceItem.TheVariants as instance_items
 use Rattle.edif_naming.specs.Naming.{name_for}
 use Rattle.edif_written.specs.Written.{netlist, work}
 

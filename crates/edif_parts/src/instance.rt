@@ -1,18 +1,15 @@
 // One instance of a cell.
 ghost use Rattle.std.specs.Prelude.{◌≡◌, map, IfOk};
 ghost use Rattle.std.specs.List.{AllByRecursion};
-ghost use Rattle.edif_keywords.specs.Values.{IsString, IsWord};
-ghost use Rattle.edif_names.specs.Values.{IsProperty};
-ghost use Rattle.edif_nets.specs.Values.{IsInstance};
-ghost use Rattle.edif_nets.specs.declared.instance.InstanceItem.TheVariants as instance_items;
+ghost use Rattle.edif_values.specs.Values.{IsString, IsWord, IsProperty, IsInstance};
+ghost use Rattle.edif_values.specs.declared.instance.InstanceItem.TheVariants as instance_items;
 ghost use Rattle.edif_naming.specs.Naming.{value_of};
 ghost use Rattle.edif_written.specs.Written.{netlist, work};
 ghost use Rattle.edif_plans.specs.Faces.{face_with, instance_face, instance_ident};
 ghost use Rattle.edif_parts.specs.Instances.{instance_for};
 
-use edif_names::Property;
 use edif_naming::{copied, named};
-use edif_nets::{Instance, InstanceItem};
+use edif_values::{Instance, InstanceItem, Property};
 use nl_base::{Ident, NoMemory, Seq, Text};
 use std::alloc::Global;
 

@@ -2,8 +2,7 @@
 ghost use Rattle.std.specs.Prelude.{◌≡◌, ◌+◌, ◌<◌, ◌≤◌, ◌++◌, [], drop, length, map, IfOk};
 ghost use Rattle.std.specs.List.{AllByRecursion};
 ghost use Rattle.net_hier.specs.Valid.{Each};
-ghost use Rattle.edif_nets.specs.Values.{IsInstance};
-ghost use Rattle.edif_names.specs.Values.{IsProperty};
+ghost use Rattle.edif_values.specs.Values.{IsInstance, IsProperty};
 ghost use Rattle.edif_naming.specs.Naming.{value_of};
 ghost use Rattle.edif_naming.specs.Sound.{AreSoundProps, IsShort};
 ghost use Rattle.net_live.specs.Last.{last_of as last_values_of};
@@ -13,10 +12,9 @@ ghost use Rattle.edif_plans.specs.Plans.{HasHead, constant_number};
 ghost use Rattle.edif_plans.specs.Sound.{IsSoundInstance};
 
 use crate::instance::instance_of;
-use edif_names::Property;
 use edif_naming::properties_of;
-use edif_nets::Instance;
 use edif_plans::{Added, Instances, Plan};
+use edif_values::{Instance, Property};
 use net_hier::HInst;
 use net_live::last_of;
 use nl_base::{Ident, NoMemory};

@@ -2,10 +2,9 @@
 ghost use Rattle.std.specs.Prelude.{◌≡◌, ◌∷◌, [], length, map, IfOk};
 ghost use Rattle.std.specs.List.{AllByRecursion};
 ghost use Rattle.nl_base.specs.declared.value.Dir.TheVariants as dirs;
-ghost use Rattle.edif_names.specs.Values.{IsProperty};
-ghost use Rattle.edif_nets.specs.Values.{IsPort};
-ghost use Rattle.edif_nets.specs.declared.port.PortItem.TheVariants as port_items;
-ghost use Rattle.edif_library.specs.declared.view.InterfaceItem.TheVariants as interface_items;
+ghost use Rattle.edif_values.specs.Values.{IsProperty, IsPort};
+ghost use Rattle.edif_values.specs.declared.port.PortItem.TheVariants as port_items;
+ghost use Rattle.edif_values.specs.declared.view.InterfaceItem.TheVariants as interface_items;
 ghost use Rattle.edif_design.specs.CellRules.{port_ident};
 ghost use Rattle.net_live.specs.Last.{last_of as last_values_of};
 ghost use Rattle.edif_naming.specs.Naming.{value_of};
@@ -13,10 +12,8 @@ ghost use Rattle.edif_naming.specs.Sound.{AreSoundProps};
 ghost use Rattle.edif_plans.specs.Faces.{face_for, face_of};
 ghost use Rattle.edif_plans.specs.Sound.{IsSoundPort};
 
-use edif_library::InterfaceItem;
-use edif_names::{PortName, Property};
 use edif_naming::{port_named, properties_of};
-use edif_nets::{Port, PortItem};
+use edif_values::{InterfaceItem, Port, PortItem, PortName, Property};
 use net_hier::HPort;
 use net_live::last_of;
 use nl_base::{Dir, Ident, NoMemory, Seq};

@@ -2,16 +2,14 @@
 use Rattle.std.specs.Prelude.{⊤, ◌≡◌, ℕ, ◌++◌, Bool, true, false, cond, List, [], ◌∷◌, map, get_or}
 use Rattle.std.specs.List.{AllByRecursion}
 use Rattle.nl_base.specs.declared.value.Dir.TheVariants.{Output}
-use Rattle.edif_keywords.specs.Values.{IsWord}
-use Rattle.edif_names.specs.Values.{IsProperty}
-use Rattle.edif_nets.specs.Values.{IsInstance, IsNet, IsPort}
-use Rattle.edif_names.specs.declared.name.PortName.TheVariants.{Single}
-use Rattle.edif_names.specs.declared.property.Property.{Property}
-use Rattle.edif_nets.specs.declared.instance.Instance.{Instance}
-use Rattle.edif_nets.specs.declared.net.Net.{Net}
-use Rattle.edif_nets.specs.declared.port.Port.{Port}
-use Rattle.edif_nets.specs.declared.port.PortItem.TheVariants.{Direction}
-use Rattle.edif_library.specs.declared.cell.Cell.{Cell}
+use Rattle.edif_values.specs.Values.{IsWord, IsProperty, IsInstance, IsNet, IsPort}
+use Rattle.edif_values.specs.declared.name.PortName.TheVariants.{Single}
+use Rattle.edif_values.specs.declared.property.Property.{Property}
+use Rattle.edif_values.specs.declared.instance.Instance.{Instance}
+use Rattle.edif_values.specs.declared.net.Net.{Net}
+use Rattle.edif_values.specs.declared.port.Port.{Port}
+use Rattle.edif_values.specs.declared.port.PortItem.TheVariants.{Direction}
+use Rattle.edif_values.specs.declared.cell.Cell.{Cell}
 use Rattle.net_hier.specs.declared.cells.HCell.{HCell}
 use Rattle.net_hier.specs.declared.cells.HInst.{HInst}
 use Rattle.net_hier.specs.declared.cells.HProp.{HProp}

@@ -3,7 +3,7 @@ use Rattle.std.specs.Prelude.{⊤, ◌≡◌, ℕ, ◌+◌, ◌-◌, ◌<◌, Bo
 use Rattle.std.specs.List.{filter_map}
 use Rattle.std.specs.Option.{option_and_then, option_map_or}
 use Rattle.nl_base.specs.Ranges.{Bounds}
-use Rattle.edif_nets.specs.declared.net.PortRef.{PortRef}
+use Rattle.edif_values.specs.declared.net.PortRef.{PortRef}
 use Rattle.net_hier.specs.declared.cells.HCell.{HCell}
 use Rattle.net_hier.specs.declared.cells.HInst.{HInst}
 use Rattle.net_hier.specs.declared.cells.HPort.{HPort}

@@ -1,7 +1,7 @@
 -- Designs that can be written in EDIF: names have at most 1,048,000 bytes, and strings at most 1,048,576.
 use Rattle.std.specs.Prelude.{ℕ, ◌≤◌, List, length}
 use Rattle.std.specs.List.{AllByRecursion}
-use Rattle.edif_tokens.specs.Proper.{AreBytes}
+use Rattle.edif_values.specs.Proper.{AreBytes}
 use Rattle.edif_naming.specs.Sound.{AreSoundProps, IsShort}
 use Rattle.net_hier.specs.Constants.{ConstantNames}
 use Rattle.net_hier.specs.Design.{Design}

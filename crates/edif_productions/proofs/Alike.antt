@@ -2,7 +2,7 @@
 use Rattle.std.proofs.Common.{◌≡◌, ◌∙◌, sym, ap, subst, refl, inl, inr, List, [], ◌∷◌, ◌++◌, append_assoc}
 use Rattle.grammar.specs.Part.{sequence}
 use Rattle.grammar.specs.Texts.{Spells}
-use Rattle.edif_keywords.specs.declared.keyword.Keyword.{Keyword}
+use Rattle.edif_values.specs.declared.keyword.Keyword.{Keyword}
 use Rattle.edif_keywords.specs.Aliases.{Alias}
 use Rattle.edif_keywords.specs.Language.{Edif}
 use Rattle.edif_keywords.specs.Grammar.{item}

@@ -4,8 +4,8 @@ use Rattle.grammar.specs.Part.{gives, sequence}
 use Rattle.grammar.specs.Texts.{Spells}
 use Rattle.grammar.specs.Whole.{proper}
 use Rattle.readers.specs.Parts.{if_next}
-use Rattle.edif_tokens.specs.declared.token.Token.TheVariants.{RightParen}
-use Rattle.edif_keywords.specs.declared.keyword.Keyword.{Keyword}
+use Rattle.edif_values.specs.declared.token.Token.TheVariants.{RightParen}
+use Rattle.edif_values.specs.declared.keyword.Keyword.{Keyword}
 use Rattle.edif_keywords.specs.Aliases.{Alias}
 use Rattle.edif_keywords.specs.Language.{Edif}
 use Rattle.edif_keywords.specs.Grammar.{closing, item, form_or}

@@ -6,9 +6,9 @@ use Rattle.grammar.specs.Whole.{Terminal, proper, end}
 use Rattle.nl_base.specs.declared.place.Place.{Place}
 use Rattle.readers.specs.Parts.{at_token}
 use Rattle.edif_tokens.specs.declared.token.Found.{Found}
-use Rattle.edif_tokens.specs.declared.token.Token.TheVariants.{LeftParen, RightParen}
-use Rattle.edif_keywords.specs.declared.keyword.Keyword.{Keyword}
-use Rattle.edif_keywords.specs.Keywords.{has}
+use Rattle.edif_values.specs.declared.token.Token.TheVariants.{LeftParen, RightParen}
+use Rattle.edif_values.specs.declared.keyword.Keyword.{Keyword}
+use Rattle.edif_values.specs.Keywords.{has}
 use Rattle.edif_keywords.specs.Aliases.{Alias}
 use Rattle.edif_keywords.specs.Language.{Edif}
 use Rattle.edif_keywords.specs.Reasons as say

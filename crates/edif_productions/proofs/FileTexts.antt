@@ -6,7 +6,7 @@ use Rattle.grammar.specs.Whole.{Terminal, proper, end, whole, the_end, end_of, I
 use Rattle.nl_base.specs.declared.place.Place.{Place}
 use Rattle.readers.specs.Sources.{Ahead}
 use Rattle.edif_tokens.specs.declared.token.Found.{Found}
-use Rattle.edif_keywords.specs.declared.keyword.Keyword.TheVariants as k
+use Rattle.edif_values.specs.declared.keyword.Keyword.TheVariants as k
 use Rattle.edif_keywords.specs.Aliases.{Alias}
 use Rattle.edif_keywords.specs.Language.{Edif}
 use Rattle.edif_keywords.specs.Reasons.{trailing}
@@ -14,9 +14,9 @@ use Rattle.edif_keywords.specs.Grammar.{item}
 use Rattle.edif_keywords.specs.Grammar as header_grammar
 use Rattle.edif_names.specs.Grammar as name_grammar
 use Rattle.edif_status.specs.Grammar.{note_keywords}
-use Rattle.edif_library.specs.declared.file.FileItem.{FileItem}
-use Rattle.edif_library.specs.declared.file.FileItem.TheVariants as file_items
-use Rattle.edif_library.specs.declared.file.EdifFile.{EdifFile}
+use Rattle.edif_values.specs.declared.file.FileItem.{FileItem}
+use Rattle.edif_values.specs.declared.file.FileItem.TheVariants as file_items
+use Rattle.edif_values.specs.declared.file.EdifFile.{EdifFile}
 use Rattle.edif_library.specs.Grammar as grammar
 use Rattle.edif_library.specs.Grammar.{file_library, file_design, file_status, file_note, file_keywords, file_rest, file_body}
 use Rattle.edif_productions.specs.Production.{Production, many, form, meaning, ◌∣◌, Tokens, IsKeyword, Texts, HasTextsOf}

@@ -1,24 +1,25 @@
 -- Views, cells, libraries and designs are read as the extended BNF has them.
 use Rattle.std.proofs.Common.{◌≡◌, ap, refl, inl, inr, Bool, false, List, [], ◌∷◌, codes}
-use Rattle.edif_keywords.specs.declared.keyword.Keyword.TheVariants as k
+use Rattle.edif_values.specs.declared.keyword.Keyword.TheVariants as k
 use Rattle.edif_keywords.specs.Aliases.{Alias}
 use Rattle.edif_keywords.specs.Grammar.{choice, item}
 use Rattle.edif_status.specs.Grammar.{note_keywords}
-use Rattle.edif_library.specs.declared.view.InterfaceItem.{InterfaceItem}
-use Rattle.edif_library.specs.declared.view.InterfaceItem.TheVariants as interface_items
-use Rattle.edif_library.specs.declared.view.ContentsItem.{ContentsItem}
-use Rattle.edif_library.specs.declared.view.ContentsItem.TheVariants as contents_items
-use Rattle.edif_library.specs.declared.view.ViewItem.{ViewItem}
-use Rattle.edif_library.specs.declared.view.ViewItem.TheVariants as view_items
-use Rattle.edif_library.specs.declared.cell.CellKind.TheVariants as kinds
-use Rattle.edif_library.specs.declared.cell.CellItem.{CellItem}
-use Rattle.edif_library.specs.declared.cell.CellItem.TheVariants as cell_items
-use Rattle.edif_library.specs.declared.library.LibraryItem.{LibraryItem}
-use Rattle.edif_library.specs.declared.library.LibraryItem.TheVariants as library_items
-use Rattle.edif_library.specs.declared.file.DesignItem.{DesignItem}
-use Rattle.edif_library.specs.declared.file.DesignItem.TheVariants as design_items
+use Rattle.edif_values.specs.declared.view.InterfaceItem.{InterfaceItem}
+use Rattle.edif_values.specs.declared.view.InterfaceItem.TheVariants as interface_items
+use Rattle.edif_values.specs.declared.view.ContentsItem.{ContentsItem}
+use Rattle.edif_values.specs.declared.view.ContentsItem.TheVariants as contents_items
+use Rattle.edif_values.specs.declared.view.ViewItem.{ViewItem}
+use Rattle.edif_values.specs.declared.view.ViewItem.TheVariants as view_items
+use Rattle.edif_values.specs.declared.cell.CellKind.TheVariants as kinds
+use Rattle.edif_values.specs.declared.cell.CellItem.{CellItem}
+use Rattle.edif_values.specs.declared.cell.CellItem.TheVariants as cell_items
+use Rattle.edif_values.specs.declared.library.LibraryItem.{LibraryItem}
+use Rattle.edif_values.specs.declared.library.LibraryItem.TheVariants as library_items
+use Rattle.edif_values.specs.declared.file.DesignItem.{DesignItem}
+use Rattle.edif_values.specs.declared.file.DesignItem.TheVariants as design_items
 use Rattle.edif_library.specs.Grammar as grammar
-use Rattle.edif_library.specs.Grammar.{interface_port, interface_property, interface_designator, interface_note, interface_item, interface_keywords, interface_rest, contents_instance, contents_net, contents_note, contents_item, contents_keywords, contents_rest, view_contents, view_property, view_status, view_note, view_item, is_contents, has_contents, view_keywords, view_rest, kind_words, cell_type, cell_view, cell_property, cell_status, cell_note, cell_item, is_view, has_view, cell_keywords, cell_rest, unit, scales_rest, notes_rest, number_definition, library_cell, library_status, library_note, library_item, library_keywords, library_rest, library_ref, cell_ref, design_property, design_status, design_note, design_item, design_keywords, design_rest}
+use Rattle.edif_values.specs.Values.{is_contents, is_view}
+use Rattle.edif_library.specs.Grammar.{interface_port, interface_property, interface_designator, interface_note, interface_item, interface_keywords, interface_rest, contents_instance, contents_net, contents_note, contents_item, contents_keywords, contents_rest, view_contents, view_property, view_status, view_note, view_item, has_contents, view_keywords, view_rest, kind_words, cell_type, cell_view, cell_property, cell_status, cell_note, cell_item, has_view, cell_keywords, cell_rest, unit, scales_rest, notes_rest, number_definition, library_cell, library_status, library_note, library_item, library_keywords, library_rest, library_ref, cell_ref, design_property, design_status, design_note, design_item, design_keywords, design_rest}
 use Rattle.edif_productions.specs.Production.{Production, many, form, meaning, ◌·◌, ◌∣◌, Tokens, Texts, ident, HasTextsOf, form_of}
 use Rattle.edif_productions.specs.Names.{property}
 use Rattle.edif_productions.specs.Notes.{note, status}

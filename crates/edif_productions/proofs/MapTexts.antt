@@ -5,8 +5,8 @@ use Rattle.grammar.specs.Texts.{Spells, ends, goes}
 use Rattle.grammar.specs.Whole.{proper, end}
 use Rattle.readers.specs.Parts.{while_next}
 use Rattle.edif_tokens.specs.declared.token.Found.{Found}
-use Rattle.edif_tokens.specs.declared.token.Token.TheVariants.{RightParen}
-use Rattle.edif_keywords.specs.declared.keyword.Keyword.TheVariants as k
+use Rattle.edif_values.specs.declared.token.Token.TheVariants.{RightParen}
+use Rattle.edif_values.specs.declared.keyword.Keyword.TheVariants as k
 use Rattle.edif_keywords.specs.Aliases.{Alias}
 use Rattle.edif_keywords.specs.Language.{Edif}
 use Rattle.edif_keywords.specs.Reasons as say

@@ -4,19 +4,19 @@ use Rattle.grammar.specs.Part.{gives, sequence}
 use Rattle.grammar.specs.Texts.{Spells}
 use Rattle.nl_base.specs.declared.value.PropValue.{PropValue}
 use Rattle.nl_base.specs.declared.value.PropValue.TheVariants as values
-use Rattle.edif_tokens.specs.declared.token.Token.TheVariants.{LeftParen, RightParen}
-use Rattle.edif_keywords.specs.declared.keyword.Keyword.{Keyword}
-use Rattle.edif_keywords.specs.declared.keyword.Keyword.TheVariants as k
-use Rattle.edif_keywords.specs.Keywords.{has, same_keyword}
+use Rattle.edif_values.specs.declared.token.Token.TheVariants.{LeftParen, RightParen}
+use Rattle.edif_values.specs.declared.keyword.Keyword.{Keyword}
+use Rattle.edif_values.specs.declared.keyword.Keyword.TheVariants as k
+use Rattle.edif_values.specs.Keywords.{has, same_keyword}
 use Rattle.edif_keywords.specs.Aliases.{Alias}
 use Rattle.edif_keywords.specs.Language.{Edif}
 use Rattle.edif_keywords.specs.Grammar.{closing, item}
 use Rattle.edif_keywords.specs.Grammar as keywords
-use Rattle.edif_names.specs.declared.name.NameDef.{NameDef}
-use Rattle.edif_names.specs.declared.name.PortName.{PortName}
-use Rattle.edif_names.specs.declared.name.PortName.TheVariants as port_names
-use Rattle.edif_names.specs.declared.property.PropTail.{PropTail}
-use Rattle.edif_names.specs.declared.property.PropTail.TheVariants as tail
+use Rattle.edif_values.specs.declared.name.NameDef.{NameDef}
+use Rattle.edif_values.specs.declared.name.PortName.{PortName}
+use Rattle.edif_values.specs.declared.name.PortName.TheVariants as port_names
+use Rattle.edif_values.specs.declared.property.PropTail.{PropTail}
+use Rattle.edif_values.specs.declared.property.PropTail.TheVariants as tail
 use Rattle.edif_names.specs.Grammar as grammar
 use Rattle.edif_names.specs.Grammar.{renamed, plain, array, renamed_port, plain_port, port_form, exponential, whole, string_value, integer_value, number_value, boolean_value, value_form, owner, remark, tail_form, tails}
 use Rattle.edif_productions.specs.Production.{Production, nothing, many, form, meaning, ◌·◌, ◌∣◌, Tokens, IsToken, IsKeyword, Texts, ident, int, str, HasTextsOf, form_of}

@@ -2,15 +2,15 @@
 use Rattle.std.proofs.Common.{◌≡◌, ap, refl, inl, inr, false, List, [], ◌∷◌, Some, None, codes}
 use Rattle.nl_base.specs.declared.value.Dir.{Dir}
 use Rattle.nl_base.specs.declared.value.Dir.TheVariants as dirs
-use Rattle.edif_keywords.specs.declared.keyword.Keyword.TheVariants as k
+use Rattle.edif_values.specs.declared.keyword.Keyword.TheVariants as k
 use Rattle.edif_keywords.specs.Aliases.{Alias}
 use Rattle.edif_keywords.specs.Grammar.{choice, item}
 use Rattle.edif_status.specs.Grammar.{note_keywords}
-use Rattle.edif_nets.specs.declared.port.PortItem.{PortItem}
-use Rattle.edif_nets.specs.declared.port.PortItem.TheVariants as port_items
-use Rattle.edif_nets.specs.declared.instance.InstanceItem.TheVariants as instance_items
-use Rattle.edif_nets.specs.declared.net.NetItem.{NetItem}
-use Rattle.edif_nets.specs.declared.net.NetItem.TheVariants as net_items
+use Rattle.edif_values.specs.declared.port.PortItem.{PortItem}
+use Rattle.edif_values.specs.declared.port.PortItem.TheVariants as port_items
+use Rattle.edif_values.specs.declared.instance.InstanceItem.TheVariants as instance_items
+use Rattle.edif_values.specs.declared.net.NetItem.{NetItem}
+use Rattle.edif_values.specs.declared.net.NetItem.TheVariants as net_items
 use Rattle.edif_nets.specs.Grammar as grammar
 use Rattle.edif_nets.specs.Grammar.{direction_words, port_property, port_designator, port_note, port_item, is_direction, has_direction, port_keywords, port_rest, library_named, no_library, maybe_library, instance_property, instance_designator, instance_note, instance_item, instance_keywords, instance_rest, cell_ref, member, whole_port, instance_named, no_instance, maybe_instance, joined_keywords, joined_rest, joined, net_property, net_note, net_item, net_keywords, net_rest}
 use Rattle.edif_productions.specs.Production.{Production, optional, many, form, meaning, ◌·◌, ◌∣◌, Tokens, Texts, ident, int, capitals, HasTextsOf, form_of}

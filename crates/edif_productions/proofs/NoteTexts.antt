@@ -6,19 +6,19 @@ use Rattle.grammar.specs.Whole.{proper, end}
 use Rattle.nl_base.specs.declared.fault.Reason.{Reason}
 use Rattle.readers.specs.Parts.{while_next}
 use Rattle.edif_tokens.specs.declared.token.Found.{Found}
-use Rattle.edif_tokens.specs.declared.token.Token.{Token}
-use Rattle.edif_tokens.specs.declared.token.Token.TheVariants.{LeftParen, RightParen, Word, Number, Str}
-use Rattle.edif_keywords.specs.declared.keyword.Keyword.{Keyword}
-use Rattle.edif_keywords.specs.declared.keyword.Keyword.TheVariants as k
+use Rattle.edif_values.specs.declared.token.Token.{Token}
+use Rattle.edif_values.specs.declared.token.Token.TheVariants.{LeftParen, RightParen, Word, Number, Str}
+use Rattle.edif_values.specs.declared.keyword.Keyword.{Keyword}
+use Rattle.edif_values.specs.declared.keyword.Keyword.TheVariants as k
 use Rattle.edif_keywords.specs.Aliases.{Alias}
 use Rattle.edif_keywords.specs.Language.{Edif}
 use Rattle.edif_keywords.specs.Grammar.{item}
-use Rattle.edif_status.specs.declared.user.UserTree.{UserTree}
-use Rattle.edif_status.specs.declared.user.UserTree.TheVariants as tree_values
-use Rattle.edif_status.specs.declared.note.Note.{Note}
-use Rattle.edif_status.specs.declared.note.Note.TheVariants as notes
-use Rattle.edif_status.specs.declared.written.WrittenItem.TheVariants as written_items
-use Rattle.edif_status.specs.declared.status.StatusItem.TheVariants as status_items
+use Rattle.edif_values.specs.declared.user.UserTree.{UserTree}
+use Rattle.edif_values.specs.declared.user.UserTree.TheVariants as tree_values
+use Rattle.edif_values.specs.declared.note.Note.{Note}
+use Rattle.edif_values.specs.declared.note.Note.TheVariants as notes
+use Rattle.edif_values.specs.declared.written.WrittenItem.TheVariants as written_items
+use Rattle.edif_values.specs.declared.status.StatusItem.TheVariants as status_items
 use Rattle.edif_status.specs.Grammar as grammar
 use Rattle.edif_status.specs.Grammar.{TreeStart, Whole, Opens, tree_of, tree_rest, trees_by, trees, remark, user_note, note_keywords, clock, stamp, version_text, no_version, maybe_version, author, program, data_origin, written_note, written_keywords, written_rest, status_written, status_note, status_keywords, status_rest}
 use Rattle.edif_productions.specs.Production.{Production, optional, many, form, list, meaning, ◌·◌, ◌∣◌, Tokens, IsToken, ManyText, no_more, one_more, Texts, ident, int, str, HasTextsOf, form_of}

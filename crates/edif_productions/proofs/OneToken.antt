@@ -5,14 +5,14 @@ use Rattle.grammar.specs.Texts.{Spells}
 use Rattle.grammar.specs.Whole.{proper, end}
 use Rattle.nl_base.specs.declared.fault.Reason.{Reason}
 use Rattle.readers.specs.Parts.{one}
-use Rattle.edif_tokens.specs.declared.token.Token.{Token}
-use Rattle.edif_tokens.specs.declared.token.Token.TheVariants.{LeftParen, RightParen, Word, Number, Str}
-use Rattle.edif_keywords.specs.declared.keyword.Keyword.{Keyword}
-use Rattle.edif_keywords.specs.Keywords.{has, same_keyword}
+use Rattle.edif_values.specs.declared.token.Token.{Token}
+use Rattle.edif_values.specs.declared.token.Token.TheVariants.{LeftParen, RightParen, Word, Number, Str}
+use Rattle.edif_values.specs.declared.keyword.Keyword.{Keyword}
+use Rattle.edif_values.specs.Keywords.{has, same_keyword}
 use Rattle.edif_keywords.specs.Aliases.{Alias, means}
 use Rattle.edif_keywords.specs.Reasons as say
 use Rattle.edif_keywords.specs.Grammar.{word, string, integer, opening, closing, keyword}
-use Rattle.edif_keywords.proofs.Same.{spelled_alike, same_as_itself}
+use Rattle.edif_values.proofs.Same.{spelled_alike, same_as_itself}
 use Rattle.edif_productions.specs.Production.{single, Tokens, IsToken, IsKeyword, Texts, ident, int, str, HasTextsOf}
 
 -- a text and nothing behind it

@@ -4,10 +4,10 @@ use Rattle.grammar.specs.Whole.{end, Done}
 use Rattle.nl_base.specs.declared.place.Place.{Place}
 use Rattle.readers.specs.Sources.{Ahead}
 use Rattle.edif_tokens.specs.declared.token.Found.{Found}
-use Rattle.edif_keywords.specs.declared.keyword.Keyword.TheVariants as k
-use Rattle.edif_library.specs.declared.file.FileItem.{FileItem}
-use Rattle.edif_library.specs.declared.file.FileItem.TheVariants as file_items
-use Rattle.edif_library.specs.declared.file.EdifFile.{EdifFile}
+use Rattle.edif_values.specs.declared.keyword.Keyword.TheVariants as k
+use Rattle.edif_values.specs.declared.file.FileItem.{FileItem}
+use Rattle.edif_values.specs.declared.file.FileItem.TheVariants as file_items
+use Rattle.edif_values.specs.declared.file.EdifFile.{EdifFile}
 use Rattle.edif_productions.specs.Production.{Production, many, form, meaning, aliased, ◌·◌, ◌∣◌, Tokens, Texts}
 use Rattle.edif_productions.specs.Header.{header}
 use Rattle.edif_productions.specs.Names.{name}

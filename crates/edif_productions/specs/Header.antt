@@ -1,7 +1,7 @@
 -- Comments and the header of a file in the words of the extended BNF (EDIF 2 0 0, forms comment,
 -- edifVersion, edifLevel, keywordMap, keywordLevel, keywordAlias).
 use Rattle.std.specs.Prelude.{◌≡◌, ℕ, List, [], ◌++◌}
-use Rattle.edif_keywords.specs.declared.keyword.Keyword.TheVariants as k
+use Rattle.edif_values.specs.declared.keyword.Keyword.TheVariants as k
 use Rattle.edif_keywords.specs.Aliases.{Alias, one_more}
 use Rattle.edif_productions.specs.Production.{Production, many, form, meaning, growing, ◌·◌, ◌∣◌, Tokens, Texts, str, number, new_ident, known_ident}
 

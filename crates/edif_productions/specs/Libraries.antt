@@ -2,26 +2,26 @@
 -- interface, contents, view, viewType, cell, cellType, scale, unit, library, external, technology,
 -- numberDefinition, design).
 use Rattle.std.specs.Prelude.{Bool, true, false, List, codes}
-use Rattle.edif_keywords.specs.declared.keyword.Keyword.TheVariants as k
-use Rattle.edif_status.specs.declared.note.Note.{Note}
-use Rattle.edif_library.specs.declared.view.InterfaceItem.{InterfaceItem}
-use Rattle.edif_library.specs.declared.view.InterfaceItem.TheVariants as interface_items
-use Rattle.edif_library.specs.declared.view.ContentsItem.{ContentsItem}
-use Rattle.edif_library.specs.declared.view.ContentsItem.TheVariants as contents_items
-use Rattle.edif_library.specs.declared.view.ViewItem.{ViewItem}
-use Rattle.edif_library.specs.declared.view.ViewItem.TheVariants as view_items
-use Rattle.edif_library.specs.declared.view.View.{View}
-use Rattle.edif_library.specs.declared.cell.CellKind.{CellKind}
-use Rattle.edif_library.specs.declared.cell.CellKind.TheVariants as kinds
-use Rattle.edif_library.specs.declared.cell.CellItem.{CellItem}
-use Rattle.edif_library.specs.declared.cell.CellItem.TheVariants as cell_items
-use Rattle.edif_library.specs.declared.cell.Cell.{Cell}
-use Rattle.edif_library.specs.declared.library.Scale.{Scale}
-use Rattle.edif_library.specs.declared.library.LibraryItem.TheVariants as library_items
-use Rattle.edif_library.specs.declared.library.Library.{Library}
-use Rattle.edif_library.specs.declared.file.DesignItem.TheVariants as design_items
-use Rattle.edif_library.specs.declared.file.Design.{Design}
-use Rattle.edif_library.specs.Grammar.{is_contents, is_view}
+use Rattle.edif_values.specs.declared.keyword.Keyword.TheVariants as k
+use Rattle.edif_values.specs.declared.note.Note.{Note}
+use Rattle.edif_values.specs.declared.view.InterfaceItem.{InterfaceItem}
+use Rattle.edif_values.specs.declared.view.InterfaceItem.TheVariants as interface_items
+use Rattle.edif_values.specs.declared.view.ContentsItem.{ContentsItem}
+use Rattle.edif_values.specs.declared.view.ContentsItem.TheVariants as contents_items
+use Rattle.edif_values.specs.declared.view.ViewItem.{ViewItem}
+use Rattle.edif_values.specs.declared.view.ViewItem.TheVariants as view_items
+use Rattle.edif_values.specs.declared.view.View.{View}
+use Rattle.edif_values.specs.declared.cell.CellKind.{CellKind}
+use Rattle.edif_values.specs.declared.cell.CellKind.TheVariants as kinds
+use Rattle.edif_values.specs.declared.cell.CellItem.{CellItem}
+use Rattle.edif_values.specs.declared.cell.CellItem.TheVariants as cell_items
+use Rattle.edif_values.specs.declared.cell.Cell.{Cell}
+use Rattle.edif_values.specs.declared.library.Scale.{Scale}
+use Rattle.edif_values.specs.declared.library.LibraryItem.TheVariants as library_items
+use Rattle.edif_values.specs.declared.library.Library.{Library}
+use Rattle.edif_values.specs.declared.file.DesignItem.TheVariants as design_items
+use Rattle.edif_values.specs.declared.file.Design.{Design}
+use Rattle.edif_values.specs.Values.{is_contents, is_view}
 use Rattle.edif_productions.specs.Production.{Production, many, form, meaning, such, ◌·◌, ◌∣◌, ident, capitals, AtMostOne}
 use Rattle.edif_productions.specs.Header.{level}
 use Rattle.edif_productions.specs.Names.{name, scaled, property}

@@ -4,12 +4,12 @@ use Rattle.std.specs.Prelude.{true, false, Some, None, pos}
 use Rattle.nl_base.specs.declared.number.Scaled.{Scaled}
 use Rattle.nl_base.specs.declared.value.PropValue.{PropValue}
 use Rattle.nl_base.specs.declared.value.PropValue.TheVariants as values
-use Rattle.edif_keywords.specs.declared.keyword.Keyword.TheVariants as k
-use Rattle.edif_names.specs.declared.name.NameDef.{NameDef}
-use Rattle.edif_names.specs.declared.name.PortName.{PortName}
-use Rattle.edif_names.specs.declared.name.PortName.TheVariants as port_names
-use Rattle.edif_names.specs.declared.property.PropTail.TheVariants as tail
-use Rattle.edif_names.specs.declared.property.Property.{Property}
+use Rattle.edif_values.specs.declared.keyword.Keyword.TheVariants as k
+use Rattle.edif_values.specs.declared.name.NameDef.{NameDef}
+use Rattle.edif_values.specs.declared.name.PortName.{PortName}
+use Rattle.edif_values.specs.declared.name.PortName.TheVariants as port_names
+use Rattle.edif_values.specs.declared.property.PropTail.TheVariants as tail
+use Rattle.edif_values.specs.declared.property.Property.{Property}
 use Rattle.edif_productions.specs.Production.{Production, nothing, many, form, meaning, ◌·◌, ◌∣◌, ident, int, str}
 use Rattle.edif_productions.specs.Header.{comment}
 

@@ -1,18 +1,18 @@
 -- User data, notes and status in the words of the extended BNF (EDIF 2 0 0, forms userData,
 -- comment, status, written, timeStamp, author, program, version, dataOrigin).
 use Rattle.std.specs.Prelude.{ℕ, zero, suc, ℤ}
-use Rattle.edif_keywords.specs.declared.keyword.Keyword.TheVariants as k
-use Rattle.edif_status.specs.declared.user.UserTree.{UserTree}
-use Rattle.edif_status.specs.declared.user.UserTree.TheVariants as trees
-use Rattle.edif_status.specs.declared.user.UserData.{UserData}
-use Rattle.edif_status.specs.declared.note.Note.{Note}
-use Rattle.edif_status.specs.declared.note.Note.TheVariants as notes
-use Rattle.edif_status.specs.declared.written.Stamp.{Stamp}
-use Rattle.edif_status.specs.declared.written.WrittenItem.{WrittenItem}
-use Rattle.edif_status.specs.declared.written.WrittenItem.TheVariants as written_items
-use Rattle.edif_status.specs.declared.written.Written.{Written}
-use Rattle.edif_status.specs.declared.status.StatusItem.TheVariants as status_items
-use Rattle.edif_status.specs.declared.status.Status.{Status}
+use Rattle.edif_values.specs.declared.keyword.Keyword.TheVariants as k
+use Rattle.edif_values.specs.declared.user.UserTree.{UserTree}
+use Rattle.edif_values.specs.declared.user.UserTree.TheVariants as trees
+use Rattle.edif_values.specs.declared.user.UserData.{UserData}
+use Rattle.edif_values.specs.declared.note.Note.{Note}
+use Rattle.edif_values.specs.declared.note.Note.TheVariants as notes
+use Rattle.edif_values.specs.declared.written.Stamp.{Stamp}
+use Rattle.edif_values.specs.declared.written.WrittenItem.{WrittenItem}
+use Rattle.edif_values.specs.declared.written.WrittenItem.TheVariants as written_items
+use Rattle.edif_values.specs.declared.written.Written.{Written}
+use Rattle.edif_values.specs.declared.status.StatusItem.TheVariants as status_items
+use Rattle.edif_values.specs.declared.status.Status.{Status}
 use Rattle.edif_productions.specs.Production.{Production, optional, many, form, list, meaning, ◌·◌, ◌∣◌, ident, int, str}
 use Rattle.edif_productions.specs.Header.{comment}
 

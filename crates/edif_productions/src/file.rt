@@ -7,7 +7,7 @@ ghost use Rattle.edif_tokens.specs.declared.token.Found.{Found};
 ghost use Rattle.edif_keywords.specs.Aliases.{Alias};
 ghost use Rattle.edif_keywords.specs.Reasons.{trailing};
 ghost use Rattle.edif_keywords.specs.Grammar as keywords;
-ghost use Rattle.edif_library.specs.declared.file.EdifFile.{EdifFile};
+ghost use Rattle.edif_values.specs.declared.file.EdifFile.{EdifFile};
 ghost use Rattle.edif_library.specs.Grammar as grammar;
 ghost use Rattle.edif_productions.specs.Production.{Tokens, Texts, HasTextsOf};
 ghost use Rattle.edif_productions.specs.Header.{HeaderText};

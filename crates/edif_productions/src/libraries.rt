@@ -1,5 +1,5 @@
 // Views, cells, libraries and designs.
-ghost use Rattle.edif_keywords.specs.declared.keyword.Keyword.TheVariants as k;
+ghost use Rattle.edif_values.specs.declared.keyword.Keyword.TheVariants as k;
 ghost use Rattle.std.specs.Prelude.{true, false, []};
 ghost use Rattle.edif_library.specs.Grammar as grammar;
 ghost use Rattle.edif_productions.specs.Production.{HasTextsOf, form_of, form};

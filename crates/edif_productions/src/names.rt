@@ -1,5 +1,5 @@
 // Comments, names and properties.
-ghost use Rattle.edif_keywords.specs.declared.keyword.Keyword.TheVariants as k;
+ghost use Rattle.edif_values.specs.declared.keyword.Keyword.TheVariants as k;
 ghost use Rattle.edif_keywords.specs.Grammar as keywords;
 ghost use Rattle.edif_names.specs.Grammar as grammar;
 ghost use Rattle.edif_productions.specs.Production.{HasTextsOf, form_of};

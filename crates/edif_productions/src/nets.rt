@@ -1,5 +1,5 @@
 // Ports, instances and nets.
-ghost use Rattle.edif_keywords.specs.declared.keyword.Keyword.TheVariants as k;
+ghost use Rattle.edif_values.specs.declared.keyword.Keyword.TheVariants as k;
 ghost use Rattle.edif_nets.specs.Grammar as grammar;
 ghost use Rattle.edif_productions.specs.Production.{HasTextsOf, form_of};
 ghost use Rattle.edif_productions.specs.Nets.{designator, port, instance, net};

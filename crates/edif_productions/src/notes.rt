@@ -1,5 +1,5 @@
 // User data, notes and status.
-ghost use Rattle.edif_keywords.specs.declared.keyword.Keyword.TheVariants as k;
+ghost use Rattle.edif_values.specs.declared.keyword.Keyword.TheVariants as k;
 ghost use Rattle.edif_keywords.specs.Grammar.{item};
 ghost use Rattle.edif_status.specs.Grammar as grammar;
 ghost use Rattle.edif_productions.specs.Production.{HasTextsOf, form_of};

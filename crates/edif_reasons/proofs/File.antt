@@ -5,16 +5,16 @@ use Rattle.grammar.specs.Whole.{Terminal, proper, end, end_of, the_end, whole}
 use Rattle.nl_base.specs.declared.place.Place.{Place}
 use Rattle.nl_base.specs.declared.fault.Reason.TheVariants as reasons
 use Rattle.edif_tokens.specs.declared.token.Found.{Found}
-use Rattle.edif_tokens.specs.declared.token.Token.{Token}
-use Rattle.edif_tokens.specs.declared.token.Token.TheVariants.{LeftParen, RightParen, Word, Number, Str}
-use Rattle.edif_keywords.specs.declared.keyword.Keyword.TheVariants as k
+use Rattle.edif_values.specs.declared.token.Token.{Token}
+use Rattle.edif_values.specs.declared.token.Token.TheVariants.{LeftParen, RightParen, Word, Number, Str}
+use Rattle.edif_values.specs.declared.keyword.Keyword.TheVariants as k
 use Rattle.edif_keywords.specs.Aliases.{Alias}
 use Rattle.edif_keywords.specs.Language.{Edif}
 use Rattle.edif_keywords.specs.Reasons as say
 use Rattle.edif_keywords.specs.Grammar.{header}
-use Rattle.edif_names.specs.declared.name.NameDef.{NameDef}
+use Rattle.edif_values.specs.declared.name.NameDef.{NameDef}
 use Rattle.edif_names.specs.Grammar.{name}
-use Rattle.edif_library.specs.declared.file.EdifFile.{EdifFile}
+use Rattle.edif_values.specs.declared.file.EdifFile.{EdifFile}
 use Rattle.edif_library.specs.Grammar.{file, file_body}
 use Rattle.edif_reasons.specs.Context.{Group, Said, Context, placed, untouched, with_element, open_lists, at_keyword, at_start}
 use Rattle.edif_reasons.specs.Rows.{is_at, is_over, reason_of, reason_at}

@@ -6,15 +6,15 @@ use Rattle.nl_base.specs.declared.place.Place.{Place}
 use Rattle.nl_base.specs.declared.fault.Reason.{Reason}
 use Rattle.readers.specs.Parts.{at_token, if_next, while_next}
 use Rattle.edif_tokens.specs.declared.token.Found.{Found}
-use Rattle.edif_tokens.specs.declared.token.Token.{Token}
-use Rattle.edif_tokens.specs.declared.token.Token.TheVariants.{LeftParen, RightParen, Word, Number, Str}
-use Rattle.edif_keywords.specs.declared.keyword.Keyword.{Keyword}
-use Rattle.edif_keywords.specs.Keywords.{has, same_keyword}
+use Rattle.edif_values.specs.declared.token.Token.{Token}
+use Rattle.edif_values.specs.declared.token.Token.TheVariants.{LeftParen, RightParen, Word, Number, Str}
+use Rattle.edif_values.specs.declared.keyword.Keyword.{Keyword}
+use Rattle.edif_values.specs.Keywords.{has, same_keyword}
 use Rattle.edif_keywords.specs.Aliases.{means}
 use Rattle.edif_keywords.specs.Language.{Edif}
 use Rattle.edif_keywords.specs.Reasons as say
 use Rattle.edif_keywords.specs.Grammar.{opening, closing, keyword, begin, items, forms, form_or, strings, comment}
-use Rattle.edif_keywords.proofs.Same.{spelled_alike}
+use Rattle.edif_values.proofs.Same.{spelled_alike}
 use Rattle.edif_reasons.specs.Context.{Tokens, Element, Single, Form, Said, Context, placed, untouched, open_lists, at_keyword, after}
 use Rattle.edif_reasons.specs.Rows.{in_plain_map}
 use Rattle.edif_reasons.proofs.Tracking.{Judged, Seen, SeenAt, seen_each, Tracks, tracks_gives, tracks_one, tracks_then, tracks_ahead, tracks_rounds}

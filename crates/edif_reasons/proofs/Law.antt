@@ -22,7 +22,7 @@ use Rattle.edif_tokens.specs.Stream.{all_tokens}
 use Rattle.edif_keywords.specs.Aliases.{Alias}
 use Rattle.edif_keywords.specs.Language.{edif, ahead_of}
 use Rattle.edif_keywords.specs.Reasons as say
-use Rattle.edif_library.specs.declared.file.EdifFile.{EdifFile}
+use Rattle.edif_values.specs.declared.file.EdifFile.{EdifFile}
 use Rattle.edif_library.specs.Grammar.{file}
 use Rattle.edif_library.specs.Text.{EdifFault}
 use Rattle.edif_library.proofs.Live.{live_file, closed_file}

@@ -1,26 +1,26 @@
 -- What views, cells, libraries, designs and the items of a file read.
 use Rattle.std.proofs.Common.{refl, ℕ, Bool, true, false, List, [], ◌∷◌}
 use Rattle.grammar.specs.Part.{gives, sequence}
-use Rattle.edif_keywords.specs.declared.keyword.Keyword.TheVariants as k
+use Rattle.edif_values.specs.declared.keyword.Keyword.TheVariants as k
 use Rattle.edif_keywords.specs.Grammar.{word, closing, choice, view_type}
-use Rattle.edif_names.specs.declared.name.NameDef.{NameDef}
-use Rattle.edif_status.specs.declared.note.Note.{Note}
+use Rattle.edif_values.specs.declared.name.NameDef.{NameDef}
+use Rattle.edif_values.specs.declared.note.Note.{Note}
 use Rattle.edif_status.specs.Grammar.{note, note_keywords}
-use Rattle.edif_library.specs.declared.view.InterfaceItem.{InterfaceItem}
-use Rattle.edif_library.specs.declared.view.InterfaceItem.TheVariants as interface_items
-use Rattle.edif_library.specs.declared.view.ContentsItem.{ContentsItem}
-use Rattle.edif_library.specs.declared.view.ContentsItem.TheVariants as contents_items
-use Rattle.edif_library.specs.declared.view.ViewItem.{ViewItem}
-use Rattle.edif_library.specs.declared.view.ViewItem.TheVariants as view_items
-use Rattle.edif_library.specs.declared.cell.CellItem.{CellItem}
-use Rattle.edif_library.specs.declared.cell.CellItem.TheVariants as cell_items
-use Rattle.edif_library.specs.declared.library.Scale.{Scale}
-use Rattle.edif_library.specs.declared.library.LibraryItem.{LibraryItem}
-use Rattle.edif_library.specs.declared.library.LibraryItem.TheVariants as library_items
-use Rattle.edif_library.specs.declared.file.DesignItem.{DesignItem}
-use Rattle.edif_library.specs.declared.file.DesignItem.TheVariants as design_items
-use Rattle.edif_library.specs.declared.file.FileItem.{FileItem}
-use Rattle.edif_library.specs.declared.file.FileItem.TheVariants as file_items
+use Rattle.edif_values.specs.declared.view.InterfaceItem.{InterfaceItem}
+use Rattle.edif_values.specs.declared.view.InterfaceItem.TheVariants as interface_items
+use Rattle.edif_values.specs.declared.view.ContentsItem.{ContentsItem}
+use Rattle.edif_values.specs.declared.view.ContentsItem.TheVariants as contents_items
+use Rattle.edif_values.specs.declared.view.ViewItem.{ViewItem}
+use Rattle.edif_values.specs.declared.view.ViewItem.TheVariants as view_items
+use Rattle.edif_values.specs.declared.cell.CellItem.{CellItem}
+use Rattle.edif_values.specs.declared.cell.CellItem.TheVariants as cell_items
+use Rattle.edif_values.specs.declared.library.Scale.{Scale}
+use Rattle.edif_values.specs.declared.library.LibraryItem.{LibraryItem}
+use Rattle.edif_values.specs.declared.library.LibraryItem.TheVariants as library_items
+use Rattle.edif_values.specs.declared.file.DesignItem.{DesignItem}
+use Rattle.edif_values.specs.declared.file.DesignItem.TheVariants as design_items
+use Rattle.edif_values.specs.declared.file.FileItem.{FileItem}
+use Rattle.edif_values.specs.declared.file.FileItem.TheVariants as file_items
 use Rattle.edif_library.specs.Grammar.{interface_port, interface_property, interface_designator, interface_note, interface_item, interface_keywords, interface_rest, interface, contents_instance, contents_net, contents_note, contents_item, contents_keywords, contents_rest, view_contents, view_property, view_status, view_note, view_item, has_contents, view_keywords, view_rest, netlist, view, kind_words, cell_type, cell_view, cell_property, cell_status, cell_note, cell_item, has_view, cell_keywords, cell_rest, cell, unit, scale, scales_rest, notes_rest, number_definition, technology, library_cell, library_status, library_note, library_item, library_keywords, library_rest, library, library_ref, cell_ref, design_property, design_status, design_note, design_item, design_keywords, design_rest, design, file_library, file_design, file_status, file_note, file_item, file_keywords, file_rest, file_body}
 use Rattle.edif_reasons.proofs.Forms.{Stays, Ends, Reads, ends_then, ends_as, reads_as, reads_plainly, stays_word, stays_choice, ends_with}
 use Rattle.edif_reasons.proofs.Items.{Each, stays_item, ends_items}

@@ -4,16 +4,16 @@ use Rattle.grammar.specs.Part.{gives, sequence}
 use Rattle.nl_base.specs.declared.fault.Reason.TheVariants as reasons
 use Rattle.readers.specs.Parts.{at_token, while_next}
 use Rattle.edif_tokens.specs.declared.token.Found.{Found}
-use Rattle.edif_tokens.specs.declared.token.Token.{Token}
-use Rattle.edif_tokens.specs.declared.token.Token.TheVariants.{LeftParen, RightParen, Word, Number, Str}
-use Rattle.edif_keywords.specs.declared.keyword.Keyword.{Keyword}
-use Rattle.edif_keywords.specs.declared.keyword.Keyword.TheVariants as k
-use Rattle.edif_keywords.specs.Keywords.{has, same_keyword}
+use Rattle.edif_values.specs.declared.token.Token.{Token}
+use Rattle.edif_values.specs.declared.token.Token.TheVariants.{LeftParen, RightParen, Word, Number, Str}
+use Rattle.edif_values.specs.declared.keyword.Keyword.{Keyword}
+use Rattle.edif_values.specs.declared.keyword.Keyword.TheVariants as k
+use Rattle.edif_values.specs.Keywords.{has, same_keyword}
 use Rattle.edif_keywords.specs.Aliases.{Alias, means, one_more}
 use Rattle.edif_keywords.specs.Language.{Edif}
 use Rattle.edif_keywords.specs.Reasons as say
 use Rattle.edif_keywords.specs.Grammar.{closing, forms, comment, keyword_level_number, keyword_level, new_word, known_word, alias, map_keywords, map_keyword, map_form, map_item, map_items, keyword_map, version, level, header}
-use Rattle.edif_keywords.proofs.Same.{spelled_alike}
+use Rattle.edif_values.proofs.Same.{spelled_alike}
 use Rattle.edif_reasons.specs.Context.{Element, Single, Group, Form, Said, Context, placed, with_element, untouched, open_lists, at_keyword}
 use Rattle.edif_reasons.specs.Rows.{is_level_0, in_plain_map, is_at, is_over, reason_of}
 use Rattle.edif_reasons.proofs.Tracking.{Judged, Tracks, tracks_gives, tracks_one, tracks_then, tracks_under, tracks_rounds, tracks_less}

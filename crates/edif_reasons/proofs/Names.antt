@@ -1,11 +1,11 @@
 -- What names, values and properties read.
 use Rattle.std.proofs.Common.{refl, List, [], ◌∷◌, Some, None}
 use Rattle.nl_base.specs.declared.value.PropValue.TheVariants as values
-use Rattle.edif_keywords.specs.declared.keyword.Keyword.TheVariants as k
-use Rattle.edif_keywords.specs.Keywords.{same_keyword}
-use Rattle.edif_names.specs.declared.name.PortName.TheVariants.{Single, Array}
-use Rattle.edif_names.specs.declared.property.PropTail.{PropTail}
-use Rattle.edif_names.specs.declared.property.PropTail.TheVariants as tail
+use Rattle.edif_values.specs.declared.keyword.Keyword.TheVariants as k
+use Rattle.edif_values.specs.Keywords.{same_keyword}
+use Rattle.edif_values.specs.declared.name.PortName.TheVariants.{Single, Array}
+use Rattle.edif_values.specs.declared.property.PropTail.{PropTail}
+use Rattle.edif_values.specs.declared.property.PropTail.TheVariants as tail
 use Rattle.edif_names.specs.Grammar.{renamed, plain, name, array, renamed_port, plain_port, port_form, port_name, exponential, whole, scaled, string_value, integer_value, number_value, boolean_value, value_form, value, owner, remark, tail_form, tails, property}
 use Rattle.edif_reasons.proofs.Forms.{Stays, Ends, Reads, stays_gives, stays_then, ends_then, read_then, ends_as, reads_plainly, stays_word, stays_string, stays_integer, ends_closing, ends_with}
 use Rattle.edif_reasons.proofs.Items.{Each, stays_item, ends_item, stays_or, ends_items, ends_comment}

@@ -2,14 +2,14 @@
 use Rattle.std.proofs.Common.{refl, ℕ, Bool, true, false, List, [], ◌∷◌, Option, Some, None}
 use Rattle.grammar.specs.Part.{gives, sequence}
 use Rattle.edif_keywords.specs.Grammar.{word, closing}
-use Rattle.edif_keywords.specs.declared.keyword.Keyword.TheVariants as k
-use Rattle.edif_nets.specs.declared.port.PortItem.{PortItem}
-use Rattle.edif_nets.specs.declared.port.PortItem.TheVariants as port_items
-use Rattle.edif_nets.specs.declared.instance.InstanceItem.{InstanceItem}
-use Rattle.edif_nets.specs.declared.instance.InstanceItem.TheVariants as instance_items
-use Rattle.edif_nets.specs.declared.net.PortRef.{PortRef}
-use Rattle.edif_nets.specs.declared.net.NetItem.{NetItem}
-use Rattle.edif_nets.specs.declared.net.NetItem.TheVariants as net_items
+use Rattle.edif_values.specs.declared.keyword.Keyword.TheVariants as k
+use Rattle.edif_values.specs.declared.port.PortItem.{PortItem}
+use Rattle.edif_values.specs.declared.port.PortItem.TheVariants as port_items
+use Rattle.edif_values.specs.declared.instance.InstanceItem.{InstanceItem}
+use Rattle.edif_values.specs.declared.instance.InstanceItem.TheVariants as instance_items
+use Rattle.edif_values.specs.declared.net.PortRef.{PortRef}
+use Rattle.edif_values.specs.declared.net.NetItem.{NetItem}
+use Rattle.edif_values.specs.declared.net.NetItem.TheVariants as net_items
 use Rattle.edif_nets.specs.Grammar.{designator, direction_words, direction, port_property, port_designator, port_note, port_item, has_direction, port_keywords, port_rest, port, library_named, no_library, maybe_library, instance_property, instance_designator, instance_note, instance_item, instance_keywords, instance_rest, cell_ref, view_ref, instance, member, whole_port, port_or_member, instance_named, no_instance, maybe_instance, port_ref, joined_keywords, joined_rest, joined, net_property, net_note, net_item, net_keywords, net_rest, net}
 use Rattle.edif_reasons.proofs.Forms.{Stays, Ends, Reads, ReadsLast, stays_gives, stays_then, ends_then, ends_as, reads_as, reads_plainly, stays_word, stays_string, stays_integer, stays_choice, ends_with, reads_last}
 use Rattle.edif_reasons.proofs.Items.{Each, stays_item, stays_or, ends_or, ends_items}

@@ -1,11 +1,11 @@
 -- Which rows fit in a form that has no row of its own, and directly after a `(`.
 use Rattle.std.proofs.Common.{◌≡◌, refl, ℕ, Bool, true, false, not, ◌&&◌, List, [], ◌∷◌, Some, None}
 use Rattle.nl_base.specs.declared.fault.Reason.TheVariants as reasons
-use Rattle.edif_tokens.specs.declared.token.Token.{Token}
-use Rattle.edif_tokens.specs.declared.token.Token.TheVariants.{LeftParen, RightParen, Word, Number, Str}
-use Rattle.edif_keywords.specs.declared.keyword.Keyword.{Keyword}
-use Rattle.edif_keywords.specs.declared.keyword.Keyword.TheVariants as k
-use Rattle.edif_keywords.specs.Keywords.{same_keyword}
+use Rattle.edif_values.specs.declared.token.Token.{Token}
+use Rattle.edif_values.specs.declared.token.Token.TheVariants.{LeftParen, RightParen, Word, Number, Str}
+use Rattle.edif_values.specs.declared.keyword.Keyword.{Keyword}
+use Rattle.edif_values.specs.declared.keyword.Keyword.TheVariants as k
+use Rattle.edif_values.specs.Keywords.{same_keyword}
 use Rattle.edif_keywords.specs.Aliases.{means}
 use Rattle.edif_reasons.specs.Context.{Element, Form, Said, Context, is_keyword, open_lists, at_keyword, said_by}
 use Rattle.edif_reasons.specs.Rows.{is_at, is_level_0, in_plain_map, is_over, reason_of}

@@ -1,10 +1,10 @@
 -- What statuses read.
 use Rattle.std.proofs.Common.{refl, List, [], ◌∷◌, Some, None, ℤ}
-use Rattle.edif_keywords.specs.declared.keyword.Keyword.TheVariants as k
-use Rattle.edif_status.specs.declared.written.WrittenItem.{WrittenItem}
-use Rattle.edif_status.specs.declared.written.WrittenItem.TheVariants as written_items
-use Rattle.edif_status.specs.declared.status.StatusItem.{StatusItem}
-use Rattle.edif_status.specs.declared.status.StatusItem.TheVariants as status_items
+use Rattle.edif_values.specs.declared.keyword.Keyword.TheVariants as k
+use Rattle.edif_values.specs.declared.written.WrittenItem.{WrittenItem}
+use Rattle.edif_values.specs.declared.written.WrittenItem.TheVariants as written_items
+use Rattle.edif_values.specs.declared.status.StatusItem.{StatusItem}
+use Rattle.edif_values.specs.declared.status.StatusItem.TheVariants as status_items
 use Rattle.edif_status.specs.Grammar.{clock, stamp, version_text, no_version, maybe_version, author, program, data_origin, written_note, written_item, written_keywords, written_rest, written, status_written, status_note, status_item, status_keywords, status_rest, status}
 use Rattle.edif_reasons.proofs.Forms.{Ends, Reads, ReadsLast, ends_then, read_then, ends_as, reads_plainly, stays_string, stays_integer, ends_with, reads_last}
 use Rattle.edif_reasons.proofs.Items.{Each, ends_item, ends_or, ends_items}

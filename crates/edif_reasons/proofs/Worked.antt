@@ -5,9 +5,9 @@ use Rattle.nl_base.specs.Place.{place_at_start}
 use Rattle.nl_base.specs.declared.place.Place.{Place}
 use Rattle.nl_base.specs.declared.fault.Reason.TheVariants as reasons
 use Rattle.edif_tokens.specs.declared.token.Found.{Found}
-use Rattle.edif_tokens.specs.declared.token.Token.{Token}
-use Rattle.edif_tokens.specs.declared.token.Token.TheVariants.{LeftParen, RightParen, Word, Number}
-use Rattle.edif_keywords.specs.Keywords.{keyword_of}
+use Rattle.edif_values.specs.declared.token.Token.{Token}
+use Rattle.edif_values.specs.declared.token.Token.TheVariants.{LeftParen, RightParen, Word, Number}
+use Rattle.edif_values.specs.Keywords.{keyword_of}
 use Rattle.edif_keywords.specs.Aliases.{alias_of, means}
 use Rattle.edif_reasons.specs.Context.{Tokens, open_lists, at_keyword}
 use Rattle.edif_reasons.specs.Rows.{is_at, in_plain_map, is_over, reason_at, reason_row}

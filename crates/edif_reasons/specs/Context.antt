@@ -4,11 +4,11 @@ use Rattle.std.specs.Prelude.{ℕ, ℤ, ◌+◌, Bool, true, false, ◌&&◌, �
 use Rattle.grammar.specs.Whole.{Terminal, proper, end}
 use Rattle.nl_base.specs.declared.place.Place.{Place}
 use Rattle.edif_tokens.specs.declared.token.Found.{Found}
-use Rattle.edif_tokens.specs.declared.token.Token.{Token}
-use Rattle.edif_tokens.specs.declared.token.Token.TheVariants.{LeftParen, RightParen, Word, Number, Str}
-use Rattle.edif_keywords.specs.declared.keyword.Keyword.{Keyword}
-use Rattle.edif_keywords.specs.declared.keyword.Keyword.TheVariants as k
-use Rattle.edif_keywords.specs.Keywords.{same_keyword}
+use Rattle.edif_values.specs.declared.token.Token.{Token}
+use Rattle.edif_values.specs.declared.token.Token.TheVariants.{LeftParen, RightParen, Word, Number, Str}
+use Rattle.edif_values.specs.declared.keyword.Keyword.{Keyword}
+use Rattle.edif_values.specs.declared.keyword.Keyword.TheVariants as k
+use Rattle.edif_values.specs.Keywords.{same_keyword}
 use Rattle.edif_keywords.specs.Aliases.{Alias, means, one_more}
 
 -- tokens of a text, of which the end of the input may be the last

@@ -5,46 +5,43 @@ use Rattle.grammar.specs.Part.{gives, under}
 use Rattle.grammar.specs.Whole.{whole, the_end}
 use Rattle.nl_base.specs.Place.{place_at_start}
 use Rattle.nl_bytes.proofs.Uses.{AllByRecursion-push}
-use Rattle.edif_tokens.specs.Proper.{AreBytes}
+use Rattle.edif_values.specs.Proper.{AreBytes}
 use Rattle.edif_tokens.specs.Stream.{stream_from}
 use Rattle.edif_tokens.proofs.Proper.{tokens_proper}
-use Rattle.edif_keywords.specs.declared.keyword.Keyword.{Keyword}
-use Rattle.edif_keywords.specs.declared.keyword.Keyword.TheVariants as k
-use Rattle.edif_keywords.specs.Keywords.{has, same_keyword}
+use Rattle.edif_values.specs.declared.keyword.Keyword.{Keyword}
+use Rattle.edif_values.specs.declared.keyword.Keyword.TheVariants as k
+use Rattle.edif_values.specs.Keywords.{has, same_keyword}
 use Rattle.edif_keywords.specs.Aliases.{Alias}
 use Rattle.edif_keywords.specs.Language.{Edif}
 use Rattle.edif_keywords.specs.Reasons.{trailing}
-use Rattle.edif_keywords.specs.Values.{IsWord}
+use Rattle.edif_values.specs.Values.{IsWord, IsNameDef, IsNote, is_contents, is_view, IsInterfaceItem, IsContentsItem, IsViewItem, IsView, IsCellItem, IsCell, IsScale, IsLibraryItem, IsLibrary, IsDesignItem, IsDesign, IsFileItem, IsEdifValue}
 use Rattle.edif_keywords.specs.Grammar.{closing, choice, view_type, begin, level, header}
-use Rattle.edif_keywords.proofs.Same.{spelled_alike}
+use Rattle.edif_values.proofs.Same.{spelled_alike}
 use Rattle.edif_keywords.proofs.Kept.{Kept, sound_tokens, kept_gives, kept_then, kept_after, kept_cond, kept_weaker, kept_word, kept_items, kept_all}
 use Rattle.edif_names.proofs.Kept.{kept_name, kept_scaled, kept_property}
-use Rattle.edif_names.specs.declared.name.NameDef.{NameDef}
-use Rattle.edif_names.specs.Values.{IsNameDef}
-use Rattle.edif_status.specs.declared.note.Note.{Note}
+use Rattle.edif_values.specs.declared.name.NameDef.{NameDef}
+use Rattle.edif_values.specs.declared.note.Note.{Note}
 use Rattle.edif_status.specs.Grammar.{note, note_keywords}
-use Rattle.edif_status.specs.Values.{IsNote}
 use Rattle.edif_status.proofs.Kept.{kept_note, kept_status}
 use Rattle.edif_nets.proofs.Kept.{kept_designator, kept_port, kept_instance, kept_net}
-use Rattle.edif_library.specs.declared.view.InterfaceItem.{InterfaceItem}
-use Rattle.edif_library.specs.declared.view.InterfaceItem.TheVariants as interface_items
-use Rattle.edif_library.specs.declared.view.ContentsItem.{ContentsItem}
-use Rattle.edif_library.specs.declared.view.ContentsItem.TheVariants as contents_items
-use Rattle.edif_library.specs.declared.view.ViewItem.{ViewItem}
-use Rattle.edif_library.specs.declared.view.ViewItem.TheVariants as view_items
-use Rattle.edif_library.specs.declared.cell.CellItem.{CellItem}
-use Rattle.edif_library.specs.declared.cell.CellItem.TheVariants as cell_items
-use Rattle.edif_library.specs.declared.library.Scale.{Scale}
-use Rattle.edif_library.specs.declared.library.LibraryItem.{LibraryItem}
-use Rattle.edif_library.specs.declared.library.LibraryItem.TheVariants as library_items
-use Rattle.edif_library.specs.declared.file.DesignItem.{DesignItem}
-use Rattle.edif_library.specs.declared.file.DesignItem.TheVariants as design_items
-use Rattle.edif_library.specs.declared.file.FileItem.{FileItem}
-use Rattle.edif_library.specs.declared.file.FileItem.TheVariants as file_items
-use Rattle.edif_library.specs.declared.file.EdifFile.{EdifFile}
+use Rattle.edif_values.specs.declared.view.InterfaceItem.{InterfaceItem}
+use Rattle.edif_values.specs.declared.view.InterfaceItem.TheVariants as interface_items
+use Rattle.edif_values.specs.declared.view.ContentsItem.{ContentsItem}
+use Rattle.edif_values.specs.declared.view.ContentsItem.TheVariants as contents_items
+use Rattle.edif_values.specs.declared.view.ViewItem.{ViewItem}
+use Rattle.edif_values.specs.declared.view.ViewItem.TheVariants as view_items
+use Rattle.edif_values.specs.declared.cell.CellItem.{CellItem}
+use Rattle.edif_values.specs.declared.cell.CellItem.TheVariants as cell_items
+use Rattle.edif_values.specs.declared.library.Scale.{Scale}
+use Rattle.edif_values.specs.declared.library.LibraryItem.{LibraryItem}
+use Rattle.edif_values.specs.declared.library.LibraryItem.TheVariants as library_items
+use Rattle.edif_values.specs.declared.file.DesignItem.{DesignItem}
+use Rattle.edif_values.specs.declared.file.DesignItem.TheVariants as design_items
+use Rattle.edif_values.specs.declared.file.FileItem.{FileItem}
+use Rattle.edif_values.specs.declared.file.FileItem.TheVariants as file_items
+use Rattle.edif_values.specs.declared.file.EdifFile.{EdifFile}
 use Rattle.edif_library.specs.Text.{EdifReads}
-use Rattle.edif_library.specs.Grammar.{interface_port, interface_property, interface_designator, interface_note, interface_item, interface_keywords, interface_rest, interface, contents_instance, contents_net, contents_note, contents_item, contents_keywords, contents_rest, view_contents, view_property, view_status, view_note, view_item, is_contents, has_contents, view_keywords, view_rest, netlist, view, kind_words, cell_type, cell_view, cell_property, cell_status, cell_note, cell_item, is_view, has_view, cell_keywords, cell_rest, cell, unit, scale, scales_rest, notes_rest, number_definition, technology, library_cell, library_status, library_note, library_item, library_keywords, library_rest, library, library_ref, cell_ref, design_property, design_status, design_note, design_item, design_keywords, design_rest, design, file_library, file_design, file_status, file_note, file_item, file_keywords, file_rest, file_body, file}
-use Rattle.edif_rereading.specs.Values.{IsInterfaceItem, IsContentsItem, IsViewItem, IsView, IsCellItem, IsCell, IsScale, IsLibraryItem, IsLibrary, IsDesignItem, IsDesign, IsFileItem, IsEdifValue}
+use Rattle.edif_library.specs.Grammar.{interface_port, interface_property, interface_designator, interface_note, interface_item, interface_keywords, interface_rest, interface, contents_instance, contents_net, contents_note, contents_item, contents_keywords, contents_rest, view_contents, view_property, view_status, view_note, view_item, has_contents, view_keywords, view_rest, netlist, view, kind_words, cell_type, cell_view, cell_property, cell_status, cell_note, cell_item, has_view, cell_keywords, cell_rest, cell, unit, scale, scales_rest, notes_rest, number_definition, technology, library_cell, library_status, library_note, library_item, library_keywords, library_rest, library, library_ref, cell_ref, design_property, design_status, design_note, design_item, design_keywords, design_rest, design, file_library, file_design, file_status, file_note, file_item, file_keywords, file_rest, file_body, file}
 
 -- ---- at most one
 

@@ -6,20 +6,20 @@ use Rattle.nl_base.specs.Place.{place_at_start}
 use Rattle.nl_base.specs.declared.place.Place.{Place}
 use Rattle.nl_bytes.specs.declared.bytes.TheConstants.{LIMIT}
 use Rattle.edif_tokens.specs.declared.token.Found.{Found}
-use Rattle.edif_tokens.specs.declared.token.Token.{Token}
+use Rattle.edif_values.specs.declared.token.Token.{Token}
 use Rattle.edif_tokens.specs.Streams.{Finish, End, Bad, Over, Stream}
 use Rattle.edif_tokens.specs.Stream.{tokens, all_tokens}
 use Rattle.edif_tokens.proofs.Limits.{tokens_whole}
 use Rattle.edif_keywords.specs.Language.{ahead_of}
 use Rattle.edif_keywords.specs.Reasons.{trailing}
-use Rattle.edif_library.specs.declared.file.EdifFile.{EdifFile}
+use Rattle.edif_values.specs.declared.file.EdifFile.{EdifFile}
 use Rattle.edif_library.specs.Grammar.{file}
 use Rattle.edif_library.specs.Text.{EdifReads}
 use Rattle.edif_writer.specs.Forms.{file_block, edif_text}
 use Rattle.edif_lexing.specs.Lexing.{Shows, EndsWell}
 use Rattle.edif_lexing.specs.Tokens.{block_tokens}
 use Rattle.edif_lexing.proofs.Laying.{text_lexes}
-use Rattle.edif_rereading.specs.Values.{IsEdifValue}
+use Rattle.edif_values.specs.Values.{IsEdifValue}
 use Rattle.edif_rereading.specs.Whole.{EdifSpells}
 use Rattle.edif_rereading.proofs.Spelled.{Row, Spelled}
 use Rattle.edif_rereading.proofs.Library.{file_spelled}

@@ -4,23 +4,23 @@ use Rattle.std.specs.Prelude.{ℤ}
 use Rattle.std.specs.List.{AllByRecursion}
 use Rattle.nl_base.specs.declared.value.Dir.{Dir}
 use Rattle.nl_base.specs.declared.value.Dir.TheVariants as dirs
-use Rattle.edif_tokens.specs.declared.token.Token.TheVariants as t
-use Rattle.edif_keywords.specs.declared.keyword.Keyword.TheVariants as k
-use Rattle.edif_keywords.specs.Keywords.{has, spelling}
+use Rattle.edif_values.specs.declared.token.Token.TheVariants as t
+use Rattle.edif_values.specs.declared.keyword.Keyword.TheVariants as k
+use Rattle.edif_values.specs.Keywords.{has, spelling}
 use Rattle.edif_keywords.specs.Reasons.{meant_by}
-use Rattle.edif_status.specs.declared.note.Note.TheVariants as noted
-use Rattle.edif_nets.specs.declared.port.PortItem.{PortItem}
-use Rattle.edif_nets.specs.declared.port.PortItem.TheVariants as port_items
-use Rattle.edif_nets.specs.declared.port.Port.{Port}
-use Rattle.edif_nets.specs.declared.instance.InstanceItem.{InstanceItem}
-use Rattle.edif_nets.specs.declared.instance.InstanceItem.TheVariants as instance_items
-use Rattle.edif_nets.specs.declared.instance.Instance.{Instance}
-use Rattle.edif_nets.specs.declared.net.PortRef.{PortRef}
-use Rattle.edif_nets.specs.declared.net.NetItem.{NetItem}
-use Rattle.edif_nets.specs.declared.net.NetItem.TheVariants as net_items
-use Rattle.edif_nets.specs.declared.net.Net.{Net}
-use Rattle.edif_nets.specs.Directions.{told, directions}
-use Rattle.edif_nets.specs.Values.{IsPortItem, IsPort, IsInstanceItem, IsInstance, IsPortRef, IsNetItem, IsNet}
+use Rattle.edif_values.specs.declared.note.Note.TheVariants as noted
+use Rattle.edif_values.specs.declared.port.PortItem.{PortItem}
+use Rattle.edif_values.specs.declared.port.PortItem.TheVariants as port_items
+use Rattle.edif_values.specs.declared.port.Port.{Port}
+use Rattle.edif_values.specs.declared.instance.InstanceItem.{InstanceItem}
+use Rattle.edif_values.specs.declared.instance.InstanceItem.TheVariants as instance_items
+use Rattle.edif_values.specs.declared.instance.Instance.{Instance}
+use Rattle.edif_values.specs.declared.net.PortRef.{PortRef}
+use Rattle.edif_values.specs.declared.net.NetItem.{NetItem}
+use Rattle.edif_values.specs.declared.net.NetItem.TheVariants as net_items
+use Rattle.edif_values.specs.declared.net.Net.{Net}
+use Rattle.edif_values.specs.Directions.{told, directions}
+use Rattle.edif_values.specs.Values.{IsPortItem, IsPort, IsInstanceItem, IsInstance, IsPortRef, IsNetItem, IsNet}
 use Rattle.edif_nets.specs.Grammar.{designator, direction_words, direction, port_property, port_designator, port_note, port_item, is_direction, has_direction, port_keywords, port_rest, port, library_named, no_library, maybe_library, cell_ref, view_ref, instance_property, instance_designator, instance_note, instance_item, instance_keywords, instance_rest, instance, member, whole_port, port_or_member, instance_named, no_instance, maybe_instance, port_ref, joined_keywords, joined_rest, joined, net_property, net_note, net_item, net_keywords, net_rest, net}
 use Rattle.edif_writer.specs.Forms as form
 use Rattle.edif_writer.specs.Layout.{Word, more, each, all}

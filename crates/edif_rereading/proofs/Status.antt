@@ -3,28 +3,28 @@ use Rattle.std.proofs.Common.{◌≡◌, ℕ, zero, suc, ◌≤◌, List, [], �
 use Rattle.std.specs.Prelude.{fold, max, ℤ}
 use Rattle.std.specs.List.{AllByRecursion}
 use Rattle.grammar.specs.Part.{gives}
-use Rattle.edif_tokens.specs.declared.token.Token.{Token}
-use Rattle.edif_tokens.specs.declared.token.Token.TheVariants as t
-use Rattle.edif_tokens.specs.Proper.{IsProper}
-use Rattle.edif_keywords.specs.declared.keyword.Keyword.TheVariants as k
-use Rattle.edif_keywords.specs.Keywords.{spelling, has}
+use Rattle.edif_values.specs.declared.token.Token.{Token}
+use Rattle.edif_values.specs.declared.token.Token.TheVariants as t
+use Rattle.edif_values.specs.Proper.{IsProper}
+use Rattle.edif_values.specs.declared.keyword.Keyword.TheVariants as k
+use Rattle.edif_values.specs.Keywords.{spelling, has}
 use Rattle.edif_keywords.specs.Language.{Edif}
-use Rattle.edif_status.specs.declared.user.UserTree.{UserTree, ind-UserTree}
-use Rattle.edif_status.specs.declared.user.UserTree.TheViews.{roll-UserTree}
-use Rattle.edif_status.specs.declared.user.UserTree.TheOpen.{UserTree-F}
-use Rattle.edif_status.specs.declared.user.UserTree.TheVariants.{rolls-Word, rolls-Number, rolls-Str, rolls-List}
-use Rattle.edif_status.specs.declared.user.UserTree.TheVariants as tree
-use Rattle.edif_status.specs.declared.user.UserData.{UserData}
-use Rattle.edif_status.specs.declared.note.Note.{Note}
-use Rattle.edif_status.specs.declared.note.Note.TheVariants as noted
-use Rattle.edif_status.specs.declared.written.Stamp.{Stamp}
-use Rattle.edif_status.specs.declared.written.WrittenItem.{WrittenItem}
-use Rattle.edif_status.specs.declared.written.WrittenItem.TheVariants as written_items
-use Rattle.edif_status.specs.declared.written.Written.{Written}
-use Rattle.edif_status.specs.declared.status.StatusItem.{StatusItem}
-use Rattle.edif_status.specs.declared.status.StatusItem.TheVariants as status_items
-use Rattle.edif_status.specs.declared.status.Status.{Status}
-use Rattle.edif_status.specs.Values.{depth, leaves, together, IsTree, AreTrees, IsUserData, IsNote, IsWrittenItem, IsWritten, IsStatusItem, IsStatus}
+use Rattle.edif_values.specs.declared.user.UserTree.{UserTree, ind-UserTree}
+use Rattle.edif_values.specs.declared.user.UserTree.TheViews.{roll-UserTree}
+use Rattle.edif_values.specs.declared.user.UserTree.TheOpen.{UserTree-F}
+use Rattle.edif_values.specs.declared.user.UserTree.TheVariants.{rolls-Word, rolls-Number, rolls-Str, rolls-List}
+use Rattle.edif_values.specs.declared.user.UserTree.TheVariants as tree
+use Rattle.edif_values.specs.declared.user.UserData.{UserData}
+use Rattle.edif_values.specs.declared.note.Note.{Note}
+use Rattle.edif_values.specs.declared.note.Note.TheVariants as noted
+use Rattle.edif_values.specs.declared.written.Stamp.{Stamp}
+use Rattle.edif_values.specs.declared.written.WrittenItem.{WrittenItem}
+use Rattle.edif_values.specs.declared.written.WrittenItem.TheVariants as written_items
+use Rattle.edif_values.specs.declared.written.Written.{Written}
+use Rattle.edif_values.specs.declared.status.StatusItem.{StatusItem}
+use Rattle.edif_values.specs.declared.status.StatusItem.TheVariants as status_items
+use Rattle.edif_values.specs.declared.status.Status.{Status}
+use Rattle.edif_values.specs.Values.{depth, leaves, together, IsTree, AreTrees, IsUserData, IsNote, IsWrittenItem, IsWritten, IsStatusItem, IsStatus}
 use Rattle.edif_status.specs.Grammar.{Whole, Opens, tree_of, tree_rest, trees_by, trees, user, remark, user_note, note, note_keywords, clock, stamp, version_text, no_version, maybe_version, author, program, data_origin, written_note, written_item, written_keywords, written_rest, written, status_written, status_note, status_item, status_keywords, status_rest, status}
 use Rattle.edif_status.proofs.Kept.{list_depth, list_leaves, word_leaves, number_leaves, string_leaves}
 use Rattle.edif_writer.specs.Forms as form

@@ -7,69 +7,65 @@ use Rattle.nl_base.specs.declared.value.Dir.{Dir}
 use Rattle.nl_base.specs.declared.value.Dir.TheVariants as dirs
 use Rattle.nl_base.specs.declared.value.PropValue.{PropValue}
 use Rattle.nl_base.specs.declared.value.PropValue.TheVariants as prop
-use Rattle.edif_tokens.specs.declared.token.Token.{Token}
-use Rattle.edif_tokens.specs.declared.token.Token.TheVariants as t
-use Rattle.edif_tokens.specs.Proper.{IsProper}
-use Rattle.edif_keywords.specs.Values.{IsWord, IsInteger, IsString}
-use Rattle.edif_names.specs.declared.name.NameDef.{NameDef}
-use Rattle.edif_names.specs.declared.name.PortName.{PortName}
-use Rattle.edif_names.specs.declared.name.PortName.TheVariants as port_names
-use Rattle.edif_names.specs.declared.property.PropTail.{PropTail}
-use Rattle.edif_names.specs.declared.property.PropTail.TheVariants as prop_tails
-use Rattle.edif_names.specs.declared.property.Property.{Property}
-use Rattle.edif_names.specs.Values.{IsNameDef, IsPortName, IsScaled, IsPropValue, IsPropTail, IsProperty}
-use Rattle.edif_status.specs.declared.user.UserTree.{UserTree}
-use Rattle.edif_status.specs.declared.user.UserTree.TheVariants as tree
-use Rattle.edif_status.specs.declared.user.UserData.{UserData}
-use Rattle.edif_status.specs.declared.note.Note.{Note}
-use Rattle.edif_status.specs.declared.note.Note.TheVariants as noted
-use Rattle.edif_status.specs.declared.written.Stamp.{Stamp}
-use Rattle.edif_status.specs.declared.written.WrittenItem.{WrittenItem}
-use Rattle.edif_status.specs.declared.written.WrittenItem.TheVariants as written_items
-use Rattle.edif_status.specs.declared.written.Written.{Written}
-use Rattle.edif_status.specs.declared.status.StatusItem.{StatusItem}
-use Rattle.edif_status.specs.declared.status.StatusItem.TheVariants as status_items
-use Rattle.edif_status.specs.declared.status.Status.{Status}
-use Rattle.edif_status.specs.Values.{leaves, IsTree, AreTrees, IsUserData, IsNote, IsStamp, IsWrittenItem, IsWritten, IsStatusItem, IsStatus}
+use Rattle.edif_values.specs.declared.token.Token.{Token}
+use Rattle.edif_values.specs.declared.token.Token.TheVariants as t
+use Rattle.edif_values.specs.Proper.{IsProper}
+use Rattle.edif_values.specs.Values.{IsWord, IsInteger, IsString, IsNameDef, IsPortName, IsScaled, IsPropValue, IsPropTail, IsProperty, leaves, IsTree, AreTrees, IsUserData, IsNote, IsStamp, IsWrittenItem, IsWritten, IsStatusItem, IsStatus, IsPortItem, IsPort, IsInstanceItem, IsInstance, IsPortRef, IsNetItem, IsNet, IsInterfaceItem, IsContentsItem, IsViewItem, IsView, IsCellItem, IsCell, IsScale, IsLibraryItem, IsLibrary, IsDesignItem, IsDesign, IsFileItem, IsEdifValue}
+use Rattle.edif_values.specs.declared.name.NameDef.{NameDef}
+use Rattle.edif_values.specs.declared.name.PortName.{PortName}
+use Rattle.edif_values.specs.declared.name.PortName.TheVariants as port_names
+use Rattle.edif_values.specs.declared.property.PropTail.{PropTail}
+use Rattle.edif_values.specs.declared.property.PropTail.TheVariants as prop_tails
+use Rattle.edif_values.specs.declared.property.Property.{Property}
+use Rattle.edif_values.specs.declared.user.UserTree.{UserTree}
+use Rattle.edif_values.specs.declared.user.UserTree.TheVariants as tree
+use Rattle.edif_values.specs.declared.user.UserData.{UserData}
+use Rattle.edif_values.specs.declared.note.Note.{Note}
+use Rattle.edif_values.specs.declared.note.Note.TheVariants as noted
+use Rattle.edif_values.specs.declared.written.Stamp.{Stamp}
+use Rattle.edif_values.specs.declared.written.WrittenItem.{WrittenItem}
+use Rattle.edif_values.specs.declared.written.WrittenItem.TheVariants as written_items
+use Rattle.edif_values.specs.declared.written.Written.{Written}
+use Rattle.edif_values.specs.declared.status.StatusItem.{StatusItem}
+use Rattle.edif_values.specs.declared.status.StatusItem.TheVariants as status_items
+use Rattle.edif_values.specs.declared.status.Status.{Status}
 use Rattle.edif_status.proofs.Kept.{word_leaves, number_leaves, string_leaves}
-use Rattle.edif_nets.specs.declared.port.PortItem.{PortItem}
-use Rattle.edif_nets.specs.declared.port.PortItem.TheVariants as port_items
-use Rattle.edif_nets.specs.declared.port.Port.{Port}
-use Rattle.edif_nets.specs.declared.instance.InstanceItem.{InstanceItem}
-use Rattle.edif_nets.specs.declared.instance.InstanceItem.TheVariants as instance_items
-use Rattle.edif_nets.specs.declared.instance.Instance.{Instance}
-use Rattle.edif_nets.specs.declared.net.PortRef.{PortRef}
-use Rattle.edif_nets.specs.declared.net.NetItem.{NetItem}
-use Rattle.edif_nets.specs.declared.net.NetItem.TheVariants as net_items
-use Rattle.edif_nets.specs.declared.net.Net.{Net}
-use Rattle.edif_nets.specs.Values.{IsPortItem, IsPort, IsInstanceItem, IsInstance, IsPortRef, IsNetItem, IsNet}
-use Rattle.edif_library.specs.declared.view.InterfaceItem.{InterfaceItem}
-use Rattle.edif_library.specs.declared.view.InterfaceItem.TheVariants as interface_items
-use Rattle.edif_library.specs.declared.view.ContentsItem.{ContentsItem}
-use Rattle.edif_library.specs.declared.view.ContentsItem.TheVariants as contents_items
-use Rattle.edif_library.specs.declared.view.ViewItem.{ViewItem}
-use Rattle.edif_library.specs.declared.view.ViewItem.TheVariants as view_items
-use Rattle.edif_library.specs.declared.view.View.{View}
-use Rattle.edif_library.specs.declared.cell.CellKind.{CellKind}
-use Rattle.edif_library.specs.declared.cell.CellKind.TheVariants as kinds
-use Rattle.edif_library.specs.declared.cell.CellItem.{CellItem}
-use Rattle.edif_library.specs.declared.cell.CellItem.TheVariants as cell_items
-use Rattle.edif_library.specs.declared.cell.Cell.{Cell}
-use Rattle.edif_library.specs.declared.library.Scale.{Scale}
-use Rattle.edif_library.specs.declared.library.LibraryItem.{LibraryItem}
-use Rattle.edif_library.specs.declared.library.LibraryItem.TheVariants as library_items
-use Rattle.edif_library.specs.declared.library.Library.{Library}
-use Rattle.edif_library.specs.declared.file.DesignItem.{DesignItem}
-use Rattle.edif_library.specs.declared.file.DesignItem.TheVariants as design_items
-use Rattle.edif_library.specs.declared.file.Design.{Design}
-use Rattle.edif_library.specs.declared.file.FileItem.{FileItem}
-use Rattle.edif_library.specs.declared.file.FileItem.TheVariants as file_items
-use Rattle.edif_library.specs.declared.file.EdifFile.{EdifFile}
+use Rattle.edif_values.specs.declared.port.PortItem.{PortItem}
+use Rattle.edif_values.specs.declared.port.PortItem.TheVariants as port_items
+use Rattle.edif_values.specs.declared.port.Port.{Port}
+use Rattle.edif_values.specs.declared.instance.InstanceItem.{InstanceItem}
+use Rattle.edif_values.specs.declared.instance.InstanceItem.TheVariants as instance_items
+use Rattle.edif_values.specs.declared.instance.Instance.{Instance}
+use Rattle.edif_values.specs.declared.net.PortRef.{PortRef}
+use Rattle.edif_values.specs.declared.net.NetItem.{NetItem}
+use Rattle.edif_values.specs.declared.net.NetItem.TheVariants as net_items
+use Rattle.edif_values.specs.declared.net.Net.{Net}
+use Rattle.edif_values.specs.declared.view.InterfaceItem.{InterfaceItem}
+use Rattle.edif_values.specs.declared.view.InterfaceItem.TheVariants as interface_items
+use Rattle.edif_values.specs.declared.view.ContentsItem.{ContentsItem}
+use Rattle.edif_values.specs.declared.view.ContentsItem.TheVariants as contents_items
+use Rattle.edif_values.specs.declared.view.ViewItem.{ViewItem}
+use Rattle.edif_values.specs.declared.view.ViewItem.TheVariants as view_items
+use Rattle.edif_values.specs.declared.view.View.{View}
+use Rattle.edif_values.specs.declared.cell.CellKind.{CellKind}
+use Rattle.edif_values.specs.declared.cell.CellKind.TheVariants as kinds
+use Rattle.edif_values.specs.declared.cell.CellItem.{CellItem}
+use Rattle.edif_values.specs.declared.cell.CellItem.TheVariants as cell_items
+use Rattle.edif_values.specs.declared.cell.Cell.{Cell}
+use Rattle.edif_values.specs.declared.library.Scale.{Scale}
+use Rattle.edif_values.specs.declared.library.LibraryItem.{LibraryItem}
+use Rattle.edif_values.specs.declared.library.LibraryItem.TheVariants as library_items
+use Rattle.edif_values.specs.declared.library.Library.{Library}
+use Rattle.edif_values.specs.declared.file.DesignItem.{DesignItem}
+use Rattle.edif_values.specs.declared.file.DesignItem.TheVariants as design_items
+use Rattle.edif_values.specs.declared.file.Design.{Design}
+use Rattle.edif_values.specs.declared.file.FileItem.{FileItem}
+use Rattle.edif_values.specs.declared.file.FileItem.TheVariants as file_items
+use Rattle.edif_values.specs.declared.file.EdifFile.{EdifFile}
 use Rattle.edif_writer.specs.Forms as form
 use Rattle.edif_writer.specs.Layout.{Form, Str, Block, each, all}
 use Rattle.edif_writer.proofs.Trees.{word_form, number_form, str_form, list_form}
 use Rattle.edif_lexing.specs.Tokens.{IsWritable, AreWritable, CanBeLaid, AllCanBeLaid}
-use Rattle.edif_rereading.specs.Values.{IsInterfaceItem, IsContentsItem, IsViewItem, IsView, IsCellItem, IsCell, IsScale, IsLibraryItem, IsLibrary, IsDesignItem, IsDesign, IsFileItem, IsEdifValue}
 use Rattle.edif_rereading.proofs.Status.{tree_cases, inner_trees, no_list}
 
 each_writable : {I : Type 0} (form : I → Form) (Good : I → Type 0) → ((i : I) → Good i → IsWritable (form i)) → (is : List I) → AllByRecursion Good is → AreWritable (each form is)

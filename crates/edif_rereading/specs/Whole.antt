@@ -4,7 +4,7 @@ use Rattle.grammar.specs.Whole.{whole, IsText}
 use Rattle.edif_tokens.specs.Stream.{all_tokens}
 use Rattle.edif_keywords.specs.Language.{ahead_of}
 use Rattle.edif_keywords.specs.Reasons.{trailing}
-use Rattle.edif_library.specs.declared.file.EdifFile.{EdifFile}
+use Rattle.edif_values.specs.declared.file.EdifFile.{EdifFile}
 use Rattle.edif_library.specs.Grammar.{file}
 
 -- The bytes are a text of the file: all their tokens, up to the end of the bytes, spell it. No limit is set to the bytes.

@@ -1,11 +1,11 @@
 // The law that a written text reads back.
 ghost use Rattle.std.specs.Prelude.{ℕ, ◌≤◌, List, length};
-ghost use Rattle.edif_tokens.specs.Proper.{AreBytes};
+ghost use Rattle.edif_values.specs.Proper.{AreBytes};
 ghost use Rattle.nl_bytes.specs.declared.bytes.TheConstants.{LIMIT};
-ghost use Rattle.edif_library.specs.declared.file.EdifFile.{EdifFile};
+ghost use Rattle.edif_values.specs.declared.file.EdifFile.{EdifFile};
 ghost use Rattle.edif_library.specs.Text.{EdifReads};
 ghost use Rattle.edif_writer.specs.Forms.{edif_text};
-ghost use Rattle.edif_rereading.specs.Values.{IsEdifValue};
+ghost use Rattle.edif_values.specs.Values.{IsEdifValue};
 ghost use Rattle.edif_rereading.specs.Whole.{EdifSpells};
 
 /// The written text of a file that can be written spells the file, whatever its length, and reads as the file within the limit of an input.

@@ -14,8 +14,8 @@ use Rattle.net_hier.specs.declared.cells.HInst.{HInst}
 use Rattle.net_hier.specs.declared.cells.HProp.{HProp}
 use Rattle.net_hier.proofs.Building.{good_in_range}
 use Rattle.nl_base.specs.declared.rule.Rule.TheVariants.{E13}
-use Rattle.edif_library.specs.Sizes.{edif_size}
-use Rattle.edif_library.specs.declared.file.EdifFile.{EdifFile}
+use Rattle.edif_values.specs.Sizes.{edif_size}
+use Rattle.edif_values.specs.declared.file.EdifFile.{EdifFile}
 use Rattle.edif_design.specs.Design.{edif_cells, edif_properties, edif_top}
 use Rattle.edif_design.specs.FileRules.{first_E, recursion_refusals, refusals}
 use Rattle.edif_design.specs.Reach.{cells_below as file_below, marks_below, reached_marks, those_meant}

@@ -9,11 +9,11 @@ use Rattle.std.proofs.lemmas.Grind.{flat_map-append}
 use Rattle.std.proofs.lemmas.Bool.{false≢true}
 use Rattle.std.proofs.lemmas.Option.{slice_get-get_or, slice_get-map}
 use Rattle.edif_lookup.proofs.ListLaws.{enumerate_more}
-use Rattle.edif_names.specs.Names.{original}
-use Rattle.edif_library.specs.Sizes.{cell_size, edif_size}
-use Rattle.edif_library.specs.declared.cell.Cell.{Cell}
-use Rattle.edif_library.specs.declared.file.Design.{Design}
-use Rattle.edif_library.specs.declared.file.EdifFile.{EdifFile}
+use Rattle.edif_values.specs.Names.{original}
+use Rattle.edif_values.specs.Sizes.{cell_size, edif_size}
+use Rattle.edif_values.specs.declared.cell.Cell.{Cell}
+use Rattle.edif_values.specs.declared.file.Design.{Design}
+use Rattle.edif_values.specs.declared.file.EdifFile.{EdifFile}
 use Rattle.net_hier.specs.declared.cells.HCell.{HCell}
 use Rattle.net_hier.specs.declared.cells.HProp.{HProp}
 use Rattle.edif_design.specs.CellRules.{has_good_sizes}

@@ -12,15 +12,15 @@ use Rattle.nl_base.specs.declared.rule.Rule.TheVariants.{E2, E3, E4}
 use Rattle.edif_lookup.specs.Candidates.{the_only}
 use Rattle.edif_lookup.specs.Refusals.{broken, broken_reference, each_after, if_some, in_order}
 use Rattle.edif_lookup.proofs.Orders.{in_order_none, none_left, none_right}
-use Rattle.edif_names.specs.Names.{original}
-use Rattle.edif_library.specs.declared.cell.Cell.{Cell}
-use Rattle.edif_library.specs.declared.file.Design.{Design}
-use Rattle.edif_library.specs.declared.file.EdifFile.{EdifFile}
-use Rattle.edif_library.specs.declared.file.FileItem.{FileItem}
-use Rattle.edif_library.specs.declared.file.FileItem.TheVariants as file_items
-use Rattle.edif_library.specs.declared.library.Library.{Library}
-use Rattle.edif_library.specs.declared.view.ContentsItem.{ContentsItem}
-use Rattle.edif_library.specs.declared.view.ContentsItem.TheVariants as contents_items
+use Rattle.edif_values.specs.Names.{original}
+use Rattle.edif_values.specs.declared.cell.Cell.{Cell}
+use Rattle.edif_values.specs.declared.file.Design.{Design}
+use Rattle.edif_values.specs.declared.file.EdifFile.{EdifFile}
+use Rattle.edif_values.specs.declared.file.FileItem.{FileItem}
+use Rattle.edif_values.specs.declared.file.FileItem.TheVariants as file_items
+use Rattle.edif_values.specs.declared.library.Library.{Library}
+use Rattle.edif_values.specs.declared.view.ContentsItem.{ContentsItem}
+use Rattle.edif_values.specs.declared.view.ContentsItem.TheVariants as contents_items
 use Rattle.edif_design.specs.CellRules.{cell_refusals, contents_refusals, instance_refusals, link_refusals, port_refusals}
 use Rattle.edif_design.specs.FileRules.{cells_before, design_count_refusals, design_refusals, file_item_refusals, library_cell_refusals, reached_refusals, refusals, second_cell, second_library}
 use Rattle.edif_design.specs.Parts.{cell_contents, cells_in, design_in, designs, instance_in, instances, libraries_in, library_in, ports, views}

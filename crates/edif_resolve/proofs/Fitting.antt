@@ -15,15 +15,15 @@ use Rattle.net_hier.specs.Valid.{Each, HaveOwnNames, IsGoodCell, IsJoinOf, IsNod
 use Rattle.net_hier.specs.declared.cells.HCell.{HCell}
 use Rattle.net_hier.specs.declared.nodes.Node.{Node}
 use Rattle.net_hier.specs.declared.nodes.Node.TheVariants as nodes
-use Rattle.edif_names.specs.Names.{original, port_original}
-use Rattle.edif_names.specs.declared.name.PortName.{PortName}
-use Rattle.edif_names.specs.declared.name.PortName.TheVariants.{Single, Array}
-use Rattle.edif_nets.specs.declared.instance.Instance.{Instance}
-use Rattle.edif_nets.specs.declared.net.PortRef.{PortRef}
-use Rattle.edif_nets.specs.declared.port.Port.{Port}
+use Rattle.edif_values.specs.Names.{original, port_original}
+use Rattle.edif_values.specs.declared.name.PortName.{PortName}
+use Rattle.edif_values.specs.declared.name.PortName.TheVariants.{Single, Array}
+use Rattle.edif_values.specs.declared.instance.Instance.{Instance}
+use Rattle.edif_values.specs.declared.net.PortRef.{PortRef}
+use Rattle.edif_values.specs.declared.port.Port.{Port}
 use Rattle.edif_lookup.specs.Candidates.{the_only}
-use Rattle.edif_library.specs.declared.cell.Cell.{Cell}
-use Rattle.edif_library.specs.declared.file.EdifFile.{EdifFile}
+use Rattle.edif_values.specs.declared.cell.Cell.{Cell}
+use Rattle.edif_values.specs.declared.file.EdifFile.{EdifFile}
 use Rattle.edif_design.specs.CellRules.{bit_meant, bit_of, instance_candidates, is_bad_size, is_no_member, node_of, owner_at, owner_bit, owner_of, Owner, port_candidates, port_ident, port_name, size_of}
 use Rattle.edif_design.specs.Design.{cell_value, edif_cells, edif_top, instance_value, net_joins, net_value, number_in, numbers_in_design, port_value}
 use Rattle.edif_design.specs.FileRules.{refusals}

@@ -15,9 +15,9 @@ use Rattle.net_hier.specs.Design.{cells_below as design_below}
 use Rattle.net_hier.specs.declared.cells.HInst.{HInst}
 use Rattle.edif_lookup.specs.Refusals.{broken, is_in}
 use Rattle.edif_lookup.proofs.Orders.{in_order_none, none_left, none_right}
-use Rattle.edif_names.specs.Names.{original}
-use Rattle.edif_nets.specs.declared.instance.Instance.{Instance}
-use Rattle.edif_library.specs.declared.file.EdifFile.{EdifFile}
+use Rattle.edif_values.specs.Names.{original}
+use Rattle.edif_values.specs.declared.instance.Instance.{Instance}
+use Rattle.edif_values.specs.declared.file.EdifFile.{EdifFile}
 use Rattle.edif_design.specs.CellRules.{inner_cell, instance_refusals, link_refusals, view_refusals}
 use Rattle.edif_design.specs.Design.{cell_value, edif_cells, instance_value, number_in, numbers_in_design}
 use Rattle.edif_design.specs.FileRules.{refusals}

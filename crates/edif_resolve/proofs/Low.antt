@@ -13,24 +13,24 @@ use Rattle.net_hier.specs.declared.nodes.Node.{Node}
 use Rattle.edif_lookup.specs.Refusals.{broken, broken_reference, each_after, if_some, in_order, is_in, lower, lowest}
 use Rattle.edif_lookup.proofs.FirstLaws.{first-lowest}
 use Rattle.edif_lookup.proofs.Orders.{lowest-append}
-use Rattle.edif_nets.specs.declared.instance.Instance.{Instance}
-use Rattle.edif_nets.specs.declared.net.Net.{Net}
-use Rattle.edif_nets.specs.declared.net.PortRef.{PortRef}
-use Rattle.edif_nets.specs.declared.port.Port.{Port}
-use Rattle.edif_library.specs.declared.cell.Cell.{Cell}
-use Rattle.edif_library.specs.declared.file.Design.{Design}
-use Rattle.edif_library.specs.declared.file.EdifFile.{EdifFile}
-use Rattle.edif_library.specs.declared.file.FileItem.{FileItem}
-use Rattle.edif_library.specs.declared.file.FileItem.TheVariants as file_items
-use Rattle.edif_library.specs.declared.view.ContentsItem.{ContentsItem}
-use Rattle.edif_library.specs.declared.view.ContentsItem.TheVariants as contents_items
+use Rattle.edif_values.specs.declared.instance.Instance.{Instance}
+use Rattle.edif_values.specs.declared.net.Net.{Net}
+use Rattle.edif_values.specs.declared.net.PortRef.{PortRef}
+use Rattle.edif_values.specs.declared.port.Port.{Port}
+use Rattle.edif_values.specs.declared.cell.Cell.{Cell}
+use Rattle.edif_values.specs.declared.file.Design.{Design}
+use Rattle.edif_values.specs.declared.file.EdifFile.{EdifFile}
+use Rattle.edif_values.specs.declared.file.FileItem.{FileItem}
+use Rattle.edif_values.specs.declared.file.FileItem.TheVariants as file_items
+use Rattle.edif_values.specs.declared.view.ContentsItem.{ContentsItem}
+use Rattle.edif_values.specs.declared.view.ContentsItem.TheVariants as contents_items
 use Rattle.edif_design.specs.CellRules.{Owner, bit_of, bits_of_nets, index_names, inner_cell, instance_candidates, is_bad_size, is_no_member, is_wide, means_view, node_of, owner_names, owner_of, port_candidates, port_ident, port_name, same_node, size_of, bit_refusals, cell_refusals, contents_refusals, instance_ref_refusals, instance_refusals, link_refusals, member_refusals, net_refusals, port_ref_refusals, port_refusals, ref_refusals, view_refusals}
 use Rattle.edif_design.specs.Design.{edif_cells}
 use Rattle.edif_design.specs.FileRules.{cells_before, design_count_refusals, file_item_refusals, first_E, library_cell_refusals, reached_refusals, recursion_refusals, refusals, second_cell, second_library}
 use Rattle.edif_design.specs.Parts.{cell_contents, cells_in, designs, instance_in, libraries_in, net_in, ports, views}
 use Rattle.edif_design.specs.Reach.{is_reached}
 use Rattle.edif_design.specs.References.{CellPlace, LinkedCell, cell_candidates, library_candidates, library_meant, linked_cell, place_in, top_meant}
-use Rattle.edif_names.specs.Names.{original, port_original}
+use Rattle.edif_values.specs.Names.{original, port_original}
 use Rattle.edif_lookup.specs.Candidates.{the_only}
 use Rattle.edif_resolve.proofs.Recursion.{recursion_rule, same_rule_lowest, all_get}
 

@@ -7,10 +7,10 @@ use Rattle.std.proofs.lemmas.Option.{slice_get-map, slice_get_within}
 use Rattle.std.proofs.lemmas.List.{length-map}
 use Rattle.net_graph.proofs.OrderLaws.{get_front, get_last}
 use Rattle.edif_lookup.specs.Candidates.{candidates, first_or_all, the_only}
-use Rattle.edif_library.specs.declared.file.EdifFile.{EdifFile}
-use Rattle.edif_library.specs.declared.file.Design.{Design}
-use Rattle.edif_nets.specs.declared.instance.Instance.{Instance}
-use Rattle.edif_nets.specs.declared.port.Port.{Port}
+use Rattle.edif_values.specs.declared.file.EdifFile.{EdifFile}
+use Rattle.edif_values.specs.declared.file.Design.{Design}
+use Rattle.edif_values.specs.declared.instance.Instance.{Instance}
+use Rattle.edif_values.specs.declared.port.Port.{Port}
 use Rattle.net_graph.specs.Graph.{IsInRange}
 use Rattle.net_graph.specs.Marks.{marks_of}
 use Rattle.edif_design.specs.Parts.{designs, instances, ports}

@@ -17,7 +17,7 @@ use Rattle.net_hier.specs.declared.cells.HCell.{HCell}
 use Rattle.net_hier.specs.declared.cells.HInst.{HInst}
 use Rattle.edif_lookup.specs.Refusals.{broken, first_refusal, lower, lowest}
 use Rattle.edif_lookup.proofs.FirstLaws.{first-lowest}
-use Rattle.edif_library.specs.declared.file.EdifFile.{EdifFile}
+use Rattle.edif_values.specs.declared.file.EdifFile.{EdifFile}
 use Rattle.edif_design.specs.Design.{edif_cells}
 use Rattle.edif_design.specs.FileRules.{closing_refusals, first_E, recursion_refusals, refusals}
 

@@ -9,7 +9,7 @@ use Rattle.net_graph.specs.Marks.{IsReachable, itself, below, has_below, is_mark
 use Rattle.net_graph.proofs.MarkLaws.{marked-reachable, reachable-marked}
 use Rattle.net_graph.proofs.WorkLaws.{above_has, has_above}
 use Rattle.net_hier.specs.declared.cells.HCell.{HCell}
-use Rattle.edif_library.specs.declared.file.EdifFile.{EdifFile}
+use Rattle.edif_values.specs.declared.file.EdifFile.{EdifFile}
 use Rattle.edif_design.specs.Design.{cell_value, counts_from, edif_cells, numbers_in_design}
 use Rattle.edif_design.specs.Reach.{cells_below, is_reached, marks_below, reached_cells, reached_marks, those_meant}
 use Rattle.edif_design.specs.References.{CellPlace, all_cells, linked_cell, numbers_meant, top}

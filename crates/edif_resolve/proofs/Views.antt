@@ -1,9 +1,9 @@
 -- A cell without view.
 use Rattle.std.proofs.Common.{◌≡◌, Bool, not, ◌||◌, List, [], ◌∷◌, slice_get, Option, Some, None, is_some, is_none, refl, ap, ◌∙◌}
 use Rattle.std.specs.List.{cons_option, filter_map, list_any}
-use Rattle.edif_library.specs.declared.cell.Cell.{Cell}
-use Rattle.edif_library.specs.declared.cell.CellItem.{CellItem}
-use Rattle.edif_library.specs.declared.view.View.{View}
+use Rattle.edif_values.specs.declared.cell.Cell.{Cell}
+use Rattle.edif_values.specs.declared.cell.CellItem.{CellItem}
+use Rattle.edif_values.specs.declared.view.View.{View}
 use Rattle.edif_design.specs.Parts.{view_in, views}
 
 none_first : (items : List CellItem) → not (list_any (λ item. is_some (view_in item)) items) ≡ is_none (slice_get (filter_map view_in items) 0)

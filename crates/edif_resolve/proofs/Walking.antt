@@ -16,14 +16,14 @@ use Rattle.nl_base.specs.declared.rule.Rule.TheVariants.{E4, E5}
 use Rattle.edif_lookup.specs.Refusals.{broken, each_after, if_some, in_order, is_in, lower, lowest}
 use Rattle.edif_lookup.proofs.NameLaws.{names_turn, or_comm}
 use Rattle.edif_lookup.proofs.Orders.{lowest_both, lowest_none, lowest_turn}
-use Rattle.edif_library.specs.declared.cell.Cell.{Cell}
-use Rattle.edif_library.specs.declared.file.Design.{Design}
-use Rattle.edif_library.specs.declared.file.EdifFile.{EdifFile}
-use Rattle.edif_library.specs.declared.file.FileItem.{FileItem}
-use Rattle.edif_library.specs.declared.file.FileItem.TheVariants as file_items
-use Rattle.edif_library.specs.declared.library.Library.{Library}
-use Rattle.edif_status.specs.declared.note.Note.{Note}
-use Rattle.edif_status.specs.declared.status.Status.{Status}
+use Rattle.edif_values.specs.declared.cell.Cell.{Cell}
+use Rattle.edif_values.specs.declared.file.Design.{Design}
+use Rattle.edif_values.specs.declared.file.EdifFile.{EdifFile}
+use Rattle.edif_values.specs.declared.file.FileItem.{FileItem}
+use Rattle.edif_values.specs.declared.file.FileItem.TheVariants as file_items
+use Rattle.edif_values.specs.declared.library.Library.{Library}
+use Rattle.edif_values.specs.declared.note.Note.{Note}
+use Rattle.edif_values.specs.declared.status.Status.{Status}
 use Rattle.edif_design.specs.CellRules.{cell_refusals, link_refusals}
 use Rattle.edif_design.specs.FileRules.{cells_before, design_count_refusals, design_refusals, file_item_refusals, library_cell_refusals, reached_refusals, refusals, second_library}
 use Rattle.edif_design.specs.Parts.{cells_in, designs, libraries_in, library_in}

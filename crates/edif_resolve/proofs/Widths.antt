@@ -14,12 +14,12 @@ use Rattle.nl_base.specs.declared.rule.Rule.TheVariants.{E5, E12}
 use Rattle.std.proofs.Math.IntN.{pos-+ℤ-pos, +ℤ-neg_ℤ_cancel, +ℤ_idr}
 use Rattle.edif_lookup.specs.Refusals.{broken, in_order, is_in}
 use Rattle.edif_lookup.proofs.Orders.{in_order_none, none_left, none_right}
-use Rattle.edif_names.specs.Names.{array_name, original, port_original}
-use Rattle.edif_names.specs.declared.name.PortName.{PortName}
-use Rattle.edif_names.specs.declared.name.PortName.TheVariants.{Single, Array}
-use Rattle.edif_names.proofs.Names.{array_named}
-use Rattle.edif_nets.specs.declared.port.Port.{Port}
-use Rattle.edif_library.specs.declared.cell.Cell.{Cell}
+use Rattle.edif_values.specs.Names.{array_name, original, port_original}
+use Rattle.edif_values.specs.declared.name.PortName.{PortName}
+use Rattle.edif_values.specs.declared.name.PortName.TheVariants.{Single, Array}
+use Rattle.edif_values.proofs.Names.{array_named}
+use Rattle.edif_values.specs.declared.port.Port.{Port}
+use Rattle.edif_values.specs.declared.cell.Cell.{Cell}
 use Rattle.net_hier.specs.Cells.{width_of}
 use Rattle.net_hier.specs.Valid.{HaveOwnNames}
 use Rattle.edif_design.specs.CellRules.{has_good_sizes, is_bad_size, port_ident, port_name, port_refusals, size_of}

@@ -5,7 +5,7 @@ use Rattle.net_hier.specs.Units.{units}
 use Rattle.net_hier.specs.Valid.{IsHier, unit_limit}
 use Rattle.net_hier.specs.declared.cells.HCell.{HCell}
 use Rattle.net_hier.specs.declared.cells.HProp.{HProp}
-use Rattle.edif_library.specs.declared.file.EdifFile.{EdifFile}
+use Rattle.edif_values.specs.declared.file.EdifFile.{EdifFile}
 use Rattle.edif_design.specs.Design.{edif_design}
 use Rattle.edif_design.specs.FileRules.{first_E, recursion_refusals}
 use Rattle.edif_resolve.specs.declared.answer.ResolveError.{ResolveError}

@@ -1,9 +1,9 @@
 -- What is known of a file before its rules are tried.
 use Rattle.std.specs.Prelude.{◌≡◌, ◌≤◌, Bool, List, map}
-use Rattle.edif_nets.specs.declared.port.Port.{Port}
+use Rattle.edif_values.specs.declared.port.Port.{Port}
 use Rattle.net_hier.specs.Valid.{count_limit}
-use Rattle.edif_library.specs.Sizes.{edif_size}
-use Rattle.edif_library.specs.declared.file.EdifFile.{EdifFile}
+use Rattle.edif_values.specs.Sizes.{edif_size}
+use Rattle.edif_values.specs.declared.file.EdifFile.{EdifFile}
 use Rattle.edif_design.specs.Parts.{ports}
 use Rattle.edif_design.specs.Reach.{reached_marks}
 use Rattle.edif_design.specs.References.{file_cells}

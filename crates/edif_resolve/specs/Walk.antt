@@ -1,9 +1,9 @@
 -- What a walk of a file keeps.
 use Rattle.std.specs.Prelude.{◌≡◌, ℕ, Bool, false, List, length, map, slice_get, Option, Some, None, is_none}
 use Rattle.edif_lookup.specs.Refusals.{in_order, is_in, lowest}
-use Rattle.edif_library.specs.declared.cell.Cell.{Cell}
-use Rattle.edif_library.specs.declared.file.EdifFile.{EdifFile}
-use Rattle.edif_library.specs.declared.file.FileItem.{FileItem}
+use Rattle.edif_values.specs.declared.cell.Cell.{Cell}
+use Rattle.edif_values.specs.declared.file.EdifFile.{EdifFile}
+use Rattle.edif_values.specs.declared.file.FileItem.{FileItem}
 use Rattle.edif_design.specs.FileRules.{cells_before, file_item_refusals}
 use Rattle.edif_design.specs.Parts.{libraries_in, views}
 use Rattle.edif_design.specs.Tables.{library_ident}

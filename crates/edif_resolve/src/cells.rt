@@ -1,7 +1,7 @@
 // The cells of the design of a file that breaks no rule.
 ghost use Rattle.std.specs.Prelude.{◌≡◌, ◌≤◌, ◌++◌, ◌∷◌, [], Some, cond, slice_get, IfOk, OnOk};
 ghost use Rattle.net_hier.specs.Valid.{count_limit};
-ghost use Rattle.edif_library.specs.Sizes.{edif_size};
+ghost use Rattle.edif_values.specs.Sizes.{edif_size};
 ghost use Rattle.edif_design.specs.Design.{cell_value, design_properties, edif_cells, number_in, numbers_in_design};
 ghost use Rattle.edif_design.specs.FileRules.{refusals};
 ghost use Rattle.edif_design.specs.Reach.{is_reached};
@@ -13,7 +13,7 @@ use crate::below::numbers_meant;
 use crate::scene::Scene;
 use edif_cells::{add_properties, cell_of};
 use edif_design::tables::Place;
-use edif_library::Design;
+use edif_values::Design;
 use net_hier::{HCell, HProp};
 use nl_base::{NoMemory, Seq};
 use std::alloc::Global;

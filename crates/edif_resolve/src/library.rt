@@ -2,7 +2,7 @@
 ghost use Rattle.std.specs.Prelude.{◌≡◌, ◌≤◌, ◌+◌, ◌++◌, ◌∷◌, [], All, codes, length, option_to_list, IfOk, OnOk};
 ghost use Rattle.nl_base.specs.declared.rule.Rule.TheVariants.{E5};
 ghost use Rattle.net_hier.specs.Valid.{count_limit};
-ghost use Rattle.edif_library.specs.Sizes.{cell_size};
+ghost use Rattle.edif_values.specs.Sizes.{cell_size};
 ghost use Rattle.edif_lookup.specs.Refusals.{broken, in_order, lowest};
 ghost use Rattle.edif_design.specs.FileRules.{library_cell_refusals, reached_refusals};
 ghost use Rattle.edif_design.specs.Parts.{cell_in, cells_in};
@@ -11,9 +11,9 @@ ghost use Rattle.edif_design.specs.Tables.{seen};
 
 use crate::below::numbers_meant;
 use crate::scene::Scene;
-use edif_library::{Cell, Library, LibraryItem};
 use edif_lookup::{Names, lower, refusal, two_names};
 use edif_nets_rules::cell_refusal;
+use edif_values::{Cell, Library, LibraryItem};
 use nl_base::{NoMemory, Refusal, Rule};
 use std::alloc::Global;
 

@@ -1,7 +1,7 @@
 // A file with its tables, the ports of its cells, and the marks of the cells that are reached from its top.
 ghost use Rattle.std.specs.Prelude.{◌≡◌, ◌≤◌, map, IfOk};
 ghost use Rattle.net_hier.specs.Valid.{count_limit};
-ghost use Rattle.edif_library.specs.Sizes.{edif_size};
+ghost use Rattle.edif_values.specs.Sizes.{edif_size};
 ghost use Rattle.edif_design.specs.Parts.{designs, ports};
 ghost use Rattle.edif_design.specs.Reach.{is_reached, reached_marks};
 ghost use Rattle.edif_design.specs.References.{file_cells, number_meant, top};
@@ -9,8 +9,8 @@ ghost use Rattle.edif_design.specs.Tables.{seen};
 
 use crate::top::{marks_of, top_of};
 use edif_design::tables::FileTables;
-use edif_library::{Design, EdifFile};
 use edif_nets_rules::PortTable;
+use edif_values::{Design, EdifFile};
 use nl_base::NoMemory;
 use std::alloc::Global;
 use std::marker::Model;
@@ -27,8 +27,8 @@ pub(crate) struct Scene<'a> {
 impl<'a> Model for Scene<'a> {
     ghost use Rattle.std.specs.Prelude.{◌≡◌};
     ghost use Rattle.std.specs.Coded.{codes};
-    ghost use Rattle.edif_library.specs.declared.file.EdifFile.{EdifFile};
-    ghost use Rattle.edif_status.specs.contracts.user.UserTree as trees;
+    ghost use Rattle.edif_values.specs.declared.file.EdifFile.{EdifFile};
+    ghost use Rattle.edif_values.specs.contracts.user.UserTree as trees;
     ghost use Rattle.edif_design.specs.References.{number_meant, top as file_top};
     ghost use Rattle.edif_resolve.specs.Scene.{HasScene};
 

@@ -8,11 +8,11 @@ use Rattle.nl_base.specs.declared.place.Place.{Place}
 use Rattle.nl_base.specs.declared.fault.Reason.{Reason}
 use Rattle.edif_tokens.specs.declared.token.Found.{Found}
 use Rattle.readers.specs.Parts.{at_token, while_next}
-use Rattle.edif_keywords.specs.declared.keyword.Keyword.{Keyword}
+use Rattle.edif_values.specs.declared.keyword.Keyword.{Keyword}
 use Rattle.edif_keywords.specs.Aliases.{Alias}
 use Rattle.edif_keywords.specs.Language.{Edif}
 use Rattle.edif_keywords.specs.Grammar.{closing, keyword, forms, items, strings, comment}
-use Rattle.edif_library.specs.Sizes.{list_size}
+use Rattle.edif_values.specs.Sizes.{list_size}
 
 -- What the part spells has at most this size: the size of what was read before, and one for each token.
 pub record Bounded {A : Type 0} (part : Edif A) (size : A → ℕ) (before : ℕ) : Type 0 where

@@ -11,9 +11,9 @@ use Rattle.edif_tokens.specs.Streams as streams
 use Rattle.edif_tokens.specs.Stream.{tokens}
 use Rattle.edif_keywords.specs.Language.{last}
 use Rattle.edif_keywords.specs.Reasons.{trailing}
-use Rattle.edif_library.specs.declared.file.EdifFile.{EdifFile}
+use Rattle.edif_values.specs.declared.file.EdifFile.{EdifFile}
 use Rattle.edif_library.specs.Grammar.{file}
-use Rattle.edif_library.specs.Sizes.{edif_size}
+use Rattle.edif_values.specs.Sizes.{edif_size}
 use Rattle.edif_library.specs.Text.{EdifReads}
 use Rattle.edif_sizes.proofs.Library.{bounded_file}
 use Rattle.edif_sizes.proofs.Tokens.{few_tokens, read_within}

@@ -1,18 +1,18 @@
 -- Views, cells, libraries, designs and the file have no more items than tokens.
 use Rattle.std.proofs.Common.{ℕ, ◌+◌, Bool, true, false, List, [], ◌∷◌, length, arith}
-use Rattle.edif_keywords.specs.declared.keyword.Keyword.{Keyword}
-use Rattle.edif_keywords.specs.declared.keyword.Keyword.TheVariants as k
-use Rattle.edif_keywords.specs.Keywords.{same_keyword}
+use Rattle.edif_values.specs.declared.keyword.Keyword.{Keyword}
+use Rattle.edif_values.specs.declared.keyword.Keyword.TheVariants as k
+use Rattle.edif_values.specs.Keywords.{same_keyword}
 use Rattle.edif_keywords.specs.Aliases.{Alias}
 use Rattle.edif_keywords.specs.Grammar.{closing, begin, level, header}
-use Rattle.edif_names.specs.declared.name.NameDef.{NameDef}
+use Rattle.edif_values.specs.declared.name.NameDef.{NameDef}
 use Rattle.edif_names.specs.Grammar.{name, scaled}
-use Rattle.edif_status.specs.declared.note.Note.{Note}
+use Rattle.edif_values.specs.declared.note.Note.{Note}
 use Rattle.edif_status.specs.Grammar.{note, note_keywords}
 use Rattle.edif_nets.specs.Grammar.{designator}
-use Rattle.edif_library.specs.declared.library.Scale.{Scale}
+use Rattle.edif_values.specs.declared.library.Scale.{Scale}
 use Rattle.edif_library.specs.Grammar.{interface_port, interface_property, interface_designator, interface_note, interface_item, interface_keywords, interface_rest, interface, contents_instance, contents_net, contents_note, contents_item, contents_keywords, contents_rest, view_contents, view_property, view_status, view_note, view_item, has_contents, view_keywords, view_rest, netlist, view, cell_type, cell_view, cell_property, cell_status, cell_note, cell_item, has_view, cell_keywords, cell_rest, cell, unit, scale, scales_rest, notes_rest, number_definition, technology, library_cell, library_status, library_note, library_item, library_keywords, library_rest, library, cell_ref, design_property, design_status, design_note, design_item, design_keywords, design_rest, design, file_library, file_design, file_status, file_note, file_item, file_keywords, file_rest, file_body, file}
-use Rattle.edif_library.specs.Sizes.{list_size, note_size, interface_item_size, contents_item_size, view_item_size, view_size, cell_item_size, cell_size, library_item_size, library_size, design_item_size, design_size, file_item_size, edif_size}
+use Rattle.edif_values.specs.Sizes.{list_size, note_size, interface_item_size, contents_item_size, view_item_size, view_size, cell_item_size, cell_size, library_item_size, library_size, design_item_size, design_size, file_item_size, edif_size}
 use Rattle.edif_sizes.proofs.Bounds.{Bounded, bounded_gives, bounded_then, bounded_after, bounded_cond, bounded_items, bounded_behind, bounded_less, bounded_under}
 use Rattle.edif_sizes.proofs.Status.{bounded_property, bounded_note, bounded_status}
 use Rattle.edif_sizes.proofs.Nets.{bounded_port, bounded_instance, bounded_net}

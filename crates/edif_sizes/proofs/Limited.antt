@@ -8,9 +8,9 @@ use Rattle.readers.specs.Readers.{same}
 use Rattle.readers.specs.Texts.{ReadsText, Comes, tokens_of}
 use Rattle.edif_keywords.specs.Language.{edif}
 use Rattle.edif_keywords.specs.Reasons.{trailing}
-use Rattle.edif_library.specs.declared.file.EdifFile.{EdifFile}
+use Rattle.edif_values.specs.declared.file.EdifFile.{EdifFile}
 use Rattle.edif_library.specs.Grammar.{file}
-use Rattle.edif_library.specs.Sizes.{edif_size}
+use Rattle.edif_values.specs.Sizes.{edif_size}
 use Rattle.edif_library.specs.Text.{EdifReads}
 use Rattle.edif_sizes.proofs.Law.{file_within}
 

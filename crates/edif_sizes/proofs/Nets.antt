@@ -1,13 +1,13 @@
 -- Ports, instances and nets have no more items than tokens.
 use Rattle.std.proofs.Common.{ℕ, [], ◌∷◌, length, arith}
-use Rattle.edif_keywords.specs.declared.keyword.Keyword.{Keyword}
-use Rattle.edif_keywords.specs.declared.keyword.Keyword.TheVariants as k
-use Rattle.edif_keywords.specs.Keywords.{same_keyword}
+use Rattle.edif_values.specs.declared.keyword.Keyword.{Keyword}
+use Rattle.edif_values.specs.declared.keyword.Keyword.TheVariants as k
+use Rattle.edif_values.specs.Keywords.{same_keyword}
 use Rattle.edif_keywords.specs.Grammar.{closing, choice, begin}
 use Rattle.edif_names.specs.Grammar.{name, port_name}
-use Rattle.edif_nets.specs.declared.net.PortRef.{PortRef}
+use Rattle.edif_values.specs.declared.net.PortRef.{PortRef}
 use Rattle.edif_nets.specs.Grammar.{designator, direction_words, direction, port_property, port_designator, port_note, port_item, has_direction, port_keywords, port_rest, port, view_ref, instance_property, instance_designator, instance_note, instance_item, instance_keywords, instance_rest, instance, port_or_member, maybe_instance, port_ref, joined_keywords, joined_rest, joined, net_property, net_note, net_item, net_keywords, net_rest, net}
-use Rattle.edif_library.specs.Sizes.{list_size, port_item_size, port_size, instance_item_size, instance_size, net_item_size, net_size}
+use Rattle.edif_values.specs.Sizes.{list_size, port_item_size, port_size, instance_item_size, instance_size, net_item_size, net_size}
 use Rattle.edif_sizes.proofs.Bounds.{Bounded, bounded_gives, bounded_then, bounded_after, bounded_cond, bounded_items, bounded_behind, bounded_less}
 use Rattle.edif_sizes.proofs.Status.{bounded_property, bounded_note}
 

@@ -1,19 +1,19 @@
 -- Properties, user data, notes and statuses have no more items than tokens.
 use Rattle.std.proofs.Common.{◌≡◌, subst, ℕ, zero, suc, List, [], ◌∷◌, ◌++◌, arith}
 use Rattle.grammar.specs.Part.{gives, takes}
-use Rattle.edif_tokens.specs.declared.token.Token.{Token}
-use Rattle.edif_tokens.specs.declared.token.Token.TheVariants.{LeftParen, RightParen, Word, Number, Str}
-use Rattle.edif_keywords.specs.declared.keyword.Keyword.{Keyword}
-use Rattle.edif_keywords.specs.declared.keyword.Keyword.TheVariants as k
-use Rattle.edif_keywords.specs.Keywords.{same_keyword}
+use Rattle.edif_values.specs.declared.token.Token.{Token}
+use Rattle.edif_values.specs.declared.token.Token.TheVariants.{LeftParen, RightParen, Word, Number, Str}
+use Rattle.edif_values.specs.declared.keyword.Keyword.{Keyword}
+use Rattle.edif_values.specs.declared.keyword.Keyword.TheVariants as k
+use Rattle.edif_values.specs.Keywords.{same_keyword}
 use Rattle.edif_keywords.specs.Language.{Edif}
 use Rattle.edif_keywords.specs.Grammar.{word, string, closing, begin}
 use Rattle.edif_names.specs.Grammar.{name, value, owner, remark as tail_remark, tail_form, tails, property}
-use Rattle.edif_status.specs.declared.user.UserTree.{UserTree}
-use Rattle.edif_status.specs.declared.user.UserTree.TheVariants as tree
+use Rattle.edif_values.specs.declared.user.UserTree.{UserTree}
+use Rattle.edif_values.specs.declared.user.UserTree.TheVariants as tree
 use Rattle.edif_status.specs.Grammar.{TreeStart, Whole, Opens, tree_of, tree_rest, trees_by, trees, user, remark, user_note, note, stamp, maybe_version, author, program, data_origin, written_note, written_item, written_keywords, written_rest, written, status_written, status_note, status_item, status_keywords, status_rest, status}
-use Rattle.edif_library.proofs.Sizes.{size-Word, size-Number, size-Str, size-List}
-use Rattle.edif_library.specs.Sizes.{list_size, tail_size, property_size, tree_size, note_size, written_item_size, written_size, status_item_size, status_size}
+use Rattle.edif_values.proofs.Sizes.{size-Word, size-Number, size-Str, size-List}
+use Rattle.edif_values.specs.Sizes.{list_size, tail_size, property_size, tree_size, note_size, written_item_size, written_size, status_item_size, status_size}
 use Rattle.edif_sizes.proofs.Bounds.{Bounded, bounded_gives, bounded_then, bounded_after, bounded_cond, bounded_while, bounded_items, bounded_comment, one_item, bounded_behind}
 
 -- ---- properties

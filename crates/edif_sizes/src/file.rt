@@ -6,9 +6,10 @@ ghost use Rattle.readers.specs.Texts.{ReadsText};
 ghost use Rattle.edif_keywords.specs.Language.{edif};
 ghost use Rattle.edif_keywords.specs.Reasons.{trailing};
 ghost use Rattle.edif_library.specs.Grammar.{file};
-ghost use Rattle.edif_library.specs.Sizes.{edif_size};
+ghost use Rattle.edif_values.specs.Sizes.{edif_size};
 
-use edif_library::{EdifFile, edif_size, read_edif};
+use edif_library::read_edif;
+use edif_values::{EdifFile, edif_size};
 use nl_base::ReadError;
 use nl_bytes::LIMIT;
 use nl_io::Source;

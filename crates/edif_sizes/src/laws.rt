@@ -2,8 +2,8 @@
 ghost use Rattle.std.specs.Prelude.{ℕ, ◌≤◌, List, length};
 ghost use Rattle.nl_bytes.specs.declared.bytes.TheConstants.{LIMIT};
 ghost use Rattle.edif_tokens.specs.Stream.{tokens};
-ghost use Rattle.edif_library.specs.declared.file.EdifFile.{EdifFile};
-ghost use Rattle.edif_library.specs.Sizes.{edif_size};
+ghost use Rattle.edif_values.specs.declared.file.EdifFile.{EdifFile};
+ghost use Rattle.edif_values.specs.Sizes.{edif_size};
 ghost use Rattle.edif_library.specs.Text.{EdifReads};
 
 /// Bytes that read as a file have at most 268,435,456 bytes, and so have no more tokens; and the file has at most as many items in all its

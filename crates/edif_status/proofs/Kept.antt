@@ -4,22 +4,22 @@ use Rattle.std.specs.Prelude.{fold, max}
 use Rattle.std.specs.List.{AllByRecursion}
 use Rattle.grammar.specs.Part.{gives, takes}
 use Rattle.nl_bytes.proofs.Uses.{AllByRecursion-push, AllByRecursion-append}
-use Rattle.edif_tokens.specs.declared.token.Token.{Token}
-use Rattle.edif_tokens.specs.declared.token.Token.TheVariants.{LeftParen, RightParen, Word, Number, Str}
-use Rattle.edif_tokens.specs.Proper.{IsProper}
-use Rattle.edif_keywords.specs.declared.keyword.Keyword.{Keyword}
-use Rattle.edif_keywords.specs.declared.keyword.Keyword.TheVariants as k
-use Rattle.edif_keywords.specs.Keywords.{same_keyword}
+use Rattle.edif_values.specs.declared.token.Token.{Token}
+use Rattle.edif_values.specs.declared.token.Token.TheVariants.{LeftParen, RightParen, Word, Number, Str}
+use Rattle.edif_values.specs.Proper.{IsProper}
+use Rattle.edif_values.specs.declared.keyword.Keyword.{Keyword}
+use Rattle.edif_values.specs.declared.keyword.Keyword.TheVariants as k
+use Rattle.edif_values.specs.Keywords.{same_keyword}
 use Rattle.edif_keywords.specs.Language.{Edif}
 use Rattle.edif_keywords.specs.Grammar.{closing, begin}
 use Rattle.edif_keywords.proofs.Kept.{Kept, kept_gives, kept_cond, kept_then, kept_after, kept_while, kept_word, kept_string, kept_integer, kept_form_or, kept_all, kept_strings}
-use Rattle.edif_status.specs.declared.user.UserTree.{UserTree}
-use Rattle.edif_status.specs.declared.user.UserTree.TheVariants as tree
-use Rattle.edif_status.specs.declared.user.UserTree.TheVariants.{rolls-Word, rolls-Number, rolls-Str, rolls-List}
-use Rattle.edif_status.specs.declared.user.UserTree.TheFolds.{fold-roll-UserTree}
-use Rattle.edif_status.specs.declared.user.UserTree.TheOpen.{UserTree-F}
+use Rattle.edif_values.specs.declared.user.UserTree.{UserTree}
+use Rattle.edif_values.specs.declared.user.UserTree.TheVariants as tree
+use Rattle.edif_values.specs.declared.user.UserTree.TheVariants.{rolls-Word, rolls-Number, rolls-Str, rolls-List}
+use Rattle.edif_values.specs.declared.user.UserTree.TheFolds.{fold-roll-UserTree}
+use Rattle.edif_values.specs.declared.user.UserTree.TheOpen.{UserTree-F}
 use Rattle.edif_status.specs.Grammar.{TreeStart, Whole, Opens, tree_of, tree_rest, trees_by, trees, user, remark, user_note, note, clock, stamp, version_text, no_version, maybe_version, author, program, data_origin, written_note, written_item, written_keywords, written_rest, written, status_written, status_note, status_item, status_keywords, status_rest, status}
-use Rattle.edif_status.specs.Values.{depth_step, depth, together, leaves_step, leaves, IsTree, AreTrees, IsUserData, IsNote, IsStamp, IsVersion, IsWrittenItem, IsWritten, IsStatusItem, IsStatus}
+use Rattle.edif_values.specs.Values.{depth_step, depth, together, leaves_step, leaves, IsTree, AreTrees, IsUserData, IsNote, IsStamp, IsVersion, IsWrittenItem, IsWritten, IsStatusItem, IsStatus}
 
 -- ---- the depth and the leaves of a tree
 

@@ -11,8 +11,8 @@ use Rattle.nl_base.specs.declared.fault.ReadError.{ReadError}
 use Rattle.nl_base.specs.declared.fault.ReadError.TheVariants as errors
 use Rattle.nl_bytes.specs.Bytes.{Window}
 use Rattle.edif_tokens.specs.declared.token.Found.{Found}
-use Rattle.edif_tokens.specs.declared.token.Token.{Token}
-use Rattle.edif_tokens.specs.declared.token.Token.TheVariants.{LeftParen, RightParen, Word, Number, Str}
+use Rattle.edif_values.specs.declared.token.Token.{Token}
+use Rattle.edif_values.specs.declared.token.Token.TheVariants.{LeftParen, RightParen, Word, Number, Str}
 use Rattle.readers.specs.Parts.{one, any, if_next}
 use Rattle.readers.specs.Sources.{Supply, Ahead, tokens_ahead}
 use Rattle.readers.specs.Readers.{Reader, reading, result_of, looking, then_left, stream, stream_of, behind, fault_at, FirstFits, IsNext, IsToken, IsCause}
@@ -24,8 +24,8 @@ use Rattle.edif_keywords.specs.Aliases.{Alias}
 use Rattle.edif_keywords.specs.Language.{edif, Edif}
 use Rattle.edif_keywords.specs.Reasons.{opens, is_opening, has_string, is_string, word_of}
 use Rattle.edif_keywords.specs.Grammar.{closing, string, integer, word}
-use Rattle.edif_status.specs.declared.user.UserTree.{UserTree}
-use Rattle.edif_status.specs.declared.user.UserTree.TheVariants as tree
+use Rattle.edif_values.specs.declared.user.UserTree.{UserTree}
+use Rattle.edif_values.specs.declared.user.UserTree.TheVariants as tree
 use Rattle.edif_status.specs.Grammar.{TreeStart, tree_start, glance_of, tree_of, tree_rest, tree_by, trees_by, trees, user_tree, user_list, plain_of, leaf_of, plain, leaf, is_tree, is_number, begins_tree, has_number}
 
 -- ---- parts that read alike where the next token is known

@@ -6,25 +6,25 @@ use Rattle.readers.specs.Parts.{one, while_next}
 use Rattle.nl_base.specs.declared.fault.Reason.{Reason}
 use Rattle.nl_base.specs.declared.fault.Reason.TheVariants as reasons
 use Rattle.edif_tokens.specs.declared.token.Found.{Found}
-use Rattle.edif_tokens.specs.declared.token.Token.{Token}
-use Rattle.edif_tokens.specs.declared.token.Token.TheVariants as token
-use Rattle.edif_keywords.specs.declared.keyword.Keyword.{Keyword}
-use Rattle.edif_keywords.specs.declared.keyword.Keyword.TheVariants as k
-use Rattle.edif_keywords.specs.Keywords.{same_keyword}
+use Rattle.edif_values.specs.declared.token.Token.{Token}
+use Rattle.edif_values.specs.declared.token.Token.TheVariants as token
+use Rattle.edif_values.specs.declared.keyword.Keyword.{Keyword}
+use Rattle.edif_values.specs.declared.keyword.Keyword.TheVariants as k
+use Rattle.edif_values.specs.Keywords.{same_keyword}
 use Rattle.edif_keywords.specs.Language.{Edif}
 use Rattle.edif_keywords.specs.Grammar.{word, string, integer, opening, closing, comment, begin, item, items, form_or}
-use Rattle.edif_status.specs.declared.user.UserTree.{UserTree}
-use Rattle.edif_status.specs.declared.user.UserTree.TheVariants as tree
-use Rattle.edif_status.specs.declared.user.UserData.{UserData}
-use Rattle.edif_status.specs.declared.note.Note.{Note}
-use Rattle.edif_status.specs.declared.note.Note.TheVariants as notes
-use Rattle.edif_status.specs.declared.written.Stamp.{Stamp}
-use Rattle.edif_status.specs.declared.written.WrittenItem.{WrittenItem}
-use Rattle.edif_status.specs.declared.written.WrittenItem.TheVariants as written_items
-use Rattle.edif_status.specs.declared.written.Written.{Written}
-use Rattle.edif_status.specs.declared.status.StatusItem.{StatusItem}
-use Rattle.edif_status.specs.declared.status.StatusItem.TheVariants as status_items
-use Rattle.edif_status.specs.declared.status.Status.{Status}
+use Rattle.edif_values.specs.declared.user.UserTree.{UserTree}
+use Rattle.edif_values.specs.declared.user.UserTree.TheVariants as tree
+use Rattle.edif_values.specs.declared.user.UserData.{UserData}
+use Rattle.edif_values.specs.declared.note.Note.{Note}
+use Rattle.edif_values.specs.declared.note.Note.TheVariants as notes
+use Rattle.edif_values.specs.declared.written.Stamp.{Stamp}
+use Rattle.edif_values.specs.declared.written.WrittenItem.{WrittenItem}
+use Rattle.edif_values.specs.declared.written.WrittenItem.TheVariants as written_items
+use Rattle.edif_values.specs.declared.written.Written.{Written}
+use Rattle.edif_values.specs.declared.status.StatusItem.{StatusItem}
+use Rattle.edif_values.specs.declared.status.StatusItem.TheVariants as status_items
+use Rattle.edif_values.specs.declared.status.Status.{Status}
 
 -- ---- user data
 

@@ -13,7 +13,9 @@ pub mod status;
 pub mod user;
 pub mod written;
 
-pub use note::{Note, read_note};
-pub use status::{Status, StatusItem, read_status};
-pub use user::{UserData, UserTree, read_user};
-pub use written::{Stamp, Written, WrittenItem};
+pub use edif_values::{
+    Note, Stamp, Status, StatusItem, UserData, UserTree, Written, WrittenItem,
+};
+pub use note::read_note;
+pub use status::read_status;
+pub use user::read_user;

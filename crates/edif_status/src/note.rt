@@ -3,19 +3,12 @@ ghost use Rattle.readers.specs.Readers.{same, Reads};
 ghost use Rattle.edif_keywords.specs.Language.{edif};
 ghost use Rattle.edif_status.specs.Grammar.{remark, user_note, note};
 
-use crate::user::{UserData, read_user};
-use edif_keywords::keyword::same_keyword;
-use edif_keywords::{Cursor, Keyword, read_comment};
-use nl_base::{ReadError, Seq, Text};
+use crate::user::read_user;
+use edif_keywords::{Cursor, read_comment};
+use edif_values::{Keyword, Note, same_keyword};
+use nl_base::ReadError;
 use nl_io::Source;
 use std::alloc::Global;
-
-/// A remark that changes nothing.
-#[derive(Drop)]
-pub enum Note {
-    Comment(Seq<Text>),
-    User(UserData),
-}
 
 /// Reads on after the keyword of a note, which is `comment` or `userData`.
 #[tactic(auto, using(readers::proofs::Reading::sequences))]

@@ -4,26 +4,13 @@ ghost use Rattle.readers.specs.Readers.{same, Reads};
 ghost use Rattle.edif_keywords.specs.Language.{edif};
 ghost use Rattle.edif_status.specs.Grammar.{status_written, status_note, status_item, status_part, status_rest, status};
 
-use crate::note::{Note, read_note};
-use crate::written::{Written, read_written};
-use edif_keywords::keyword::same_keyword;
-use edif_keywords::{Cursor, Keyword};
+use crate::note::read_note;
+use crate::written::read_written;
+use edif_keywords::Cursor;
+use edif_values::{Keyword, Note, Status, StatusItem, Written, same_keyword};
 use nl_base::{ReadError, Seq};
 use nl_io::Source;
 use std::alloc::Global;
-
-/// A part of a status.
-#[derive(Drop)]
-pub enum StatusItem {
-    Written(Written),
-    Note(Note),
-}
-
-/// The history of an object (EDIF 2 0 0, status).
-#[derive(Drop)]
-pub struct Status {
-    pub items: Seq<StatusItem>,
-}
 
 /// Reads on after the keyword `status`.
 #[tactic(auto, using(readers::proofs::Reading::sequences), unfolding(crate::specs::Grammar::status))]

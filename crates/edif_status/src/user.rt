@@ -5,26 +5,11 @@ ghost use Rattle.edif_keywords.specs.Language.{edif};
 ghost use Rattle.edif_status.specs.Grammar.{begins_tree, has_number, plain, leaf, trees, user_tree, user_list, user};
 
 use edif_keywords::Cursor;
-use edif_tokens::{Found, Token};
-use nl_base::{Ident, Int, ReadError, Reason, Seq, Text};
+use edif_tokens::Found;
+use edif_values::{Token, UserData, UserTree};
+use nl_base::{ReadError, Reason, Seq};
 use nl_io::Source;
 use std::alloc::Global;
-
-/// A tree in user data: a word, a number, a string, or a list of trees (EDIF 2 0 0, userData).
-#[derive(Drop)]
-pub enum UserTree {
-    Word(Ident),
-    Number(Int),
-    Str(Text),
-    List(Seq<UserTree>),
-}
-
-/// Data of a tool of its own, which no rule looks at. Its lists are at most 64 deep.
-#[derive(Drop)]
-pub struct UserData {
-    pub name: Ident,
-    pub trees: Seq<UserTree>,
-}
 
 /// Reads on after the keyword `userData`: a name, and trees whose lists are at most 64 deep.
 #[tactic(auto, using(readers::proofs::Reading::sequences), unfolding(crate::specs::Grammar::user))]

@@ -4,39 +4,12 @@ ghost use Rattle.readers.specs.Readers.{same, Reads};
 ghost use Rattle.edif_keywords.specs.Language.{edif};
 ghost use Rattle.edif_status.specs.Grammar.{clock, stamp, version_text, no_version, maybe_version, author, program, data_origin, written_note, written_item, written_part, written_rest, written};
 
-use crate::note::{Note, read_note};
-use edif_keywords::keyword::same_keyword;
-use edif_keywords::{Cursor, Keyword};
+use crate::note::read_note;
+use edif_keywords::Cursor;
+use edif_values::{Keyword, Note, Stamp, Written, WrittenItem, same_keyword};
 use nl_base::{Int, ReadError, Seq, Text};
 use nl_io::Source;
 use std::alloc::Global;
-
-/// When a text was written (EDIF 2 0 0, timeStamp). The numbers are kept as they stand.
-#[derive(Drop)]
-pub struct Stamp {
-    pub year: Int,
-    pub month: Int,
-    pub day: Int,
-    pub hour: Int,
-    pub minute: Int,
-    pub second: Int,
-}
-
-/// What is told of a writing: its author, program or origin, the last two with an optional version.
-#[derive(Drop)]
-pub enum WrittenItem {
-    Author(Text),
-    Program(Text, Option<Text>),
-    DataOrigin(Text, Option<Text>),
-    Note(Note),
-}
-
-/// One writing of an object (EDIF 2 0 0, written).
-#[derive(Drop)]
-pub struct Written {
-    pub stamp: Stamp,
-    pub items: Seq<WrittenItem>,
-}
 
 /// Reads on after the keyword `written`: a time stamp, and what is told of the writing.
 #[tactic(auto, using(readers::proofs::Reading::sequences), unfolding(crate::specs::Grammar::written))]

@@ -12,8 +12,8 @@ use Rattle.nl_base.specs.declared.fault.Reason.TheVariants.{EndOfInput, BadByte,
 use Rattle.nl_bytes.specs.Bytes.{first}
 use Rattle.nl_bytes.specs.Classes.{is_space, is_word_byte, is_string_byte}
 use Rattle.nl_bytes.proofs.Fronts.{front-all}
-use Rattle.edif_tokens.specs.declared.token.Token.{Token}
-use Rattle.edif_tokens.specs.declared.token.Token.TheVariants.{Word, Number, Str}
+use Rattle.edif_values.specs.declared.token.Token.{Token}
+use Rattle.edif_values.specs.declared.token.Token.TheVariants.{Word, Number, Str}
 use Rattle.edif_tokens.specs.declared.scan.Start.{Start}
 use Rattle.edif_tokens.specs.declared.scan.Start.TheVariants.{Open, Close, Quote, Letter, Ampersand, Digit, Sign, Other}
 use Rattle.edif_tokens.specs.Flaws.{Piece, Flaw, flaw, ◌>>=◌}

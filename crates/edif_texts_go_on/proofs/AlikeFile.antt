@@ -4,12 +4,12 @@ use Rattle.grammar.specs.Whole.{Terminal, proper, end, end_of, the_end, whole}
 use Rattle.grammar_alike.specs.Alike.{Respects}
 use Rattle.nl_base.specs.declared.place.Place.{Place}
 use Rattle.edif_tokens.specs.declared.token.Found.{Found}
-use Rattle.edif_keywords.specs.declared.keyword.Keyword.{Keyword}
-use Rattle.edif_keywords.specs.declared.keyword.Keyword.TheVariants as k
-use Rattle.edif_keywords.specs.Keywords.{same_keyword}
+use Rattle.edif_values.specs.declared.keyword.Keyword.{Keyword}
+use Rattle.edif_values.specs.declared.keyword.Keyword.TheVariants as k
+use Rattle.edif_values.specs.Keywords.{same_keyword}
 use Rattle.edif_keywords.specs.Reasons as say
 use Rattle.edif_keywords.specs.Reasons.{trailing}
-use Rattle.edif_names.specs.declared.name.NameDef.{NameDef}
+use Rattle.edif_values.specs.declared.name.NameDef.{NameDef}
 use Rattle.edif_status.specs.Grammar.{note}
 use Rattle.edif_library.specs.Grammar.{cell, cell_item, cell_note, cell_property, cell_ref, cell_rest, cell_status, cell_type, cell_view, contents_instance, contents_item, contents_net, contents_note, contents_rest, design, design_item, design_note, design_property, design_rest, design_status, file, file_body, file_design, file_item, file_library, file_note, file_rest, file_status, interface, interface_designator, interface_item, interface_note, interface_port, interface_property, interface_rest, kind_words, library, library_cell, library_item, library_note, library_ref, library_rest, library_status, netlist, notes_rest, number_definition, scale, scales_rest, technology, unit, view, view_contents, view_item, view_note, view_property, view_rest, view_status}
 use Rattle.edif_texts_go_on.proofs.AlikeParts.{SameToken, Alike, one_alike, either_alike, word_alike, closing_alike, choice_alike, begin_alike, items_alike, level_alike, header_alike}

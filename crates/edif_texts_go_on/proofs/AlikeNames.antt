@@ -1,13 +1,13 @@
 -- The productions of names, properties, user data, notes and status depend on no place.
 use Rattle.std.proofs.Common.{ℕ, zero, suc, Bool, true, false, List, []}
 use Rattle.grammar.specs.Part.{gives, sequence}
-use Rattle.edif_keywords.specs.declared.keyword.Keyword.{Keyword}
-use Rattle.edif_keywords.specs.declared.keyword.Keyword.TheVariants as k
-use Rattle.edif_keywords.specs.Keywords.{same_keyword}
+use Rattle.edif_values.specs.declared.keyword.Keyword.{Keyword}
+use Rattle.edif_values.specs.declared.keyword.Keyword.TheVariants as k
+use Rattle.edif_values.specs.Keywords.{same_keyword}
 use Rattle.edif_keywords.specs.Language.{Edif}
 use Rattle.edif_keywords.specs.Grammar.{closing}
 use Rattle.edif_names.specs.Grammar.{renamed, plain, name, array, renamed_port, plain_port, port_form, port_name, exponential, whole, scaled, string_value, integer_value, number_value, boolean_value, value_form, value, owner, remark as tail_remark, tail_form, tails, property}
-use Rattle.edif_status.specs.declared.user.UserTree.{UserTree}
+use Rattle.edif_values.specs.declared.user.UserTree.{UserTree}
 use Rattle.edif_status.specs.Grammar.{TreeStart, Whole, Opens, tree_of, tree_rest, trees_by, trees, user, remark, user_note, note, clock, stamp, version_text, no_version, maybe_version, author, program, data_origin, written_note, written_item, written_rest, written, status_written, status_note, status_item, status_rest, status}
 use Rattle.edif_texts_go_on.proofs.AlikeParts.{Alike, while_alike, either_alike, word_alike, string_alike, integer_alike, closing_alike, begin_alike, end_alike, form_or_alike, items_alike, comment_alike}
 

@@ -1,8 +1,8 @@
 -- The productions of ports, instances and nets depend on no place.
 use Rattle.std.proofs.Common.{[]}
-use Rattle.edif_keywords.specs.declared.keyword.Keyword.{Keyword}
-use Rattle.edif_keywords.specs.declared.keyword.Keyword.TheVariants as k
-use Rattle.edif_keywords.specs.Keywords.{same_keyword}
+use Rattle.edif_values.specs.declared.keyword.Keyword.{Keyword}
+use Rattle.edif_values.specs.declared.keyword.Keyword.TheVariants as k
+use Rattle.edif_values.specs.Keywords.{same_keyword}
 use Rattle.edif_nets.specs.Grammar.{designator, direction_words, direction, port_property, port_designator, port_note, port_item, port_rest, port, library_named, no_library, maybe_library, cell_ref, view_ref, instance_property, instance_designator, instance_note, instance_item, instance_rest, instance, member, whole_port, port_or_member, instance_named, no_instance, maybe_instance, port_ref, joined_rest, joined, net_property, net_note, net_item, net_rest, net}
 use Rattle.edif_texts_go_on.proofs.AlikeParts.{Alike, either_alike, word_alike, string_alike, integer_alike, closing_alike, choice_alike, begin_alike, form_or_alike, items_alike}
 use Rattle.edif_texts_go_on.proofs.AlikeNames.{name_alike, port_name_alike, property_alike, note_alike}

@@ -17,15 +17,15 @@ use Rattle.nl_bytes.specs.declared.bytes.TheConstants.{LIMIT}
 use Rattle.readers.specs.Parts.{PartOf}
 use Rattle.readers.specs.Readers.{fault_at}
 use Rattle.edif_tokens.specs.declared.token.Found.{Found}
-use Rattle.edif_tokens.specs.declared.token.Token.{Token}
-use Rattle.edif_tokens.specs.Proper.{AreBytes, IsProper}
+use Rattle.edif_values.specs.declared.token.Token.{Token}
+use Rattle.edif_values.specs.Proper.{AreBytes, IsProper}
 use Rattle.edif_tokens.specs.Streams.{Stream, ends, follow, limited_from}
 use Rattle.edif_tokens.specs.Streams as streams
 use Rattle.edif_tokens.specs.Stream.{stop_of, stream_from, tokens_from, tokens, all_tokens}
 use Rattle.edif_keywords.specs.Aliases.{Alias}
 use Rattle.edif_keywords.specs.Language.{edif, ahead_of, last, finish_of}
 use Rattle.edif_keywords.specs.Reasons.{trailing}
-use Rattle.edif_library.specs.declared.file.EdifFile.{EdifFile}
+use Rattle.edif_values.specs.declared.file.EdifFile.{EdifFile}
 use Rattle.edif_library.specs.Grammar.{file}
 use Rattle.edif_library.specs.Text.{EdifFault}
 use Rattle.edif_rereading.specs.Whole.{EdifSpells}

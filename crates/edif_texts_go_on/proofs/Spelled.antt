@@ -6,9 +6,9 @@ use Rattle.std.specs.List.{AllByRecursion, list_all}
 use Rattle.std.proofs.lemmas.Bool.Decides.{nat_tests}
 use Rattle.std.proofs.lemmas.Fmt.{decimal_by_steps}
 use Rattle.nl_base.specs.Identifiers.{is_letter, is_word_byte, is_identifier}
-use Rattle.edif_tokens.specs.declared.token.Token.{Token}
-use Rattle.edif_tokens.specs.declared.token.Token.TheVariants.{LeftParen, RightParen, Word, Number, Str}
-use Rattle.edif_tokens.specs.Proper.{AreBytes, IsProper}
+use Rattle.edif_values.specs.declared.token.Token.{Token}
+use Rattle.edif_values.specs.declared.token.Token.TheVariants.{LeftParen, RightParen, Word, Number, Str}
+use Rattle.edif_values.specs.Proper.{AreBytes, IsProper}
 use Rattle.edif_writer.specs.Strings.{is_plain, written, quoted}
 use Rattle.edif_lexing.specs.Lexing.{Lexes}
 use Rattle.edif_lexing.proofs.Lexing.{Parts, lexes_end, lexes_space, lexes_open, lexes_close, lexes_word, lexes_number}

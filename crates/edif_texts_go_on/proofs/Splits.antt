@@ -6,7 +6,7 @@ use Rattle.nl_base.specs.Place.{place_after, place_past}
 use Rattle.nl_base.proofs.Places.{place_past-append}
 use Rattle.nl_bytes.specs.Classes.{is_space}
 use Rattle.edif_tokens.specs.declared.token.Found.{Found}
-use Rattle.edif_tokens.specs.declared.token.Token.{Token}
+use Rattle.edif_values.specs.declared.token.Token.{Token}
 use Rattle.edif_tokens.specs.Flaws.{Piece, Flaw}
 use Rattle.edif_tokens.specs.Spelling.{token_at, start_of}
 use Rattle.edif_tokens.specs.Streams.{Stream, follow}

@@ -6,9 +6,9 @@ use Rattle.nl_bytes.specs.declared.bytes.TheConstants.{LIMIT}
 use Rattle.edif_tokens.specs.declared.token.Found.{Found}
 use Rattle.edif_tokens.specs.Streams.{Finish, End, Bad, Over}
 use Rattle.edif_tokens.specs.Stream.{all_tokens, tokens}
-use Rattle.edif_tokens.specs.Proper.{AreBytes}
+use Rattle.edif_values.specs.Proper.{AreBytes}
 use Rattle.edif_lexing.specs.Lexing.{EndsWell}
-use Rattle.edif_library.specs.declared.file.EdifFile.{EdifFile}
+use Rattle.edif_values.specs.declared.file.EdifFile.{EdifFile}
 use Rattle.edif_library.specs.Text.{EdifReads}
 use Rattle.edif_rereading.specs.Whole.{EdifSpells}
 

@@ -11,7 +11,7 @@ use Rattle.nl_bytes.proofs.Uses.{Uses-trans}
 use Rattle.nl_bytes.proofs.Known.{Uses-known}
 use Rattle.edif_tokens.specs.declared.lexeme.Spanned.{Spanned}
 use Rattle.edif_tokens.specs.declared.token.Found.{Found}
-use Rattle.edif_tokens.specs.declared.token.Token.{Token}
+use Rattle.edif_values.specs.declared.token.Token.{Token}
 use Rattle.edif_tokens.specs.Spelling.{Piece, Flaw, ◌>>=◌, span_at, text_of, text_at}
 use Rattle.edif_tokens.specs.Stream.{found_at}
 use Rattle.edif_tokens.specs.Scan.{Answers, seen_of, IsLed, Leads, Spans, Begins, ReadsText}

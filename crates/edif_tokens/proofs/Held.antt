@@ -22,8 +22,8 @@ use Rattle.nl_base.specs.declared.fault.Reason.TheVariants.{NumberRange}
 use Rattle.nl_base.specs.declared.fault.ReadError.TheVariants.{NoMemory, TooLong}
 use Rattle.nl_base.specs.Place.{place_after}
 use Rattle.edif_tokens.specs.declared.token.Found.{Found}
-use Rattle.edif_tokens.specs.declared.token.Token.{Token}
-use Rattle.edif_tokens.specs.declared.token.Token.TheVariants.{Word, Number, Str}
+use Rattle.edif_values.specs.declared.token.Token.{Token}
+use Rattle.edif_values.specs.declared.token.Token.TheVariants.{Word, Number, Str}
 use Rattle.edif_tokens.proofs.Quoted.{Steps, string_given}
 use Rattle.edif_tokens.proofs.Strings.{plain_part}
 use Rattle.edif_tokens.specs.declared.lexeme.Spanned.{Spanned}

@@ -19,7 +19,7 @@ use Rattle.nl_bytes.proofs.Fronts.{front-all}
 use Rattle.edif_tokens.specs.declared.scan.Start.{Start}
 use Rattle.edif_tokens.specs.declared.scan.Start.TheVariants.{Letter}
 use Rattle.edif_tokens.specs.declared.token.Found.{Found}
-use Rattle.edif_tokens.specs.declared.token.Token.TheVariants.{Word}
+use Rattle.edif_values.specs.declared.token.Token.TheVariants.{Word}
 use Rattle.edif_tokens.specs.Spelling.{may_follow, is_parenthesis, start_of, token_by, word_spelled}
 use Rattle.edif_tokens.specs.Scan.{IsLed, IsWhole, Reads}
 use Rattle.edif_tokens.specs.Streams.{State}

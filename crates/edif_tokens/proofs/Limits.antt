@@ -11,7 +11,7 @@ use Rattle.nl_bytes.specs.declared.bytes.TheConstants.{LIMIT}
 use Rattle.nl_bytes.specs.Bytes.{first}
 use Rattle.nl_bytes.specs.Classes.{is_space, is_word_byte}
 use Rattle.edif_tokens.specs.declared.token.Found.{Found}
-use Rattle.edif_tokens.specs.declared.token.Token.{Token}
+use Rattle.edif_values.specs.declared.token.Token.{Token}
 use Rattle.edif_tokens.specs.declared.scan.Start.{Start}
 use Rattle.edif_tokens.specs.declared.scan.Start.TheVariants.{Open, Close, Quote, Letter, Ampersand, Digit, Sign, Other}
 use Rattle.edif_tokens.specs.Strings.{Within, Parts, Escape, Code, string_at}

@@ -13,14 +13,15 @@ use Rattle.nl_bytes.specs.Classes.{is_space, is_word_byte, is_string_byte}
 use Rattle.nl_bytes.proofs.Fronts.{front-all}
 use Rattle.nl_bytes.proofs.Uses.{AllByRecursion-push}
 use Rattle.edif_tokens.specs.declared.token.Found.{Found}
-use Rattle.edif_tokens.specs.declared.token.Token.{Token}
+use Rattle.edif_values.specs.declared.token.Token.{Token}
 use Rattle.edif_tokens.specs.declared.scan.Start.{Start}
 use Rattle.edif_tokens.specs.declared.scan.Start.TheVariants.{Open, Close, Quote, Letter, Ampersand, Digit, Sign, Other}
 use Rattle.edif_tokens.specs.Strings.{Within, Parts, Escape, Code, string_at, is_full}
 use Rattle.edif_tokens.specs.Spelling.{Piece, Flaw, flaw, ◌>>=◌, span_at, text_of, ended, may_follow, text_at, token_by, token_at, start_of, begins_word, number_or_range, integer_of, number_of, str_of, word_of, decimal_value}
 use Rattle.edif_tokens.specs.Streams.{Finish, Over, Stream, ends, follow, limited, limited_from}
 use Rattle.edif_tokens.specs.Stream.{stop_of, stream_from, tokens_from, then_tokens}
-use Rattle.edif_tokens.specs.Proper.{AreBytes, IsProper, AreProper}
+use Rattle.edif_values.specs.Proper.{AreBytes, IsProper}
+use Rattle.edif_tokens.specs.Proper.{AreProper}
 use Rattle.edif_tokens.proofs.Words.{identifier_of, letter_begins, ampersand_begins}
 
 -- ---- words and integers

@@ -7,8 +7,8 @@ use Rattle.nl_bytes.specs.Bytes.{Window, Uses}
 use Rattle.nl_bytes.proofs.Uses.{Uses-byte, Uses-trans}
 use Rattle.nl_bytes.proofs.Known.{Uses-known}
 use Rattle.edif_tokens.specs.declared.token.Found.{Found}
-use Rattle.edif_tokens.specs.declared.token.Token.{Token}
-use Rattle.edif_tokens.specs.declared.token.Token.TheVariants.{Str}
+use Rattle.edif_values.specs.declared.token.Token.{Token}
+use Rattle.edif_values.specs.declared.token.Token.TheVariants.{Str}
 use Rattle.edif_tokens.specs.Flaws.{Piece, Flaw, ◌>>=◌}
 use Rattle.edif_tokens.specs.Strings.{Parts, string_at}
 use Rattle.edif_tokens.specs.Spelling.{string_spelled, str_of}

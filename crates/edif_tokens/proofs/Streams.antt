@@ -17,7 +17,7 @@ use Rattle.nl_io.specs.Sources.{left_past}
 use Rattle.nl_bytes.proofs.Uses.{Uses-trans}
 use Rattle.nl_bytes.proofs.Known.{Uses-known, IsAhead-known}
 use Rattle.edif_tokens.specs.declared.token.Found.{Found}
-use Rattle.edif_tokens.specs.declared.token.Token.{Token}
+use Rattle.edif_values.specs.declared.token.Token.{Token}
 use Rattle.edif_tokens.specs.Spelling.{Piece, Flaw, token_at, token_by, start_of}
 use Rattle.edif_tokens.specs.Streams.{Tells, TellsKnown}
 use Rattle.edif_tokens.specs.Streams.{Stream, End, Over, ends, follow, limited}

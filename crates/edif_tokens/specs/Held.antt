@@ -6,8 +6,8 @@ use Rattle.nl_base.specs.Place.{place_past}
 use Rattle.nl_bytes.specs.declared.bytes.TheConstants.{LIMIT}
 use Rattle.nl_bytes.specs.Classes.{is_space, is_word_byte}
 use Rattle.nl_bytes.specs.Bytes.{Window, given}
-use Rattle.edif_tokens.specs.declared.token.Token.{Token}
-use Rattle.edif_tokens.specs.declared.token.Token.TheVariants.{LeftParen, RightParen}
+use Rattle.edif_values.specs.declared.token.Token.{Token}
+use Rattle.edif_values.specs.declared.token.Token.TheVariants.{LeftParen, RightParen}
 use Rattle.edif_tokens.specs.Spelling.{may_follow, is_parenthesis}
 
 -- all bytes that are held lie within the limit of an input

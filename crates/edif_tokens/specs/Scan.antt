@@ -16,8 +16,8 @@ use Rattle.edif_tokens.specs.Spelling.{Piece, Flaw, span_at, may_follow, led, te
 use Rattle.edif_tokens.specs.Streams.{TellsKnown, Shortens, EndsInput}
 use Rattle.edif_tokens.specs.Stream.{fault_at, found_at, tokens_ahead}
 use Rattle.edif_tokens.specs.declared.token.Found.{Found}
-use Rattle.edif_tokens.specs.declared.token.Token.{Token}
-use Rattle.edif_tokens.specs.declared.token.Token.TheVariants.{Number}
+use Rattle.edif_values.specs.declared.token.Token.{Token}
+use Rattle.edif_values.specs.declared.token.Token.TheVariants.{Number}
 use Rattle.edif_tokens.specs.declared.lexeme.Spanned.{Spanned}
 
 abbrev pub refusal : Place → ℕ → Reason → ReadError

@@ -7,8 +7,8 @@ use Rattle.nl_bytes.specs.Classes.{is_space, is_word_byte}
 use Rattle.nl_bytes.specs.Bytes.{first}
 pub use Rattle.edif_tokens.specs.Flaws.{Piece, Flaw, ◌>>=◌, flaw}
 use Rattle.edif_tokens.specs.Strings.{Parts, string_at}
-use Rattle.edif_tokens.specs.declared.token.Token.{Token}
-use Rattle.edif_tokens.specs.declared.token.Token.TheVariants.{LeftParen, RightParen, Word, Number, Str}
+use Rattle.edif_values.specs.declared.token.Token.{Token}
+use Rattle.edif_values.specs.declared.token.Token.TheVariants.{LeftParen, RightParen, Word, Number, Str}
 use Rattle.edif_tokens.specs.declared.scan.Start.{Start}
 use Rattle.edif_tokens.specs.declared.scan.Start.TheVariants.{Open, Close, Quote, Letter, Ampersand, Digit, Sign, Other}
 

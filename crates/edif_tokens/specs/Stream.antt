@@ -6,7 +6,7 @@ use Rattle.nl_base.specs.Place.{place_after, place_past, place_at_start}
 use Rattle.nl_bytes.specs.Classes.{is_space}
 use Rattle.nl_bytes.specs.Bytes.{Window}
 use Rattle.edif_tokens.specs.declared.token.Found.{Found}
-use Rattle.edif_tokens.specs.declared.token.Token.{Token}
+use Rattle.edif_values.specs.declared.token.Token.{Token}
 use Rattle.edif_tokens.specs.Spelling.{Piece, Flaw, token_at}
 use Rattle.nl_base.specs.declared.fault.ReadError.{ReadError}
 use Rattle.edif_tokens.specs.Streams.{End, Bad, Stream, State, Reads, ends, follow, limited, stream_ahead}

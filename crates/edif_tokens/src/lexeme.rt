@@ -11,8 +11,9 @@ ghost use Rattle.edif_tokens.specs.Scan.{number_found};
 
 use crate::scan::{Start, integer_of, refuse, span, start_of};
 use crate::string::string;
-use crate::token::{Found, Token};
+use crate::token::Found;
 use crate::whole::{held_length, held_number, held_quoted, held_string, held_word, mark};
+use edif_values::Token;
 use nl_base::{Ident, Place, ReadError, Reason, Text};
 use nl_bytes::bytes::LIMIT;
 use nl_bytes::{Bytes, Class};

@@ -7,7 +7,8 @@ ghost use Rattle.edif_tokens.specs.Scan.{ReadsPart, Reads};
 ghost use Rattle.edif_tokens.specs.Spelling.{string_spelled};
 
 use crate::scan::refuse;
-use crate::token::{Found, Token};
+use crate::token::Found;
+use edif_values::Token;
 use nl_base::{Place, ReadError, Reason, Text};
 use nl_bytes::bytes::LIMIT;
 use nl_bytes::{Bytes, Class, Halt};

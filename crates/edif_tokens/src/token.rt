@@ -1,14 +1,5 @@
-use nl_base::{Ident, Int, Place, Text};
-
-/// A token.
-#[derive(Drop)]
-pub enum Token {
-    LeftParen,
-    RightParen,
-    Word(Ident),
-    Number(Int),
-    Str(Text),
-}
+use edif_values::Token;
+use nl_base::Place;
 
 /// A token, the place of its first byte, and the offset just past the byte that shows its end.
 #[derive(Drop)]

@@ -29,7 +29,7 @@ impl Model for Tokens {
 }
 
 impl Tokens {
-    ghost use Rattle.edif_tokens.specs.declared.token.Token.TheVariants.{Word};
+    ghost use Rattle.edif_values.specs.declared.token.Token.TheVariants.{Word};
     ghost use Rattle.edif_tokens.specs.Stream.{ReadsToken, fresh};
     ghost use Rattle.edif_tokens.specs.Held.{held_mark, mark_token, past_mark, held_word, past_word};
 

@@ -8,7 +8,8 @@ ghost use Rattle.edif_tokens.specs.Scan.{number_found};
 
 use crate::lexeme::{number_found, word_of};
 use crate::scan::may_follow;
-use crate::token::{Found, Token};
+use crate::token::Found;
+use edif_values::Token;
 use nl_base::{ReadError, Text};
 use nl_bytes::bytes::LIMIT;
 use nl_bytes::{Bytes, Class};

@@ -3,10 +3,9 @@ use Rattle.std.proofs.Common.{◌⊎◌, inl, inr, ℕ, ◌≤◌, Bool, true, f
 use Rattle.std.specs.Prelude.{slice_get}
 use Rattle.std.specs.List.{AllByRecursion}
 use Rattle.std.specs.Option.{option_map_or}
-use Rattle.edif_keywords.specs.Values.{IsString, IsWord}
-use Rattle.edif_library.specs.declared.cell.Cell.{Cell}
-use Rattle.edif_names.specs.Values.{IsNameDef}
-use Rattle.edif_names.specs.declared.name.NameDef.{NameDef}
+use Rattle.edif_values.specs.Values.{IsString, IsWord, IsNameDef}
+use Rattle.edif_values.specs.declared.cell.Cell.{Cell}
+use Rattle.edif_values.specs.declared.name.NameDef.{NameDef}
 use Rattle.edif_naming.specs.Naming.{name_for}
 use Rattle.edif_naming.specs.Sound.{AreSoundProps, IsSoundProp}
 use Rattle.edif_naming.proofs.SoundLaws.{short_string, sound_name}
@@ -16,7 +15,7 @@ use Rattle.edif_plans.specs.Plans.{head_at, head_of}
 use Rattle.edif_plans.specs.Sound.{AreStems, IsSoundCell, IsSoundDesign, IsStem}
 use Rattle.edif_plans.specs.declared.head.Head.{Head}
 use Rattle.edif_plans.specs.declared.plan.Plan.{Plan}
-use Rattle.edif_rereading.specs.Values as values
+use Rattle.edif_values.specs.Values as values
 use Rattle.edif_written.specs.Written.{file_of}
 use Rattle.net_bits.specs.Classes.{ClassTable}
 use Rattle.net_hier.specs.Constants.{ConstantNames, name_of_constant}

@@ -1,24 +1,20 @@
 -- The parts of a file that is written are values.
 use Rattle.std.proofs.Common.{◌≡◌, ℕ, ◌≤◌, List, [], ◌∷◌, filter, length, map, refl, sym, subst, arith}
 use Rattle.std.specs.List.{AllByRecursion}
-use Rattle.edif_keywords.specs.Values.{IsString, IsWord}
-use Rattle.edif_names.specs.Values.{IsNameDef, IsProperty}
-use Rattle.edif_names.specs.declared.name.NameDef.{NameDef}
-use Rattle.edif_names.specs.declared.property.Property.{Property}
-use Rattle.edif_nets.specs.Directions.{directions, told}
-use Rattle.edif_nets.specs.Values.{IsInstance, IsNet, IsPort}
-use Rattle.edif_nets.specs.declared.instance.Instance.{Instance}
-use Rattle.edif_nets.specs.declared.net.Net.{Net}
-use Rattle.edif_nets.specs.declared.port.Port.{Port}
-use Rattle.edif_library.specs.Grammar.{is_contents, is_view}
-use Rattle.edif_library.specs.declared.cell.Cell.{Cell}
-use Rattle.edif_library.specs.declared.cell.CellItem.TheVariants as cell_items
-use Rattle.edif_library.specs.declared.library.LibraryItem.TheVariants as library_items
-use Rattle.edif_library.specs.declared.view.ContentsItem.{ContentsItem}
-use Rattle.edif_library.specs.declared.view.ContentsItem.TheVariants as contents_items
-use Rattle.edif_library.specs.declared.view.InterfaceItem.TheVariants as interface_items
+use Rattle.edif_values.specs.Values.{IsString, IsWord, IsNameDef, IsProperty, IsInstance, IsNet, IsPort, is_contents, is_view, IsCell, IsCellItem, IsContentsItem, IsEdifValue, IsInterfaceItem, IsLibraryItem, IsView, IsViewItem}
+use Rattle.edif_values.specs.declared.name.NameDef.{NameDef}
+use Rattle.edif_values.specs.declared.property.Property.{Property}
+use Rattle.edif_values.specs.Directions.{directions, told}
+use Rattle.edif_values.specs.declared.instance.Instance.{Instance}
+use Rattle.edif_values.specs.declared.net.Net.{Net}
+use Rattle.edif_values.specs.declared.port.Port.{Port}
+use Rattle.edif_values.specs.declared.cell.Cell.{Cell}
+use Rattle.edif_values.specs.declared.cell.CellItem.TheVariants as cell_items
+use Rattle.edif_values.specs.declared.library.LibraryItem.TheVariants as library_items
+use Rattle.edif_values.specs.declared.view.ContentsItem.{ContentsItem}
+use Rattle.edif_values.specs.declared.view.ContentsItem.TheVariants as contents_items
+use Rattle.edif_values.specs.declared.view.InterfaceItem.TheVariants as interface_items
 use Rattle.edif_naming.proofs.SoundLaws.{sound_name}
-use Rattle.edif_rereading.specs.Values.{IsCell, IsCellItem, IsContentsItem, IsEdifValue, IsInterfaceItem, IsLibraryItem, IsView, IsViewItem}
 use Rattle.edif_written.specs.Written.{cell_of, contents_items_of, contents_of, file_of, netlist, view_of, work}
 use Rattle.edif_plans.specs.Made.{output_for}
 use Rattle.edif_value_laws.proofs.Lists.{all_append, all_map}

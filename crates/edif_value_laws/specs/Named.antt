@@ -1,8 +1,8 @@
 -- Files whose cells are made under identifiers that can be written (EDIF 2 0 0, identifiers).
 use Rattle.std.specs.Prelude.{◌≡◌, ◌⊎◌, ℕ, ◌<◌, List, length, slice_get, Some}
 use Rattle.std.specs.List.{AllByRecursion}
-use Rattle.edif_keywords.specs.Values.{IsWord}
-use Rattle.edif_library.specs.declared.cell.Cell.{Cell}
+use Rattle.edif_values.specs.Values.{IsWord}
+use Rattle.edif_values.specs.declared.cell.Cell.{Cell}
 use Rattle.edif_partners.specs.Files.{IsNewCell, IsOldCell}
 use Rattle.edif_plans.specs.Plans.{head_at}
 use Rattle.edif_plans.specs.declared.head.Head.{Head}

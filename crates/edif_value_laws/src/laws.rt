@@ -1,13 +1,11 @@
 // The laws, as contracts of functions over the definitions alone.
 ghost use Rattle.std.specs.Prelude.{ℕ, List};
-ghost use Rattle.edif_keywords.specs.Values.{IsWord};
-ghost use Rattle.edif_library.specs.declared.cell.Cell.{Cell};
-ghost use Rattle.edif_names.specs.Values.{IsNameDef};
-ghost use Rattle.edif_names.specs.declared.name.NameDef.{NameDef};
+ghost use Rattle.edif_values.specs.Values.{IsWord, IsNameDef, IsEdifValue};
+ghost use Rattle.edif_values.specs.declared.cell.Cell.{Cell};
+ghost use Rattle.edif_values.specs.declared.name.NameDef.{NameDef};
 ghost use Rattle.edif_naming.specs.Naming.{name_for};
 ghost use Rattle.edif_plans.specs.Sound.{AreStems, IsSoundDesign};
 ghost use Rattle.edif_plans.specs.declared.plan.Plan.{Plan};
-ghost use Rattle.edif_rereading.specs.Values.{IsEdifValue};
 ghost use Rattle.edif_value_laws.specs.Named.{AreNamedCells};
 ghost use Rattle.edif_written.specs.Written.{file_of};
 ghost use Rattle.net_hier.specs.Constants.{ConstantNames};

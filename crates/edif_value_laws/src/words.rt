@@ -1,6 +1,6 @@
 // What identifiers and the names of constants keep.
 ghost use Rattle.std.specs.Prelude.{◌<◌, All};
-ghost use Rattle.edif_keywords.specs.Values.{IsWord};
+ghost use Rattle.edif_values.specs.Values.{IsWord};
 ghost use Rattle.edif_plans.specs.Sound.{AreStems, IsStem};
 ghost use Rattle.edif_value_laws.specs.Named.{HasWords};
 ghost use Rattle.net_hier.specs.Constants.{IsNameLength};

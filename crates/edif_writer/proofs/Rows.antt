@@ -4,26 +4,26 @@ use Rattle.std.specs.Prelude.{codes, pos, negsuc}
 use Rattle.std.specs.Fmt.{digits}
 use Rattle.nl_base.specs.declared.value.Dir.TheVariants as dir
 use Rattle.nl_base.specs.declared.value.PropValue.TheVariants as prop
-use Rattle.edif_names.specs.declared.name.NameDef.{NameDef}
-use Rattle.edif_names.specs.declared.name.PortName.TheVariants as port_name
-use Rattle.edif_names.specs.declared.property.PropTail.TheVariants as prop_tail
-use Rattle.edif_status.specs.declared.written.Stamp.{Stamp}
-use Rattle.edif_status.specs.declared.written.WrittenItem.TheVariants as written_item
-use Rattle.edif_status.specs.declared.status.StatusItem.TheVariants as status_item
-use Rattle.edif_status.specs.declared.status.Status.{Status}
-use Rattle.edif_nets.specs.declared.port.PortItem.TheVariants as port_item
-use Rattle.edif_nets.specs.declared.net.NetItem.TheVariants as net_item
-use Rattle.edif_nets.specs.declared.instance.InstanceItem.TheVariants as instance_item
-use Rattle.edif_library.specs.declared.view.View.{View}
-use Rattle.edif_library.specs.declared.cell.CellKind.TheVariants as kind
-use Rattle.edif_library.specs.declared.cell.CellItem.TheVariants as cell_item
-use Rattle.edif_library.specs.declared.cell.Cell.{Cell}
-use Rattle.edif_library.specs.declared.library.Scale.{Scale}
-use Rattle.edif_library.specs.declared.library.LibraryItem.TheVariants as library_item
-use Rattle.edif_library.specs.declared.library.Library.{Library}
-use Rattle.edif_library.specs.declared.file.Design.{Design}
-use Rattle.edif_library.specs.declared.file.FileItem.TheVariants as file_item
-use Rattle.edif_library.specs.declared.file.EdifFile.{EdifFile}
+use Rattle.edif_values.specs.declared.name.NameDef.{NameDef}
+use Rattle.edif_values.specs.declared.name.PortName.TheVariants as port_name
+use Rattle.edif_values.specs.declared.property.PropTail.TheVariants as prop_tail
+use Rattle.edif_values.specs.declared.written.Stamp.{Stamp}
+use Rattle.edif_values.specs.declared.written.WrittenItem.TheVariants as written_item
+use Rattle.edif_values.specs.declared.status.StatusItem.TheVariants as status_item
+use Rattle.edif_values.specs.declared.status.Status.{Status}
+use Rattle.edif_values.specs.declared.port.PortItem.TheVariants as port_item
+use Rattle.edif_values.specs.declared.net.NetItem.TheVariants as net_item
+use Rattle.edif_values.specs.declared.instance.InstanceItem.TheVariants as instance_item
+use Rattle.edif_values.specs.declared.view.View.{View}
+use Rattle.edif_values.specs.declared.cell.CellKind.TheVariants as kind
+use Rattle.edif_values.specs.declared.cell.CellItem.TheVariants as cell_item
+use Rattle.edif_values.specs.declared.cell.Cell.{Cell}
+use Rattle.edif_values.specs.declared.library.Scale.{Scale}
+use Rattle.edif_values.specs.declared.library.LibraryItem.TheVariants as library_item
+use Rattle.edif_values.specs.declared.library.Library.{Library}
+use Rattle.edif_values.specs.declared.file.Design.{Design}
+use Rattle.edif_values.specs.declared.file.FileItem.TheVariants as file_item
+use Rattle.edif_values.specs.declared.file.EdifFile.{EdifFile}
 use Rattle.edif_writer.specs.Strings.{is_plain, written}
 use Rattle.edif_writer.specs.Layout.{inline, laid}
 use Rattle.edif_writer.specs.Forms.{edif_text, instance_block, name_form, net_block, port_form, property_form, status_block, technology_form}

@@ -1,11 +1,11 @@
 -- The forms of trees of user data.
 use Rattle.std.proofs.Common.{◌≡◌, ℕ, List, sym, ap, ◌∙◌}
 use Rattle.std.specs.Prelude.{ℤ}
-use Rattle.edif_status.specs.declared.user.UserTree.{UserTree}
-use Rattle.edif_status.specs.declared.user.UserTree.TheFolds.{fold-roll-UserTree}
-use Rattle.edif_status.specs.declared.user.UserTree.TheOpen.{UserTree-F}
-use Rattle.edif_status.specs.declared.user.UserTree.TheVariants.{rolls-Word, rolls-Number, rolls-Str, rolls-List}
-use Rattle.edif_status.specs.declared.user.UserTree.TheVariants as tree
+use Rattle.edif_values.specs.declared.user.UserTree.{UserTree}
+use Rattle.edif_values.specs.declared.user.UserTree.TheFolds.{fold-roll-UserTree}
+use Rattle.edif_values.specs.declared.user.UserTree.TheOpen.{UserTree-F}
+use Rattle.edif_values.specs.declared.user.UserTree.TheVariants.{rolls-Word, rolls-Number, rolls-Str, rolls-List}
+use Rattle.edif_values.specs.declared.user.UserTree.TheVariants as tree
 use Rattle.edif_writer.specs.Layout.{Form, Word, Number, Str, Group, each}
 use Rattle.edif_writer.specs.Forms.{tree_step, tree_form}
 

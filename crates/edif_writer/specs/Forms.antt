@@ -1,63 +1,63 @@
 -- The written text of a file: the form of each value, a line for each.
 use Rattle.std.specs.Prelude.{ℕ, ℤ, pos, zero, suc, negsuc, Bool, List, [], Option, Some, None, codes, if◌then◌else◌}
-use Rattle.edif_keywords.specs.declared.keyword.Keyword.{Keyword}
-use Rattle.edif_keywords.specs.declared.keyword.Keyword.TheVariants as k
+use Rattle.edif_values.specs.declared.keyword.Keyword.{Keyword}
+use Rattle.edif_values.specs.declared.keyword.Keyword.TheVariants as k
 use Rattle.nl_base.specs.declared.number.Scaled.{Scaled}
 use Rattle.nl_base.specs.declared.value.Dir.{Dir}
 use Rattle.nl_base.specs.declared.value.Dir.TheVariants as dir
 use Rattle.nl_base.specs.declared.value.PropValue.{PropValue}
 use Rattle.nl_base.specs.declared.value.PropValue.TheVariants as prop
-use Rattle.edif_names.specs.declared.name.NameDef.{NameDef}
-use Rattle.edif_names.specs.declared.name.PortName.{PortName}
-use Rattle.edif_names.specs.declared.name.PortName.TheVariants as port_name
-use Rattle.edif_names.specs.declared.property.PropTail.{PropTail}
-use Rattle.edif_names.specs.declared.property.PropTail.TheVariants as prop_tail
-use Rattle.edif_names.specs.declared.property.Property.{Property}
-use Rattle.edif_status.specs.declared.user.UserTree.{UserTree}
-use Rattle.edif_status.specs.declared.user.UserTree.TheFolds.{fold-UserTree}
-use Rattle.edif_status.specs.declared.user.UserTree.TheOpen.{UserTree-F}
-use Rattle.edif_status.specs.declared.user.UserData.{UserData}
-use Rattle.edif_status.specs.declared.note.Note.{Note}
-use Rattle.edif_status.specs.declared.note.Note.TheVariants as noted
-use Rattle.edif_status.specs.declared.written.Stamp.{Stamp}
-use Rattle.edif_status.specs.declared.written.WrittenItem.{WrittenItem}
-use Rattle.edif_status.specs.declared.written.WrittenItem.TheVariants as written_item
-use Rattle.edif_status.specs.declared.written.Written.{Written}
-use Rattle.edif_status.specs.declared.status.StatusItem.{StatusItem}
-use Rattle.edif_status.specs.declared.status.StatusItem.TheVariants as status_item
-use Rattle.edif_status.specs.declared.status.Status.{Status}
-use Rattle.edif_nets.specs.declared.port.PortItem.{PortItem}
-use Rattle.edif_nets.specs.declared.port.PortItem.TheVariants as port_item
-use Rattle.edif_nets.specs.declared.port.Port.{Port}
-use Rattle.edif_nets.specs.declared.instance.InstanceItem.{InstanceItem}
-use Rattle.edif_nets.specs.declared.instance.InstanceItem.TheVariants as instance_item
-use Rattle.edif_nets.specs.declared.instance.Instance.{Instance}
-use Rattle.edif_nets.specs.declared.net.PortRef.{PortRef}
-use Rattle.edif_nets.specs.declared.net.NetItem.{NetItem}
-use Rattle.edif_nets.specs.declared.net.NetItem.TheVariants as net_item
-use Rattle.edif_nets.specs.declared.net.Net.{Net}
-use Rattle.edif_library.specs.declared.view.InterfaceItem.{InterfaceItem}
-use Rattle.edif_library.specs.declared.view.InterfaceItem.TheVariants as interface_item
-use Rattle.edif_library.specs.declared.view.ContentsItem.{ContentsItem}
-use Rattle.edif_library.specs.declared.view.ContentsItem.TheVariants as contents_item
-use Rattle.edif_library.specs.declared.view.ViewItem.{ViewItem}
-use Rattle.edif_library.specs.declared.view.ViewItem.TheVariants as view_item
-use Rattle.edif_library.specs.declared.view.View.{View}
-use Rattle.edif_library.specs.declared.cell.CellKind.{CellKind}
-use Rattle.edif_library.specs.declared.cell.CellKind.TheVariants as kind
-use Rattle.edif_library.specs.declared.cell.CellItem.{CellItem}
-use Rattle.edif_library.specs.declared.cell.CellItem.TheVariants as cell_item
-use Rattle.edif_library.specs.declared.cell.Cell.{Cell}
-use Rattle.edif_library.specs.declared.library.Scale.{Scale}
-use Rattle.edif_library.specs.declared.library.LibraryItem.{LibraryItem}
-use Rattle.edif_library.specs.declared.library.LibraryItem.TheVariants as library_item
-use Rattle.edif_library.specs.declared.library.Library.{Library}
-use Rattle.edif_library.specs.declared.file.DesignItem.{DesignItem}
-use Rattle.edif_library.specs.declared.file.DesignItem.TheVariants as design_item
-use Rattle.edif_library.specs.declared.file.Design.{Design}
-use Rattle.edif_library.specs.declared.file.FileItem.{FileItem}
-use Rattle.edif_library.specs.declared.file.FileItem.TheVariants as file_item
-use Rattle.edif_library.specs.declared.file.EdifFile.{EdifFile}
+use Rattle.edif_values.specs.declared.name.NameDef.{NameDef}
+use Rattle.edif_values.specs.declared.name.PortName.{PortName}
+use Rattle.edif_values.specs.declared.name.PortName.TheVariants as port_name
+use Rattle.edif_values.specs.declared.property.PropTail.{PropTail}
+use Rattle.edif_values.specs.declared.property.PropTail.TheVariants as prop_tail
+use Rattle.edif_values.specs.declared.property.Property.{Property}
+use Rattle.edif_values.specs.declared.user.UserTree.{UserTree}
+use Rattle.edif_values.specs.declared.user.UserTree.TheFolds.{fold-UserTree}
+use Rattle.edif_values.specs.declared.user.UserTree.TheOpen.{UserTree-F}
+use Rattle.edif_values.specs.declared.user.UserData.{UserData}
+use Rattle.edif_values.specs.declared.note.Note.{Note}
+use Rattle.edif_values.specs.declared.note.Note.TheVariants as noted
+use Rattle.edif_values.specs.declared.written.Stamp.{Stamp}
+use Rattle.edif_values.specs.declared.written.WrittenItem.{WrittenItem}
+use Rattle.edif_values.specs.declared.written.WrittenItem.TheVariants as written_item
+use Rattle.edif_values.specs.declared.written.Written.{Written}
+use Rattle.edif_values.specs.declared.status.StatusItem.{StatusItem}
+use Rattle.edif_values.specs.declared.status.StatusItem.TheVariants as status_item
+use Rattle.edif_values.specs.declared.status.Status.{Status}
+use Rattle.edif_values.specs.declared.port.PortItem.{PortItem}
+use Rattle.edif_values.specs.declared.port.PortItem.TheVariants as port_item
+use Rattle.edif_values.specs.declared.port.Port.{Port}
+use Rattle.edif_values.specs.declared.instance.InstanceItem.{InstanceItem}
+use Rattle.edif_values.specs.declared.instance.InstanceItem.TheVariants as instance_item
+use Rattle.edif_values.specs.declared.instance.Instance.{Instance}
+use Rattle.edif_values.specs.declared.net.PortRef.{PortRef}
+use Rattle.edif_values.specs.declared.net.NetItem.{NetItem}
+use Rattle.edif_values.specs.declared.net.NetItem.TheVariants as net_item
+use Rattle.edif_values.specs.declared.net.Net.{Net}
+use Rattle.edif_values.specs.declared.view.InterfaceItem.{InterfaceItem}
+use Rattle.edif_values.specs.declared.view.InterfaceItem.TheVariants as interface_item
+use Rattle.edif_values.specs.declared.view.ContentsItem.{ContentsItem}
+use Rattle.edif_values.specs.declared.view.ContentsItem.TheVariants as contents_item
+use Rattle.edif_values.specs.declared.view.ViewItem.{ViewItem}
+use Rattle.edif_values.specs.declared.view.ViewItem.TheVariants as view_item
+use Rattle.edif_values.specs.declared.view.View.{View}
+use Rattle.edif_values.specs.declared.cell.CellKind.{CellKind}
+use Rattle.edif_values.specs.declared.cell.CellKind.TheVariants as kind
+use Rattle.edif_values.specs.declared.cell.CellItem.{CellItem}
+use Rattle.edif_values.specs.declared.cell.CellItem.TheVariants as cell_item
+use Rattle.edif_values.specs.declared.cell.Cell.{Cell}
+use Rattle.edif_values.specs.declared.library.Scale.{Scale}
+use Rattle.edif_values.specs.declared.library.LibraryItem.{LibraryItem}
+use Rattle.edif_values.specs.declared.library.LibraryItem.TheVariants as library_item
+use Rattle.edif_values.specs.declared.library.Library.{Library}
+use Rattle.edif_values.specs.declared.file.DesignItem.{DesignItem}
+use Rattle.edif_values.specs.declared.file.DesignItem.TheVariants as design_item
+use Rattle.edif_values.specs.declared.file.Design.{Design}
+use Rattle.edif_values.specs.declared.file.FileItem.{FileItem}
+use Rattle.edif_values.specs.declared.file.FileItem.TheVariants as file_item
+use Rattle.edif_values.specs.declared.file.EdifFile.{EdifFile}
 use Rattle.edif_writer.specs.Layout.{Form, Word, Number, Str, Line, Group, Forms, none, more, Block, Flat, Deep, below, together, each, all, laid}
 
 -- `(keyword part)`

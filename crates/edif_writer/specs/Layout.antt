@@ -1,8 +1,8 @@
 -- Forms, and how they are laid out in a text.
 use Rattle.std.specs.Prelude.{ℕ, Bool, true, false, ℤ, ◌+◌, List, [], ◌∷◌, ◌++◌, map, replicate}
 use Rattle.std.specs.Fmt.{signed_decimal}
-use Rattle.edif_keywords.specs.declared.keyword.Keyword.{Keyword}
-use Rattle.edif_keywords.specs.Keywords.{spelling}
+use Rattle.edif_values.specs.declared.keyword.Keyword.{Keyword}
+use Rattle.edif_values.specs.Keywords.{spelling}
 use Rattle.edif_writer.specs.Strings.{quoted}
 
 mutual

@@ -1,12 +1,12 @@
 ghost use Rattle.edif_writer.specs.Forms.{cell_block, cell_item_block, contents_item_block, interface_item_block, kind_form, view_block, view_item_block, with_part};
 ghost use Rattle.edif_writer.specs.Layout.{Deep, Flat, all, laid, none};
-ghost use Rattle.edif_keywords.specs.declared.keyword.Keyword.TheVariants as k;
+ghost use Rattle.edif_values.specs.declared.keyword.Keyword.TheVariants as k;
 ghost use Rattle.std.specs.Prelude.{◌≤◌, ◌+◌};
 ghost use Rattle.nl_output.specs.Writing.{state, Puts};
 
 use crate::forms::{OnLines, lay_each, open_block, put_line, write_line};
 use crate::net::lay_designator;
-use edif_library::{Cell, CellItem, CellKind, ContentsItem, InterfaceItem, View, ViewItem};
+use edif_values::{Cell, CellItem, CellKind, ContentsItem, InterfaceItem, View, ViewItem};
 use nl_base::Seq;
 use nl_io::Sink;
 use nl_output::Output;

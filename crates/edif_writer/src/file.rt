@@ -1,4 +1,4 @@
-ghost use Rattle.edif_keywords.specs.Keywords.{spelling};
+ghost use Rattle.edif_values.specs.Keywords.{spelling};
 ghost use Rattle.edif_writer.specs.Forms.{library_keyword, name_form, design_form, design_item_form, edif_text, file_block, file_item_block, level_form, library_block, library_item_block, map_form, scale_form, technology_form, version_form};
 ghost use Rattle.edif_writer.specs.Layout.{Flat, blanks, inline, laid};
 ghost use Rattle.std.specs.Prelude.{◌≤◌, ◌+◌, ◌++◌, ◌∷◌};
@@ -7,7 +7,7 @@ ghost use Rattle.nl_output.specs.Writing.{state, Puts, Writes};
 use crate::forms::{
     OnLine, OnLines, lay_each, open_block, put_indent, put_line, write_each, write_line,
 };
-use edif_library::{Design, DesignItem, EdifFile, FileItem, Library, LibraryItem, Scale};
+use edif_values::{Design, DesignItem, EdifFile, FileItem, Library, LibraryItem, Scale};
 use nl_io::{Failed, Sink};
 use nl_output::Output;
 

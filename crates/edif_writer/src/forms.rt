@@ -3,7 +3,7 @@ ghost use Rattle.edif_writer.specs.Forms.{name_form};
 ghost use Rattle.edif_writer.specs.Layout.{Form, Block, Flat, all, blanks, each, inline, laid, lines, spaced};
 ghost use Rattle.nl_output.specs.Writing.{state, Puts};
 
-use edif_names::NameDef;
+use edif_values::NameDef;
 use nl_io::Sink;
 use nl_output::Output;
 

@@ -3,7 +3,7 @@ ghost use Rattle.edif_writer.specs.Layout.{inline};
 ghost use Rattle.nl_output.specs.Writing.{state, Puts};
 
 use crate::forms::{OnLine, write_each};
-use edif_names::{NameDef, PortName, PropTail, Property};
+use edif_values::{NameDef, PortName, PropTail, Property};
 use nl_base::{Seq, Text};
 use nl_io::Sink;
 use nl_output::Output;

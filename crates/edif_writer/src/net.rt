@@ -1,13 +1,13 @@
 ghost use Rattle.edif_writer.specs.Forms.{cell_ref_form, designator_form, dir_form, instance_block, instance_item_block, instance_ref_forms, member_form, net_block, net_item_block, port_form, port_item_form, port_ref_block, port_ref_form, view_ref_form, with_part};
 ghost use Rattle.edif_writer.specs.Layout.{Flat, inline, laid, spaced};
 ghost use Rattle.std.specs.Prelude.{◌≤◌, ◌+◌};
-ghost use Rattle.edif_keywords.specs.declared.keyword.Keyword.TheVariants as k;
+ghost use Rattle.edif_values.specs.declared.keyword.Keyword.TheVariants as k;
 ghost use Rattle.nl_output.specs.Writing.{state, Puts};
 
 use crate::forms::{
     OnLine, OnLines, lay_each, open_block, put_indent, put_line, write_each, write_line,
 };
-use edif_nets::{Instance, InstanceItem, Net, NetItem, Port, PortItem, PortRef};
+use edif_values::{Instance, InstanceItem, Net, NetItem, Port, PortItem, PortRef};
 use nl_base::{Dir, Ident, Int, Text};
 use nl_io::Sink;
 use nl_output::Output;

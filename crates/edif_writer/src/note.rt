@@ -5,7 +5,7 @@ ghost use Rattle.nl_output.specs.Writing.{state, Puts};
 
 use crate::forms::OnLine;
 use crate::name::write_comment;
-use edif_status::{Note, UserData, UserTree};
+use edif_values::{Note, UserData, UserTree};
 use nl_io::Sink;
 use nl_output::Output;
 

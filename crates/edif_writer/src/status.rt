@@ -3,7 +3,7 @@ ghost use Rattle.edif_writer.specs.Layout.{spaced};
 ghost use Rattle.nl_output.specs.Writing.{state, Puts};
 
 use crate::forms::{OnLine, OnLines, lay_each, put_line, write_each, write_line};
-use edif_status::{Stamp, Status, StatusItem, Written, WrittenItem};
+use edif_values::{Stamp, Status, StatusItem, Written, WrittenItem};
 use nl_base::Text;
 use nl_io::Sink;
 use nl_output::Output;

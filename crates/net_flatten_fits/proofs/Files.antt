@@ -8,13 +8,13 @@ use Rattle.edif_design_laws.proofs.Designs.{answered_sound}
 use Rattle.edif_design_laws.proofs.Lists.{all_map, all_numbered, all_places}
 use Rattle.edif_design_laws.proofs.Parts.{cells_good, instances_good, ports_good}
 use Rattle.edif_library.specs.Text.{EdifReads}
-use Rattle.edif_library.specs.declared.file.EdifFile.{EdifFile}
-use Rattle.edif_nets.specs.Values.{IsInstance, IsPort}
+use Rattle.edif_values.specs.declared.file.EdifFile.{EdifFile}
+use Rattle.edif_values.specs.Values.{IsInstance, IsPort}
 use Rattle.edif_rereading.proofs.Kept.{read_values}
-use Rattle.edif_rereading.specs.Values as values
+use Rattle.edif_values.specs.Values as values
 use Rattle.edif_resolve.proofs.Renumbering.{ComesFrom, design_from}
 use Rattle.edif_resolve.specs.Answers.{IsDesignOf}
-use Rattle.edif_tokens.specs.Proper.{AreBytes}
+use Rattle.edif_values.specs.Proper.{AreBytes}
 use Rattle.net_flatten.specs.Flattening.{IsFlattening}
 use Rattle.net_flatten_fits.proofs.Lists.{item_at}
 use Rattle.net_flatten_fits.proofs.Names.{flattened_short}

@@ -5,7 +5,7 @@ use Rattle.std.specs.List.{AllByRecursion, range_with_len}
 use Rattle.std.proofs.lemmas.Fmt.{IsAscii-decimal, length-decimal-le}
 use Rattle.std.proofs.lemmas.List.FromFn.{length-map-range_with_len}
 use Rattle.edif_design_laws.proofs.Lists.{all_places}
-use Rattle.edif_tokens.specs.Proper.{AreBytes}
+use Rattle.edif_values.specs.Proper.{AreBytes}
 use Rattle.flat_classes.specs.Groups.{places_of}
 use Rattle.flat_classes.specs.Terminals.{AreFlatClasses, FlatValue}
 use Rattle.flat_numbers.specs.Spots.{IsSpotBelow, IsSpotOf}

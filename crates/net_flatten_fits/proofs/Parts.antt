@@ -8,35 +8,32 @@ use Rattle.nl_base.specs.Ranges.{bracketed}
 use Rattle.edif_design.specs.Design.{cell_properties, design_properties, design_property, edif_properties, instance_property, interface_property, port_property, property_value, view_property}
 use Rattle.edif_design.specs.Parts.{design_in, designs}
 use Rattle.edif_design_laws.proofs.Lists.{all_append, all_flat, all_some}
-use Rattle.edif_keywords.specs.Values.{IsString, IsWord}
-use Rattle.edif_library.specs.declared.cell.Cell.{Cell}
-use Rattle.edif_library.specs.declared.cell.CellItem.{CellItem}
-use Rattle.edif_library.specs.declared.cell.CellItem.TheVariants as cell_items
-use Rattle.edif_library.specs.declared.file.DesignItem.{DesignItem}
-use Rattle.edif_library.specs.declared.file.DesignItem.TheVariants as design_items
-use Rattle.edif_library.specs.declared.file.EdifFile.{EdifFile}
-use Rattle.edif_library.specs.declared.file.FileItem.{FileItem}
-use Rattle.edif_library.specs.declared.file.FileItem.TheVariants as file_items
-use Rattle.edif_library.specs.declared.view.InterfaceItem.{InterfaceItem}
-use Rattle.edif_library.specs.declared.view.InterfaceItem.TheVariants as interface_items
-use Rattle.edif_library.specs.declared.view.ViewItem.{ViewItem}
-use Rattle.edif_library.specs.declared.view.ViewItem.TheVariants as view_items
-use Rattle.edif_names.proofs.Names.{array_named}
-use Rattle.edif_names.specs.Names.{array_name, original, port_original, renamed_as}
-use Rattle.edif_names.specs.Values.{IsNameDef, IsPortName, IsProperty}
-use Rattle.edif_names.specs.declared.name.NameDef.{NameDef}
-use Rattle.edif_names.specs.declared.name.PortName.{PortName}
-use Rattle.edif_names.specs.declared.name.PortName.TheVariants.{Single, Array}
-use Rattle.edif_names.specs.declared.property.Property.{Property}
-use Rattle.edif_nets.specs.Values.{IsInstance, IsInstanceItem, IsPort, IsPortItem}
-use Rattle.edif_nets.specs.declared.instance.Instance.{Instance}
-use Rattle.edif_nets.specs.declared.instance.InstanceItem.{InstanceItem}
-use Rattle.edif_nets.specs.declared.instance.InstanceItem.TheVariants as instance_items
-use Rattle.edif_nets.specs.declared.port.Port.{Port}
-use Rattle.edif_nets.specs.declared.port.PortItem.{PortItem}
-use Rattle.edif_nets.specs.declared.port.PortItem.TheVariants as port_items
-use Rattle.edif_rereading.specs.Values.{IsCell, IsCellItem, IsDesign, IsDesignItem, IsEdifValue, IsFileItem, IsInterfaceItem, IsViewItem}
-use Rattle.edif_tokens.specs.Proper.{AreBytes}
+use Rattle.edif_values.specs.Values.{IsString, IsWord, IsNameDef, IsPortName, IsProperty, IsInstance, IsInstanceItem, IsPort, IsPortItem, IsCell, IsCellItem, IsDesign, IsDesignItem, IsEdifValue, IsFileItem, IsInterfaceItem, IsViewItem}
+use Rattle.edif_values.specs.declared.cell.Cell.{Cell}
+use Rattle.edif_values.specs.declared.cell.CellItem.{CellItem}
+use Rattle.edif_values.specs.declared.cell.CellItem.TheVariants as cell_items
+use Rattle.edif_values.specs.declared.file.DesignItem.{DesignItem}
+use Rattle.edif_values.specs.declared.file.DesignItem.TheVariants as design_items
+use Rattle.edif_values.specs.declared.file.EdifFile.{EdifFile}
+use Rattle.edif_values.specs.declared.file.FileItem.{FileItem}
+use Rattle.edif_values.specs.declared.file.FileItem.TheVariants as file_items
+use Rattle.edif_values.specs.declared.view.InterfaceItem.{InterfaceItem}
+use Rattle.edif_values.specs.declared.view.InterfaceItem.TheVariants as interface_items
+use Rattle.edif_values.specs.declared.view.ViewItem.{ViewItem}
+use Rattle.edif_values.specs.declared.view.ViewItem.TheVariants as view_items
+use Rattle.edif_values.proofs.Names.{array_named}
+use Rattle.edif_values.specs.Names.{array_name, original, port_original, renamed_as}
+use Rattle.edif_values.specs.declared.name.NameDef.{NameDef}
+use Rattle.edif_values.specs.declared.name.PortName.{PortName}
+use Rattle.edif_values.specs.declared.name.PortName.TheVariants.{Single, Array}
+use Rattle.edif_values.specs.declared.property.Property.{Property}
+use Rattle.edif_values.specs.declared.instance.Instance.{Instance}
+use Rattle.edif_values.specs.declared.instance.InstanceItem.{InstanceItem}
+use Rattle.edif_values.specs.declared.instance.InstanceItem.TheVariants as instance_items
+use Rattle.edif_values.specs.declared.port.Port.{Port}
+use Rattle.edif_values.specs.declared.port.PortItem.{PortItem}
+use Rattle.edif_values.specs.declared.port.PortItem.TheVariants as port_items
+use Rattle.edif_values.specs.Proper.{AreBytes}
 use Rattle.net_flatten_fits.proofs.Lists.{all_front}
 use Rattle.net_flatten_fits.specs.Named.{HaveByteNames}
 use Rattle.net_hier.specs.declared.cells.HProp.{HProp}

@@ -1,7 +1,7 @@
 -- Designs whose names are made of bytes, and designs that can be written.
 use Rattle.std.specs.Prelude.{List}
 use Rattle.std.specs.List.{AllByRecursion}
-use Rattle.edif_tokens.specs.Proper.{AreBytes}
+use Rattle.edif_values.specs.Proper.{AreBytes}
 use Rattle.net_hier.specs.Design.{Design}
 use Rattle.net_hier.specs.declared.cells.HCell.{HCell}
 use Rattle.net_hier.specs.declared.cells.HInst.{HInst}

@@ -1,9 +1,9 @@
 // The laws, as contracts of functions over the definitions alone.
 ghost use Rattle.std.specs.Prelude.{ℕ, List};
 ghost use Rattle.edif_library.specs.Text.{EdifReads};
-ghost use Rattle.edif_library.specs.declared.file.EdifFile.{EdifFile};
+ghost use Rattle.edif_values.specs.declared.file.EdifFile.{EdifFile};
 ghost use Rattle.edif_resolve.specs.Answers.{IsDesignOf as IsEdifDesign};
-ghost use Rattle.edif_tokens.specs.Proper.{AreBytes};
+ghost use Rattle.edif_values.specs.Proper.{AreBytes};
 ghost use Rattle.net_flatten.specs.Flattening.{IsFlattening};
 ghost use Rattle.net_flatten_fits.specs.Named.{CanBeWritten, IsNamedByBytes};
 ghost use Rattle.net_hier.specs.Constants.{ConstantNames};

@@ -7,7 +7,7 @@ use Rattle.edif_design.specs.Design.{edif_cells, edif_top}
 use Rattle.edif_design.specs.FileRules.{closing_refusals, first_E, recursion_refusals, refusals}
 use Rattle.edif_design.specs.Parts.{numbered}
 use Rattle.edif_design_laws.proofs.Clean.{no_refusals}
-use Rattle.edif_library.specs.declared.file.EdifFile.{EdifFile}
+use Rattle.edif_values.specs.declared.file.EdifFile.{EdifFile}
 use Rattle.edif_lookup.proofs.FirstLaws.{first-lowest}
 use Rattle.edif_lookup.proofs.Orders.{lowest_none, none_right}
 use Rattle.edif_lookup.specs.Refusals.{broken}

@@ -6,7 +6,7 @@ use Rattle.std.proofs.lemmas.Bool.{ltb-false}
 use Rattle.nl_base.specs.declared.rule.Refusal.{Refusal}
 use Rattle.edif_design.specs.Design.{edif_design}
 use Rattle.edif_design.specs.FileRules.{first_E}
-use Rattle.edif_library.specs.declared.file.EdifFile.{EdifFile}
+use Rattle.edif_values.specs.declared.file.EdifFile.{EdifFile}
 use Rattle.flat_classes.specs.FlatSums.{flat_count, flat_limit}
 use Rattle.net_flatten_answers.proofs.Whole.{answered_there, design_there}
 use Rattle.net_flatten_answers.specs.Answered.{AreOfDesign, IsAnswered, flattened, refused}

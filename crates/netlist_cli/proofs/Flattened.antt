@@ -5,7 +5,7 @@ use Rattle.nl_base.specs.declared.rule.Refusal.{Refusal}
 use Rattle.edif_design.specs.Design.{edif_design}
 use Rattle.edif_design.specs.FileRules.{first_E}
 use Rattle.edif_design_laws.proofs.Clean.{no_refusals}
-use Rattle.edif_library.specs.declared.file.EdifFile.{EdifFile}
+use Rattle.edif_values.specs.declared.file.EdifFile.{EdifFile}
 use Rattle.edif_resolve.proofs.Clean.{top_there}
 use Rattle.edif_resolve.proofs.Fitting.{good_cells}
 use Rattle.flat_classes.specs.FlatSums.{flat_count, flat_limit}

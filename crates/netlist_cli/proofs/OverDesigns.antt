@@ -7,10 +7,10 @@ use Rattle.nl_output.specs.Writing.{Writes}
 use Rattle.readers.specs.Sources.{Supply}
 use Rattle.edif_copies.specs.Answers.{IsEdifFor}
 use Rattle.edif_library.specs.Text.{EdifReads}
-use Rattle.edif_library.specs.declared.file.EdifFile.{EdifFile}
+use Rattle.edif_values.specs.declared.file.EdifFile.{EdifFile}
 use Rattle.edif_plans.specs.Sound.{IsSoundDesign}
 use Rattle.edif_rereading.proofs.Law as edif_law
-use Rattle.edif_rereading.specs.Values.{IsEdifValue}
+use Rattle.edif_values.specs.Values.{IsEdifValue}
 use Rattle.edif_resolve.specs.Answers as edif_answers
 use Rattle.edif_value_laws.proofs.Sound.{sound_design}
 use Rattle.edif_writer.specs.Forms.{edif_text}

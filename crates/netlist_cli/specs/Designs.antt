@@ -6,8 +6,8 @@ use Rattle.nl_output.specs.Writing.{Writes}
 use Rattle.readers.specs.Sources.{Supply}
 use Rattle.edif_copies.specs.Answers.{IsEdifFor}
 use Rattle.edif_library.specs.Text.{EdifReads}
-use Rattle.edif_library.specs.declared.file.EdifFile.{EdifFile}
-use Rattle.edif_rereading.specs.Values.{IsEdifValue}
+use Rattle.edif_values.specs.declared.file.EdifFile.{EdifFile}
+use Rattle.edif_values.specs.Values.{IsEdifValue}
 use Rattle.edif_resolve.specs.Answers as edif_answers
 use Rattle.flat_classes.specs.FlatSums.{IsFewFlat, flat_count, flat_limit}
 use Rattle.net_bits.specs.Names.{NameSet}

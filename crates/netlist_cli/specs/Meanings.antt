@@ -4,7 +4,7 @@ use Rattle.std.specs.Io.KnownBytes.{IsAtEnd}
 use Rattle.nl_io.specs.Causes.{Rose}
 use Rattle.edif_copies.specs.Answers.{IsEdifDesign, IsEdifFor}
 use Rattle.edif_library.specs.Text.{EdifReads, EdifFault, EdifCut}
-use Rattle.edif_library.specs.declared.file.EdifFile.{EdifFile}
+use Rattle.edif_values.specs.declared.file.EdifFile.{EdifFile}
 use Rattle.edif_writer.specs.Forms.{edif_text}
 use Rattle.flat_classes.specs.FlatSums.{flat_count}
 use Rattle.flat_report.specs.Report.{IsReport}

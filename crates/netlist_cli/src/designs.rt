@@ -1,7 +1,7 @@
 // The design of an input, as the commands that ask for one get it.
 ghost use Rattle.std.specs.Prelude.{◌≡◌, ◌≤◌, IfOk, MatchResult, None, Some};
 ghost use Rattle.net_hier.specs.Valid.{count_limit};
-ghost use Rattle.edif_library.specs.Sizes.{edif_size};
+ghost use Rattle.edif_values.specs.Sizes.{edif_size};
 ghost use Rattle.edif_plans.specs.Sound.{IsSoundDesign};
 ghost use Rattle.edif_resolve.specs.Answers.{IsDesignOf as IsEdifDesign};
 ghost use Rattle.readers.specs.Sources.{supply};

@@ -3,7 +3,7 @@ use Rattle.std.proofs.Common.{◌≡◌, ℕ, ◌<◌, true, length, Option, Som
 use Rattle.std.specs.Prelude.{◌↔◌}
 use Rattle.net_graph.specs.Graph.{IsReached}
 use Rattle.net_graph.specs.Marks.{is_marked}
-use Rattle.edif_library.specs.declared.file.EdifFile.{EdifFile}
+use Rattle.edif_values.specs.declared.file.EdifFile.{EdifFile}
 use Rattle.edif_design.specs.References.{CellPlace, number_meant, top}
 use Rattle.edif_design.specs.Reach.{cells_below, is_reached, marks_below, reached_marks}
 use Rattle.edif_resolve.proofs.Numbers.{below_in_range, top_within}

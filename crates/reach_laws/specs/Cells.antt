@@ -1,7 +1,7 @@
 -- Which cells of an EDIF file are reached, as a relation (EDIF 2 0 0, instance, cellRef).
 use Rattle.std.specs.Prelude.{◌≡◌, ℕ, Some}
 use Rattle.net_graph.specs.Graph.{IsReached}
-use Rattle.edif_library.specs.declared.file.EdifFile.{EdifFile}
+use Rattle.edif_values.specs.declared.file.EdifFile.{EdifFile}
 use Rattle.edif_design.specs.References.{CellPlace, top}
 use Rattle.edif_design.specs.Reach.{cells_below}
 

@@ -9,7 +9,7 @@ use Rattle.net_hier.specs.Design.{Design, IsCell}
 use Rattle.net_hier.specs.Facts.{cell_props}
 use Rattle.net_hier.specs.declared.cells.HCell.{HCell}
 use Rattle.net_bits.specs.Classes.{AreClasses, ClassTable}
-use Rattle.edif_library.specs.declared.cell.Cell.{Cell}
+use Rattle.edif_values.specs.declared.cell.Cell.{Cell}
 use Rattle.edif_copies.specs.Planned.{AreCells, IsMadeOf}
 use Rattle.edif_plans.specs.Made.{IsMadeCell, new_cell_for}
 use Rattle.edif_plans.specs.Plans.{head_at, head_of, no_head}

@@ -11,11 +11,11 @@ use Rattle.net_hier.specs.Valid.{IsGoodCell, IsValid}
 use Rattle.net_hier.specs.declared.cells.HCell.{HCell}
 use Rattle.net_hier.specs.declared.cells.HPort.{HPort}
 use Rattle.net_live.proofs.NeedLaws.{need_is}
-use Rattle.edif_keywords.specs.Values.{IsString, IsWord}
-use Rattle.edif_names.specs.declared.name.NameDef.{NameDef}
+use Rattle.edif_values.specs.Values.{IsString, IsWord, IsEdifValue}
+use Rattle.edif_values.specs.declared.name.NameDef.{NameDef}
 use Rattle.edif_naming.proofs.SoundLaws.{short_string}
-use Rattle.edif_library.specs.declared.cell.Cell.{Cell}
-use Rattle.edif_library.specs.declared.file.EdifFile.{EdifFile}
+use Rattle.edif_values.specs.declared.cell.Cell.{Cell}
+use Rattle.edif_values.specs.declared.file.EdifFile.{EdifFile}
 use Rattle.edif_written.specs.Written.{file_of}
 use Rattle.edif_plans.specs.Plans.{HasConstant, constant_number, head_at, head_of, number_of}
 use Rattle.edif_plans.specs.Sound.{AreStems, IsSoundCell, IsSoundDesign}
@@ -26,7 +26,6 @@ use Rattle.edif_copies.proofs.Whole.{planned_is_edif}
 use Rattle.edif_planning.specs.Plans.{IsPlanned}
 use Rattle.edif_planning.specs.declared.planning.Planned.{Planned}
 use Rattle.edif_planning.proofs.ClassLaws.{item_there}
-use Rattle.edif_rereading.specs.Values.{IsEdifValue}
 use Rattle.edif_value_laws.specs.Named.{HasWords}
 use Rattle.edif_value_laws.proofs.Files.{made_value}
 use Rattle.to_edif.specs.Cells.{HasConstants, HasNewHead, HaveHeads}

@@ -2,7 +2,7 @@
 use Rattle.std.proofs.Common.{arith, ◌≡◌, ◌⊎◌, inl, inr, ℕ, zero, suc, ◌+◌, ◌<◌, Bool, List, [], ◌∷◌, Option, None, Some, length, refl, subst}
 use Rattle.std.specs.Prelude.{slice_get}
 use Rattle.std.proofs.lemmas.Option.{slice_get_within}
-use Rattle.edif_library.specs.declared.cell.Cell.{Cell}
+use Rattle.edif_values.specs.declared.cell.Cell.{Cell}
 use Rattle.edif_copies.specs.Planned.{AreCells, IsMadeOf, IsPlan}
 use Rattle.edif_partners.specs.Files.{IsOldCell}
 use Rattle.edif_plans.specs.Plans.{head_at}

@@ -1,6 +1,6 @@
 -- The cells of the file of a design.
 use Rattle.std.specs.Prelude.{◌≡◌, ℕ, ◌<◌, Bool, true, List, length, slice_get, Some}
-use Rattle.edif_library.specs.declared.cell.Cell.{Cell}
+use Rattle.edif_values.specs.declared.cell.Cell.{Cell}
 use Rattle.net_bits.specs.Classes.{AreClasses, ClassTable}
 use Rattle.net_hier.specs.Constants.{ConstantNames, name_of_constant}
 use Rattle.net_hier.specs.Design.{Design, IsCell}

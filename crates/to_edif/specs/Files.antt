@@ -1,10 +1,9 @@
 -- The names of the file and of its design (EDIF 2 0 0, edif, design).
 use Rattle.std.specs.Prelude.{◌≡◌, ℕ, List, [], ◌∷◌, map}
-use Rattle.edif_keywords.specs.Values.{IsString}
-use Rattle.edif_names.specs.Names.{original}
-use Rattle.edif_names.specs.Values.{IsNameDef}
-use Rattle.edif_names.specs.declared.name.NameDef.{NameDef}
-use Rattle.edif_library.specs.declared.file.EdifFile.{EdifFile}
+use Rattle.edif_values.specs.Values.{IsString, IsNameDef}
+use Rattle.edif_values.specs.Names.{original}
+use Rattle.edif_values.specs.declared.name.NameDef.{NameDef}
+use Rattle.edif_values.specs.declared.file.EdifFile.{EdifFile}
 use Rattle.edif_design.specs.Parts.{designs}
 use Rattle.net_hier.specs.Design.{Design, top_name}
 

@@ -6,11 +6,11 @@ ghost use Rattle.edif_plans.specs.Plans.{FitsCells};
 ghost use Rattle.edif_plans.specs.Sound.{AreStems};
 ghost use Rattle.to_edif.specs.Cells.{AreNewCells, HasConstants, HaveHeads};
 
-use edif_library::Cell;
 use edif_making::{cell_of, new_cell};
 use edif_planning::name_of;
 use edif_plans::Plan;
 use edif_value_laws::words_of;
+use edif_values::Cell;
 use net_bits::Classes;
 use net_hier::{Constants, Hier};
 use nl_base::NoMemory;

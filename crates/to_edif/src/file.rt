@@ -1,15 +1,14 @@
 // The file of cells.
 ghost use Rattle.std.specs.Prelude.{◌≡◌, map, IfOk};
-ghost use Rattle.edif_keywords.specs.Values.{IsWord};
-ghost use Rattle.edif_library.specs.declared.library.LibraryItem.TheVariants as library_items;
+ghost use Rattle.edif_values.specs.Values.{IsWord};
+ghost use Rattle.edif_values.specs.declared.library.LibraryItem.TheVariants as library_items;
 ghost use Rattle.edif_written.specs.Written.{design_of as design_for, file_of as file_for, library_of as library_for};
 ghost use Rattle.to_edif.specs.Files.{IsLoneName};
 
-use edif_library::{Cell, Design, EdifFile, FileItem, Library, LibraryItem};
-use edif_names::NameDef;
 use edif_naming::{copied, named};
 use edif_parts::library_ident;
 use edif_spaces::Space;
+use edif_values::{Cell, Design, EdifFile, FileItem, Library, LibraryItem, NameDef};
 use nl_base::{Ident, NoMemory, Seq};
 use std::alloc::Global;
 

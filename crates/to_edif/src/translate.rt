@@ -4,14 +4,14 @@ ghost use Rattle.edif_copies.specs.Answers.{IsEdifFor};
 ghost use Rattle.edif_planning.specs.Classes.{AreAllClasses};
 ghost use Rattle.edif_planning.specs.Plans.{IsPlanned};
 ghost use Rattle.edif_plans.specs.Sound.{IsSoundDesign};
-ghost use Rattle.edif_rereading.specs.Values.{IsEdifValue};
+ghost use Rattle.edif_values.specs.Values.{IsEdifValue};
 ghost use Rattle.to_edif.specs.Files.{IsNamedAfterTop};
 
 use crate::cells::{new_cells, with_cells};
 use crate::file::{file_with, lone_name};
-use edif_library::EdifFile;
 use edif_planning::{Planned, all_classes, plan_of};
 use edif_value_laws::{stems_of, words_of};
+use edif_values::EdifFile;
 use net_bits::Classes;
 use net_hier::{Constants, Hier};
 use nl_base::NoMemory;

@@ -2,7 +2,7 @@
 use Rattle.std.proofs.Common.{◌≡◌, ℕ, List, Option, Result, Ok, Err, IfSome, MatchResult, sym, subst}
 use Rattle.std.specs.Result.{result_ok}
 use Rattle.edif_library.specs.Text.{EdifReads}
-use Rattle.edif_library.specs.declared.file.EdifFile.{EdifFile}
+use Rattle.edif_values.specs.declared.file.EdifFile.{EdifFile}
 use Rattle.edif_resolve.specs.Answers.{IsDesignOf, IsFaultOf}
 use Rattle.edif_resolve.specs.declared.answer.ResolveError.{ResolveError}
 use Rattle.net_hier.specs.Design.{Design}

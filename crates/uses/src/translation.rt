@@ -1,6 +1,6 @@
 ghost use Rattle.std.specs.Prelude.{IfSome};
 ghost use Rattle.edif_library.specs.Text.{EdifReads};
-ghost use Rattle.edif_library.specs.declared.file.EdifFile.{EdifFile};
+ghost use Rattle.edif_values.specs.declared.file.EdifFile.{EdifFile};
 ghost use Rattle.edif_resolve.specs.Answers.{IsDesignOf};
 ghost use Rattle.to_verilog.specs.Answers.{IsVerilogFor};
 

@@ -1,13 +1,13 @@
 -- Generated files (EDIF 2 0 0, edif, library, design).
 use Rattle.std.specs.Prelude.{ℕ, ◌-◌, false, List, [], ◌∷◌, map, codes}
 use Rattle.std.specs.List.{range_with_len}
-use Rattle.edif_library.specs.declared.cell.Cell.{Cell}
-use Rattle.edif_library.specs.declared.file.Design.{Design}
-use Rattle.edif_library.specs.declared.file.EdifFile.{EdifFile}
-use Rattle.edif_library.specs.declared.file.FileItem.TheVariants as file_items
-use Rattle.edif_library.specs.declared.library.Library.{Library}
-use Rattle.edif_library.specs.declared.library.LibraryItem.{LibraryItem}
-use Rattle.edif_library.specs.declared.library.LibraryItem.TheVariants as library_items
+use Rattle.edif_values.specs.declared.cell.Cell.{Cell}
+use Rattle.edif_values.specs.declared.file.Design.{Design}
+use Rattle.edif_values.specs.declared.file.EdifFile.{EdifFile}
+use Rattle.edif_values.specs.declared.file.FileItem.TheVariants as file_items
+use Rattle.edif_values.specs.declared.library.Library.{Library}
+use Rattle.edif_values.specs.declared.library.LibraryItem.{LibraryItem}
+use Rattle.edif_values.specs.declared.library.LibraryItem.TheVariants as library_items
 use Rattle.vectors.specs.Cells.{cell, cell_ident, plain}
 
 -- so many cells, from that of the number 0 on

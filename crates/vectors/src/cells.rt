@@ -1,18 +1,14 @@
 // The cells of generated files.
 ghost use Rattle.std.specs.Prelude.{◌≡◌, ◌∷◌, ◌+◌, ◌<◌, ◌^◌, [], IfOk, IsTrue};
 ghost use Rattle.nl_base.specs.Identifiers.{is_short_identifier};
-ghost use Rattle.edif_library.specs.declared.library.LibraryItem.TheVariants as library_items;
-ghost use Rattle.edif_library.specs.declared.view.ContentsItem.TheVariants as contents_items;
-ghost use Rattle.edif_library.specs.declared.view.InterfaceItem.TheVariants as interface_items;
-ghost use Rattle.edif_library.specs.declared.view.ViewItem.TheVariants as view_items;
+ghost use Rattle.edif_values.specs.declared.library.LibraryItem.TheVariants as library_items;
+ghost use Rattle.edif_values.specs.declared.view.ContentsItem.TheVariants as contents_items;
+ghost use Rattle.edif_values.specs.declared.view.InterfaceItem.TheVariants as interface_items;
+ghost use Rattle.edif_values.specs.declared.view.ViewItem.TheVariants as view_items;
 ghost use Rattle.vectors.specs.Cells as spec;
 
 use crate::idents::{cell_ident, ident, name};
-use edif_library::{
-    Cell, CellItem, CellKind, ContentsItem, InterfaceItem, LibraryItem, View, ViewItem,
-};
-use edif_names::{NameDef, PortName};
-use edif_nets::{Instance, Net, Port, PortItem, PortRef};
+use edif_values::{Cell, CellItem, CellKind, ContentsItem, Instance, InterfaceItem, LibraryItem, NameDef, Net, Port, PortItem, PortName, PortRef, View, ViewItem};
 use nl_base::{Dir, Ident, NoMemory, Seq};
 use std::alloc::Global;
 

@@ -1,13 +1,13 @@
 // Generated files.
 ghost use Rattle.std.specs.Prelude.{◌≡◌, ◌-◌, ◌<◌, IfOk, map};
-ghost use Rattle.edif_library.specs.declared.file.FileItem.TheVariants as file_items;
-ghost use Rattle.edif_library.specs.declared.library.LibraryItem.TheVariants as library_items;
+ghost use Rattle.edif_values.specs.declared.file.FileItem.TheVariants as file_items;
+ghost use Rattle.edif_values.specs.declared.library.LibraryItem.TheVariants as library_items;
 ghost use Rattle.vectors.specs.Files as spec;
 
 use crate::cells::{cell_above, first_cell};
 use crate::idents::{cell_ident, ident, name};
 use crate::numbers::{first_number, is_swapped, next_number};
-use edif_library::{Design, EdifFile, FileItem, Library, LibraryItem};
+use edif_values::{Design, EdifFile, FileItem, Library, LibraryItem};
 use nl_base::{NoMemory, Seq};
 use std::alloc::Global;
 

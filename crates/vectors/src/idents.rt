@@ -3,7 +3,7 @@ ghost use Rattle.std.specs.Prelude.{◌≡◌, IfOk, IsTrue};
 ghost use Rattle.nl_base.specs.Identifiers.{is_short_identifier};
 ghost use Rattle.vectors.specs.Cells.{cell_ident as ident_of_cell, plain};
 
-use edif_names::NameDef;
+use edif_values::NameDef;
 use nl_base::{Ident, NoMemory, Text, spell_u64};
 use std::alloc::Global;
 

@@ -4,11 +4,11 @@ use Rattle.std.specs.Prelude.{codes, slice_get, is_none, option_map}
 use Rattle.std.proofs.lemmas.List.FromFn.{length-map-range_with_len}
 use Rattle.std.proofs.lemmas.Option.{slice_get_within}
 use Rattle.nl_base.specs.declared.rule.Rule.TheVariants.{E3, E4, E5}
-use Rattle.edif_library.specs.declared.cell.Cell.{Cell}
-use Rattle.edif_library.specs.declared.file.EdifFile.{EdifFile}
+use Rattle.edif_values.specs.declared.cell.Cell.{Cell}
+use Rattle.edif_values.specs.declared.file.EdifFile.{EdifFile}
 use Rattle.edif_lookup.specs.Candidates.{the_only}
 use Rattle.edif_lookup.specs.Refusals.{broken, broken_reference, if_some, in_order, is_in}
-use Rattle.edif_nets.specs.declared.net.Net.{Net}
+use Rattle.edif_values.specs.declared.net.Net.{Net}
 use Rattle.edif_design.specs.CellRules.{cell_refusals, instance_refusals, net_refusals, view_refusals}
 use Rattle.edif_design.specs.FileRules.{design_refusals, library_cell_refusals, refusals}
 use Rattle.edif_design.specs.Parts.{cells_in, views}

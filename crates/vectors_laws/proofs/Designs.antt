@@ -4,8 +4,8 @@ use Rattle.std.specs.Prelude.{codes, slice_get}
 use Rattle.std.specs.List.{range_with_len}
 use Rattle.std.proofs.lemmas.List.{length-map}
 use Rattle.std.proofs.lemmas.List.FromFn.{length-map-range_with_len}
-use Rattle.edif_library.specs.declared.file.EdifFile.{EdifFile}
-use Rattle.edif_nets.specs.Directions.{direction_of, told}
+use Rattle.edif_values.specs.declared.file.EdifFile.{EdifFile}
+use Rattle.edif_values.specs.Directions.{direction_of, told}
 use Rattle.edif_design.specs.Design.{cell_value, edif_cells, edif_properties, edif_top, number_in, numbers_in_design}
 use Rattle.edif_design.specs.Reach.{is_reached, reached_marks}
 use Rattle.edif_design.specs.References.{CellPlace, all_cells, linked_cell, number_meant, place_in}

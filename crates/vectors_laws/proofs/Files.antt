@@ -4,8 +4,8 @@ use Rattle.std.specs.Prelude.{codes, slice_get, option_map, ◌==◌}
 use Rattle.std.specs.List.{enumerate_from, range_with_len}
 use Rattle.std.specs.Option.{option_and_then}
 use Rattle.std.proofs.lemmas.Option.{slice_get-map}
-use Rattle.edif_library.specs.declared.cell.Cell.{Cell}
-use Rattle.edif_library.specs.declared.file.EdifFile.{EdifFile}
+use Rattle.edif_values.specs.declared.cell.Cell.{Cell}
+use Rattle.edif_values.specs.declared.file.EdifFile.{EdifFile}
 use Rattle.edif_lookup.specs.Candidates.{candidates, the_only}
 use Rattle.edif_meanings.specs.Apart.{AreApart}
 use Rattle.edif_meanings.proofs.Meant.{candidates_of}
@@ -14,7 +14,7 @@ use Rattle.edif_design.specs.References.{CellPlace, LinkedCell, all_cells, cell_
 use Rattle.edif_written.proofs.Cells.{map_numbered, numbered_at}
 use Rattle.vectors.specs.Cells.{cell, cell_ident, cell_with, contents_of, instance}
 use Rattle.vectors.specs.Files.{cells_of, generated, library}
-use Rattle.edif_library.specs.declared.view.ViewItem.TheVariants as view_items
+use Rattle.edif_values.specs.declared.view.ViewItem.TheVariants as view_items
 use Rattle.vectors_laws.proofs.Idents.{idents_apart}
 use Rattle.vectors_laws.proofs.Lists.{map_map, range_at, these_cells}
 

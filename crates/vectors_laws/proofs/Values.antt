@@ -3,14 +3,10 @@ use Rattle.std.proofs.Common.{arith, ℕ, zero, suc, ◌+◌, ◌-◌, ◌<◌, 
 use Rattle.std.specs.Prelude.{codes}
 use Rattle.std.specs.List.{AllByRecursion, filter, range_with_len}
 use Rattle.nl_base.specs.declared.value.Dir.{Dir}
-use Rattle.edif_keywords.specs.Values.{IsWord}
-use Rattle.edif_names.specs.Values.{IsNameDef}
-use Rattle.edif_nets.specs.Directions.{told}
-use Rattle.edif_nets.specs.Values.{IsInstance, IsNet, IsPort, IsPortRef}
-use Rattle.edif_nets.specs.declared.net.PortRef.{PortRef}
-use Rattle.edif_library.specs.Grammar.{is_contents}
-use Rattle.edif_library.specs.declared.library.LibraryItem.TheVariants as library_items
-use Rattle.edif_rereading.specs.Values.{IsCell, IsContentsItem, IsDesign, IsEdifValue, IsLibrary, IsLibraryItem, IsView, IsViewItem}
+use Rattle.edif_values.specs.Values.{IsWord, IsNameDef, IsInstance, IsNet, IsPort, IsPortRef, is_contents, IsCell, IsContentsItem, IsDesign, IsEdifValue, IsLibrary, IsLibraryItem, IsView, IsViewItem}
+use Rattle.edif_values.specs.Directions.{told}
+use Rattle.edif_values.specs.declared.net.PortRef.{PortRef}
+use Rattle.edif_values.specs.declared.library.LibraryItem.TheVariants as library_items
 use Rattle.vectors.specs.Cells.{cell, cell_ident, contents, contents_of, instance, net, own, pin, plain, port, view, view_items_of}
 use Rattle.vectors.specs.Files.{cells_of, design, generated, library}
 use Rattle.vectors.specs.Numbers.{is_swapped}

@@ -2,7 +2,7 @@
 ghost use Rattle.std.specs.Prelude.{◌≡◌, ◌<◌, ◌≤◌, ◌-◌, ◌^◌, ℕ, Bool, [], None};
 ghost use Rattle.edif_design.specs.Design.{edif_design};
 ghost use Rattle.edif_design.specs.FileRules.{first_E};
-ghost use Rattle.edif_rereading.specs.Values.{IsEdifValue};
+ghost use Rattle.edif_values.specs.Values.{IsEdifValue};
 ghost use Rattle.net_hier.specs.Units.{units};
 ghost use Rattle.net_hier.specs.Valid.{unit_limit};
 ghost use Rattle.to_verilog_rules.specs.Rules.{first_V};

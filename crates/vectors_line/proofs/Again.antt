@@ -10,7 +10,7 @@ use Rattle.edif_keywords.specs.Reasons.{trailing}
 use Rattle.edif_laws.proofs.AnyLength.{file_or_fault, one_file}
 use Rattle.edif_library.specs.Grammar as grammar
 use Rattle.edif_library.specs.Text.{EdifReads}
-use Rattle.edif_library.specs.declared.file.EdifFile.{EdifFile}
+use Rattle.edif_values.specs.declared.file.EdifFile.{EdifFile}
 use Rattle.edif_limits.proofs.Law.{cut, faults, reads}
 use Rattle.edif_writer.specs.Forms.{edif_text}
 

@@ -5,7 +5,7 @@ use Rattle.edif_design.specs.Design.{edif_design}
 use Rattle.edif_design.specs.FileRules.{first_E}
 use Rattle.edif_design_laws.proofs.Designs.{answered_sound}
 use Rattle.edif_library.specs.Text.{EdifReads}
-use Rattle.edif_library.specs.declared.file.EdifFile.{EdifFile}
+use Rattle.edif_values.specs.declared.file.EdifFile.{EdifFile}
 use Rattle.edif_resolve.specs.Answers.{IsDesignOf}
 use Rattle.edif_writer.specs.Forms.{edif_text}
 use Rattle.net_bits.specs.Names.{has_name}

@@ -2,7 +2,7 @@
 ghost use Rattle.std.specs.Prelude.{◌≡◌, ◌<◌, ◌≤◌, ◌^◌, None, IfOk};
 ghost use Rattle.edif_design.specs.Design.{edif_design};
 ghost use Rattle.edif_design.specs.FileRules.{first_E};
-ghost use Rattle.edif_library.specs.Sizes.{edif_size};
+ghost use Rattle.edif_values.specs.Sizes.{edif_size};
 ghost use Rattle.edif_library.specs.Text.{EdifReads};
 ghost use Rattle.edif_resolve.specs.Answers.{IsDesignOf};
 ghost use Rattle.edif_writer.specs.Forms.{edif_text};

@@ -1,8 +1,8 @@
 // Texts in memory, and their lengths.
 ghost use Rattle.std.specs.Prelude.{◌≡◌, ◌≤◌, length, IfOk};
-ghost use Rattle.edif_library.specs.Sizes.{edif_size};
+ghost use Rattle.edif_values.specs.Sizes.{edif_size};
 ghost use Rattle.edif_library.specs.Text.{EdifReads};
-ghost use Rattle.edif_library.specs.declared.file.EdifFile.{EdifFile};
+ghost use Rattle.edif_values.specs.declared.file.EdifFile.{EdifFile};
 ghost use Rattle.edif_writer.specs.Forms.{edif_text};
 ghost use Rattle.net_hier.specs.Valid.{count_limit};
 ghost use Rattle.nl_base.specs.declared.fault.ReadError.TheVariants as errors;

@@ -3,7 +3,7 @@ use Rattle.std.proofs.Common.{arith, ◌≡◌, ℕ, ◌+◌, ◌*◌, Bool, tru
 use Rattle.std.specs.Prelude.{decimal, if◌then◌else◌}
 use Rattle.std.specs.Fmt.{signed_decimal}
 use Rattle.std.proofs.lemmas.List.{length-replicate}
-use Rattle.edif_keywords.specs.Keywords.{spelling}
+use Rattle.edif_values.specs.Keywords.{spelling}
 use Rattle.edif_writer.specs.Layout.{Form, Word, Number, Str, Line, Group, Forms, none, more, Block, Flat, Deep, Blocks, end, below, inline, spaced, listed, blanks, laid, lines}
 use Rattle.edif_writer.specs.Strings.{is_plain, quoted, written}
 

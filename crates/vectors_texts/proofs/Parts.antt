@@ -4,7 +4,7 @@ use Rattle.std.specs.Prelude.{codes}
 use Rattle.std.specs.Fmt.{decimal}
 use Rattle.std.specs.List.{range_with_len}
 use Rattle.std.proofs.lemmas.Fmt.{length-decimal-le}
-use Rattle.edif_library.specs.declared.library.LibraryItem.TheVariants as library_items
+use Rattle.edif_values.specs.declared.library.LibraryItem.TheVariants as library_items
 use Rattle.edif_writer.specs.Forms.{cell_block, contents_item_block, edif_text, file_block, library_item_block}
 use Rattle.edif_writer.specs.Layout.{all}
 use Rattle.nl_bytes.specs.declared.bytes.TheConstants.{LIMIT}

@@ -3,7 +3,7 @@ use Rattle.std.specs.Prelude.{slice_get}
 use Rattle.std.specs.List.{filter_map, list_any}
 use Rattle.std.specs.Option.{option_and_then}
 use Rattle.std.proofs.lemmas.List.{length-map}
-use Rattle.edif_nets.specs.declared.port.Port.{Port}
+use Rattle.edif_values.specs.declared.port.Port.{Port}
 use Rattle.edif_design.specs.Parts.{instance_in, net_in}
 use Rattle.edif_design.specs.References.{file_cells, linked_by}
 use Rattle.edif_nets_rules.specs.Lists.{seen}

@@ -1,5 +1,5 @@
 use Rattle.std.proofs.Common.{◌∙◌, ◌++◌, ℕ, ap, arith}
-use Rattle.edif_nets.specs.declared.net.Net.{Net}
+use Rattle.edif_values.specs.declared.net.Net.{Net}
 use Rattle.edif_nets_rules.specs.Scopes.{lists_of}
 use Rattle.edif_cells.specs.Values.{joins_of}
 use Rattle.edif_cells.proofs.Numbered.{flat_numbered}

@@ -1,6 +1,6 @@
 use Rattle.std.proofs.Common.{◌≡◌, drop}
 use Rattle.std.specs.List.{find}
-use Rattle.edif_keywords.specs.Keywords.{is_spelled}
+use Rattle.edif_values.specs.Keywords.{is_spelled}
 use Rattle.edif_keywords.proofs.find.find_among.Given as goal
 
 abbrev pub invariant-loop-keyword : goal.invariant-loop-keyword

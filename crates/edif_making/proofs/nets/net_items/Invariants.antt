@@ -1,5 +1,5 @@
 use Rattle.std.proofs.Common.{◌≡◌, map}
-use Rattle.edif_nets.specs.declared.net.NetItem.TheVariants as net_items
+use Rattle.edif_values.specs.declared.net.NetItem.TheVariants as net_items
 use Rattle.edif_making.proofs.nets.net_items.Given as goal
 
 abbrev pub invariant-loop-property : goal.invariant-loop-property

@@ -1,6 +1,6 @@
 use Rattle.std.proofs.Common.{ap, subst, sym, ◌∙◌}
 use Rattle.std.specs.List.{AllByRecursion, filter_map}
-use Rattle.edif_nets.specs.Values.{IsNetItem}
+use Rattle.edif_values.specs.Values.{IsNetItem}
 use Rattle.edif_design.specs.Design.{net_property}
 use Rattle.edif_making.proofs.NetLaws.{items_sound, props_read}
 use Rattle.edif_making.proofs.nets.net_of.Goals as goal

@@ -1,6 +1,6 @@
 use Rattle.std.proofs.Common.{List, ℕ, ap, map, subst, sym, ◌∙◌}
 use Rattle.std.specs.List.{AllByRecursion}
-use Rattle.edif_keywords.specs.Values.{IsString}
+use Rattle.edif_values.specs.Values.{IsString}
 use Rattle.edif_meanings.specs.Apart.{AreApart}
 use Rattle.net_bits.specs.Classes.{members_of}
 use Rattle.net_live.specs.Last.{last_of}

@@ -1,8 +1,7 @@
 use Rattle.std.proofs.Common.{◌≡◌, ◌++◌, drop, map}
 use Rattle.std.specs.List.{AllByRecursion}
-use Rattle.edif_keywords.specs.Values.{IsString}
-use Rattle.edif_nets.specs.Values.{IsNet}
-use Rattle.edif_nets.specs.declared.net.Net.{Net}
+use Rattle.edif_values.specs.Values.{IsString, IsNet}
+use Rattle.edif_values.specs.declared.net.Net.{Net}
 use Rattle.edif_design.specs.Design.{net_value}
 use Rattle.net_bits.specs.Classes.{members_of}
 use Rattle.net_live.specs.Last.{last_of}

@@ -1,6 +1,6 @@
 use Rattle.std.proofs.Common.{◌≡◌, map}
 use Rattle.std.specs.List.{AllByRecursion}
-use Rattle.edif_keywords.specs.Values.{IsString}
+use Rattle.edif_values.specs.Values.{IsString}
 use Rattle.edif_making.specs.Nets.{HaveSoundNets, live_below}
 use Rattle.edif_making.specs.declared.nets.Planned.{Planned}
 use Rattle.edif_making.proofs.nets.planned_nets.Given as goal

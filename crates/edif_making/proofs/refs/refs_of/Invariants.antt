@@ -1,6 +1,6 @@
 use Rattle.std.proofs.Common.{◌≡◌, ◌++◌, drop}
 use Rattle.std.specs.List.{AllByRecursion, filter_map}
-use Rattle.edif_nets.specs.Values.{IsPortRef}
+use Rattle.edif_values.specs.Values.{IsPortRef}
 use Rattle.edif_plans.specs.References.{ref_for, refs_for}
 use Rattle.edif_making.specs.Scenes.{scene_of}
 use Rattle.edif_making.proofs.refs.refs_of.Given as goal

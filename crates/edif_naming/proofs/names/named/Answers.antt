@@ -1,5 +1,5 @@
 use Rattle.std.proofs.Common.{sym, subst}
-use Rattle.edif_names.specs.Values.{IsNameDef}
+use Rattle.edif_values.specs.Values.{IsNameDef}
 use Rattle.edif_naming.proofs.SoundLaws.{sound_name}
 use Rattle.edif_naming.proofs.names.named.Goals as goal
 

@@ -1,5 +1,5 @@
 use Rattle.std.proofs.Common.{sym, subst}
-use Rattle.edif_names.specs.Values.{IsPortName}
+use Rattle.edif_values.specs.Values.{IsPortName}
 use Rattle.edif_naming.proofs.SoundLaws.{sound_port_name}
 use Rattle.edif_naming.proofs.names.port_named.Goals as goal
 

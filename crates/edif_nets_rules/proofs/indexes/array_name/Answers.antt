@@ -1,7 +1,7 @@
 use Rattle.std.proofs.Common.{◌≡◌, ◌∙◌, ap, take, length, List, ℕ, Some, option_map, subst, sym, Option, ℤ}
 use Rattle.std.proofs.Math.Facts.{to_z-of_z}
 use Rattle.nl_base.specs.Ranges.{Bounds}
-use Rattle.edif_names.specs.Names.{sized_form}
+use Rattle.edif_values.specs.Names.{sized_form}
 use Rattle.edif_nets_rules.proofs.ArrayLaws.{ranged}
 use Rattle.edif_nets_rules.proofs.indexes.array_name.Goals as goal
 

@@ -3,7 +3,7 @@ use Rattle.std.specs.List.{filter_map}
 use Rattle.std.proofs.lemmas.List.{length-map}
 use Rattle.edif_lookup.specs.Refusals.{in_order, lower, lowest}
 use Rattle.edif_lookup.proofs.Orders.{lowest-append}
-use Rattle.edif_names.specs.Names.{original}
+use Rattle.edif_values.specs.Names.{original}
 use Rattle.edif_design.specs.CellRules.{cell_refusals, contents_refusals, port_refusals}
 use Rattle.edif_design.specs.Parts.{cell_contents, instance_in, ports}
 use Rattle.edif_design.specs.References.{file_cells, numbers_meant, place_in}

@@ -1,7 +1,6 @@
 use Rattle.std.proofs.Common.{subst, sym}
 use Rattle.std.specs.List.{AllByRecursion}
-use Rattle.edif_keywords.specs.Values.{IsWord}
-use Rattle.edif_nets.specs.Values.{IsInstanceItem}
+use Rattle.edif_values.specs.Values.{IsWord, IsInstanceItem}
 use Rattle.edif_parts.proofs.InstanceLaws.{items_sound, netlist_is_word, work_is_word}
 use Rattle.edif_parts.proofs.instance.instance_with.Goals as goal
 

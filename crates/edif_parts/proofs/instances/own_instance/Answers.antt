@@ -1,5 +1,5 @@
 use Rattle.std.proofs.Common.{subst, sym}
-use Rattle.edif_keywords.specs.Values.{IsString}
+use Rattle.edif_values.specs.Values.{IsString}
 use Rattle.edif_naming.proofs.SoundLaws.{short_string}
 use Rattle.edif_parts.proofs.instances.own_instance.Goals as goal
 

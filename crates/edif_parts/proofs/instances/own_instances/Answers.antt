@@ -1,5 +1,5 @@
 use Rattle.std.proofs.Common.{refl, rules, arith}
-use Rattle.edif_nets.specs.Values.{IsInstance}
+use Rattle.edif_values.specs.Values.{IsInstance}
 use Rattle.edif_plans.specs.Faces.{instance_face, instance_ident, own_face}
 use Rattle.edif_plans.specs.Sound.{IsSoundInstance}
 use Rattle.edif_plans.proofs.Lists.{all_turn, is_at, item_turn, map_turn}

@@ -1,6 +1,6 @@
 use Rattle.std.proofs.Common.{◌≡◌, ◌++◌, drop, map}
 use Rattle.std.specs.List.{AllByRecursion}
-use Rattle.edif_nets.specs.Values.{IsInstance}
+use Rattle.edif_values.specs.Values.{IsInstance}
 use Rattle.edif_plans.specs.Faces.{instance_face, instance_ident, own_face}
 use Rattle.edif_plans.specs.Sound.{IsSoundInstance}
 use Rattle.edif_parts.proofs.instances.own_instances.Given as goal

@@ -1,5 +1,5 @@
 use Rattle.std.proofs.Common.{◌≡◌, ◌∷◌, map}
-use Rattle.edif_nets.specs.declared.port.PortItem.TheVariants as port_items
+use Rattle.edif_values.specs.declared.port.PortItem.TheVariants as port_items
 use Rattle.edif_parts.proofs.ports.port_items.Given as goal
 
 abbrev pub invariant-loop-property : goal.invariant-loop-property

@@ -1,6 +1,6 @@
 use Rattle.std.proofs.Common.{◌<◌, subst, sym, refl, rules}
 use Rattle.edif_design.specs.CellRules.{port_ident}
-use Rattle.edif_nets.specs.Values.{IsPort}
+use Rattle.edif_values.specs.Values.{IsPort}
 use Rattle.edif_plans.specs.Faces.{face_for, face_of}
 use Rattle.edif_plans.specs.Sound.{IsSoundPort}
 use Rattle.edif_plans.proofs.Lists.{all_turn, item_turn, map_turn}

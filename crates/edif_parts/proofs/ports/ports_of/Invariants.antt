@@ -1,7 +1,7 @@
 use Rattle.std.proofs.Common.{◌≡◌, ◌++◌, drop, map}
 use Rattle.std.specs.List.{AllByRecursion}
 use Rattle.edif_design.specs.CellRules.{port_ident}
-use Rattle.edif_nets.specs.Values.{IsPort}
+use Rattle.edif_values.specs.Values.{IsPort}
 use Rattle.edif_plans.specs.Faces.{face_for, face_of}
 use Rattle.edif_plans.specs.Sound.{IsSoundPort}
 use Rattle.edif_parts.proofs.ports.ports_of.Given as goal

@@ -1,5 +1,5 @@
 use Rattle.std.proofs.Common.{true, false}
-use Rattle.edif_keywords.specs.declared.keyword.Keyword.TheVariants as k
+use Rattle.edif_values.specs.declared.keyword.Keyword.TheVariants as k
 use Rattle.edif_productions.proofs.Combining.{whole_form}
 use Rattle.edif_productions.proofs.LibraryTexts.{interfaces, all_contents, views, cells, scales, library_bodies, designs}
 use Rattle.edif_productions.proofs.libraries.libraries_are_read.Goals as goal

@@ -1,6 +1,6 @@
 use Rattle.std.proofs.Common.{length}
 use Rattle.std.specs.List.{AllByRecursion}
-use Rattle.edif_keywords.specs.Values.{IsWord}
+use Rattle.edif_values.specs.Values.{IsWord}
 use Rattle.edif_value_laws.proofs.words.words_of.Given as goal
 
 abbrev pub invariant-loop-left : goal.invariant-loop-left

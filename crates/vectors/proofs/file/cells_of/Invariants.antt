@@ -1,5 +1,5 @@
 use Rattle.std.proofs.Common.{◌≡◌, ◌+◌, map}
-use Rattle.edif_library.specs.declared.library.LibraryItem.TheVariants as library_items
+use Rattle.edif_values.specs.declared.library.LibraryItem.TheVariants as library_items
 use Rattle.vectors.specs.Files.{cells_of}
 use Rattle.vectors.specs.Numbers.{number_at}
 use Rattle.vectors.proofs.file.cells_of.Given as goal

@@ -2,7 +2,7 @@ use Rattle.std.proofs.Common.{◌≡◌, ◌≤◌, ◌∙◌, ap, sym, length, 
 use Rattle.std.specs.List.{flat_map}
 use Rattle.std.proofs.lemmas.List.{length-map}
 use Rattle.edif_lookup.specs.Tables.{named}
-use Rattle.edif_library.specs.Sizes.{edif_size}
+use Rattle.edif_values.specs.Sizes.{edif_size}
 use Rattle.edif_design.specs.Parts.{cells_in, libraries, numbered}
 use Rattle.edif_design.specs.References.{all_cells}
 use Rattle.edif_design.specs.Tables.{library_ident, place_of, places_from, seen, tables_from}

@@ -1,6 +1,6 @@
 use Rattle.std.proofs.Common.{◌∙◌, sym, ap, ◌<◌, ℕ, List, length, arith}
 use Rattle.edif_keywords.specs.Calls.{held_word}
-use Rattle.edif_keywords.specs.Keywords.{allowed_keyword}
+use Rattle.edif_values.specs.Keywords.{allowed_keyword}
 use Rattle.edif_keywords.proofs.HeldTokens.{keyword_held}
 use Rattle.edif_keywords.proofs.cursor.Cursor.keyword.Goals as goal
 

@@ -1,0 +1,5 @@
+pub mod Names
+pub mod Same
+pub mod Sizes
+pub mod Spelled
+pub mod Told

@@ -1,0 +1,21 @@
+// Ports (EDIF 2 0 0, port).
+use crate::name::PortName;
+use crate::note::Note;
+use crate::property::Property;
+use nl_base::{Dir, Seq, Text};
+
+/// A part of a port behind its name. A port has at most one direction; designators are kept and mean nothing.
+#[derive(Drop)]
+pub enum PortItem {
+    Direction(Dir),
+    Property(Property),
+    Designator(Text),
+    Note(Note),
+}
+
+/// A port of a cell (EDIF 2 0 0, port).
+#[derive(Drop)]
+pub struct Port {
+    pub name: PortName,
+    pub items: Seq<PortItem>,
+}
