@@ -13,3 +13,4 @@ pub mod Slots
 pub mod Spelled
 pub mod Tables
 pub mod Allowed
+pub mod HeldForms
