@@ -42,7 +42,7 @@ pub record HeldTaken (t : Token) (a b : Reader (List Alias) Found) (i : Supply) 
   pub near : IsNear b.window token.stop
 
 -- what is held of a reader is that of its bytes; such a reader is not spent, and has looked at no token
-held_live : {A : Type 0} (nothing held : A) (a : Reader (List Alias) Found) → (cond (is_unlooked a) held nothing ≡ nothing → ⊥) → (a.spent ≡ false) × (a.ahead ≡ None) × (cond (is_unlooked a) held nothing ≡ held)
+pub held_live : {A : Type 0} (nothing held : A) (a : Reader (List Alias) Found) → (cond (is_unlooked a) held nothing ≡ nothing → ⊥) → (a.spent ≡ false) × (a.ahead ≡ None) × (cond (is_unlooked a) held nothing ≡ held)
 held_live nothing held a some = by a.spent a.ahead some
   where
     by : (spent : Bool) (ahead : Option Found) → (cond (not spent && is_none ahead) held nothing ≡ nothing → ⊥) → (spent ≡ false) × (ahead ≡ None) × (cond (not spent && is_none ahead) held nothing ≡ held)

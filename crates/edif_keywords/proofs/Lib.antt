@@ -12,3 +12,4 @@ pub mod Slots
 pub mod Spelled
 pub mod Tables
 pub mod Allowed
+pub mod HeldForms

@@ -5,7 +5,10 @@ use Rattle.nl_base.specs.declared.fault.Reason.{Reason}
 use Rattle.nl_base.specs.declared.fault.ReadError.{ReadError}
 use Rattle.nl_base.specs.declared.fault.ReadError.TheVariants as errors
 use Rattle.edif_tokens.specs.declared.token.Found.{Found}
+use Rattle.edif_tokens.specs.declared.form.FormAt.{FormAt}
 use Rattle.edif_tokens.specs.Held as tokens
+use Rattle.edif_tokens.specs.HeldForm.{no_form}
+use Rattle.edif_tokens.specs.HeldForm as forms
 use Rattle.readers.specs.Readers.{Reader, spoilt}
 use Rattle.edif_keywords.specs.Aliases.{Alias}
 
@@ -28,6 +31,18 @@ held_word r = if is_unlooked r then tokens.held_word r.window else []
 -- the reader behind that word
 abbrev pub past_word : Reader (List Alias) Found → Reader (List Alias) Found
 past_word r = record { window = tokens.past_word r.window; ahead = r.ahead; context = r.context; spent = r.spent }
+
+-- where the form that is next begins of a reader that has looked at no token; its word has no bytes where the bytes that are held do not show it
+unfoldable pub form_at : Reader (List Alias) Found → FormAt
+form_at r = if is_unlooked r then forms.form_at r.window else no_form
+
+-- the word of that form
+abbrev pub form_word : Reader (List Alias) Found → List ℕ
+form_word r = tokens.held_word (tokens.past_mark r.window)
+
+-- the reader behind the `(` and the word of that form
+abbrev pub past_form : Reader (List Alias) Found → Reader (List Alias) Found
+past_form r = past_word (past_mark r)
 
 -- the value, or the refusal of the token at its place
 abbrev pub answer : {V : Type 0} → Place → ℕ → Result V Reason → Result V ReadError

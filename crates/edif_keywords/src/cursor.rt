@@ -3,12 +3,12 @@ ghost use Rattle.readers.specs.Parts.{any};
 ghost use Rattle.readers.specs.Sources.{supply, IsNear};
 ghost use Rattle.readers.specs.Readers.{same, fault_at, end_fault, spoilt, Reads, Looks, LooksAt, LooksFor, Ends, Adds};
 ghost use Rattle.grammar.specs.Whole.{proper};
-ghost use Rattle.edif_keywords.specs.Calls.{is_unlooked, held_mark, past_mark, held_word, past_word, answer, left_after};
+ghost use Rattle.edif_keywords.specs.Calls.{is_unlooked, held_mark, past_mark, held_word, past_word, form_at, form_word, past_form, answer, left_after};
 ghost use Rattle.edif_keywords.specs.Language.{edif};
 ghost use Rattle.edif_keywords.specs.Reasons.{opens, has_string, trailing};
 
 use crate::aliases::Aliases;
-use edif_tokens::{Found, Tokens};
+use edif_tokens::{FormAt, Found, Tokens};
 use edif_values::Token;
 use nl_base::{Place, ReadError, Reason, Seq, TextFault};
 use nl_io::Source;
@@ -109,6 +109,45 @@ impl Cursor {
         ensures { self.new ≡ past_word self.old }
     {
         self.tokens.take_word(count)
+    }
+
+    /// Where the form that is next begins, where no token was looked at and the bytes that are held show its `(` and its word.
+    #[inline(always)]
+    #[tactic(auto, unfolding(crate::specs::Calls::form_at))]
+    pub(crate) fn form_at(&self) -> FormAt
+        ensures at { result ≡ form_at self.now }
+        ensures held { length self.now.window.held ≤ 4096 }
+    {
+        // The buffer holds at most 4,096 bytes, as this call says.
+        let _here = self.tokens.here();
+        if self.is_unlooked() {
+            return self.tokens.form_at();
+        }
+        FormAt {
+            space: 0,
+            inner: 0,
+            count: 0,
+        }
+    }
+
+    /// The word of the form that is next.
+    #[inline(always)]
+    pub(crate) fn form_word(&self, at: FormAt) -> &[u8]
+        requires some { 0 < at.count }
+        requires form { at ≡ form_at self.now }
+        ensures { result.now ≡ form_word self.now }
+    {
+        self.tokens.form_word(at)
+    }
+
+    /// Takes the `(` and the word of the form that is next.
+    #[inline(always)]
+    pub(crate) fn take_form(&mut self, at: FormAt)
+        requires some { 0 < at.count }
+        requires form { at ≡ form_at self.old }
+        ensures { self.new ≡ past_form self.old }
+    {
+        self.tokens.take_form(at)
     }
 
     /// Takes the token ahead, which is there.

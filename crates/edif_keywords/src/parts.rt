@@ -125,8 +125,29 @@ impl Cursor {
     }
 
     /// Takes `(` and one of the allowed keywords, by the aliases.
-    #[tactic(auto, using(readers::proofs::Reading::sequences), unfolding(crate::specs::Grammar::begin))]
     pub fn begin<S: Source>(
+        &mut self,
+        alloc: Global,
+        allowed: &[Keyword],
+        source: &mut S,
+    ) -> Result<Keyword, ReadError>
+        ensures { Reads edif same (begin allowed.now) result self.old self.new (supply S.left S.faults source.old) (supply S.left S.faults source.new) }
+    {
+        let at = self.form_at();
+        if at.count > 0 {
+            let word = self.form_word(at);
+            if let Some(keyword) = find_allowed(word, allowed) {
+                self.take_form(at);
+                return Ok(keyword);
+            }
+        }
+        self.begin_tokens(alloc, allowed, source)
+    }
+
+    /// Takes any two tokens, which have to be `(` and one of the allowed keywords, by the aliases.
+    #[inline(never)]
+    #[tactic(auto, using(readers::proofs::Reading::sequences), unfolding(crate::specs::Grammar::begin))]
+    fn begin_tokens<S: Source>(
         &mut self,
         alloc: Global,
         allowed: &[Keyword],

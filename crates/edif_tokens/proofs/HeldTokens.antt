@@ -39,10 +39,10 @@ held_within w e = leb-true (w.place.offset + length w.held) LIMIT e
 past_offset : (n : ℕ) (w : Window) → n ≤ length w.held → (past n w).place.offset ≡ w.place.offset + n
 past_offset n w enough = omega (arith, place_past-offset w.place (take n w.held), length-take n w.held, enough)
 
-past_given : (n : ℕ) (w : Window) → n ≤ length w.held → given (past n w) ≡ given w
+pub past_given : (n : ℕ) (w : Window) → n ≤ length w.held → given (past n w) ≡ given w
 past_given n w enough = omega (arith, past_offset n w enough, length-drop n w.held, enough)
 
-space_given : (w : Window) → given (past_space w) ≡ given w
+pub space_given : (w : Window) → given (past_space w) ≡ given w
 space_given w = past_given (space_length w.held) w (prefix_len-le-length is_space w.held)
 
 -- ---- white space before a token
@@ -132,7 +132,7 @@ mark_read a b tail ahead is l = go (eqb b 40) refl (eqb b 41) refl is
     go false d true f h = let e = eqb-true b 41 f in subst (ReadsMark a l) (sym e) (close_read a tail (ahead ∙ ap (λ (x : ℕ). x ∷ tail) e) l)
     go false d false f h = absurd cc
 
-past_mark_is : (w : Window) → past_mark w ≡ past 1 (past_space w)
+pub past_mark_is : (w : Window) → past_mark w ≡ past 1 (past_space w)
 unfolding past_mark
 past_mark_is w = refl
 

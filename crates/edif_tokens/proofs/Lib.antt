@@ -9,3 +9,4 @@ pub mod Readers
 pub mod HeldTokens
 pub mod Limits
 pub mod Proper
+pub mod HeldForms

@@ -6,3 +6,4 @@ pub mod Stream
 pub mod Scan
 pub mod Proper
 pub mod Held
+pub mod HeldForm

@@ -1,6 +1,6 @@
 // The parenthesis or the word that is next, where the bytes that are held show it. It is taken with no token made.
 ghost use Rattle.std.specs.Prelude.{◌≡◌, ◌<◌, ℕ, true, length, Some};
-ghost use Rattle.edif_tokens.specs.Held.{is_near, front_mark, held_mark, past_space, past_mark, word_by, word_length, held_word, past_word};
+ghost use Rattle.edif_tokens.specs.Held.{is_near, space_length, front_mark, held_mark, past_space, past_mark, word_by, word_length, held_word, past_word};
 
 use crate::scan::may_follow;
 use nl_bytes::bytes::LIMIT;
@@ -8,7 +8,7 @@ use nl_bytes::{Bytes, Class};
 
 /// Whether all bytes that are held lie within the limit of an input.
 #[inline(always)]
-fn is_near(bytes: &Bytes) -> bool
+pub fn is_near(bytes: &Bytes) -> bool
     ensures { result ≡ is_near bytes.now }
 {
     bytes.place().offset + bytes.held().len() as u64 <= LIMIT
@@ -44,17 +44,37 @@ pub fn held_mark(bytes: &Bytes) -> Option<u8>
     front_mark(front)
 }
 
-/// Uses the white space that is held.
+/// How many bytes of white space are next.
 #[inline(always)]
-fn pass_space(bytes: &mut Bytes)
+pub fn space_ahead(bytes: &Bytes) -> usize
+    ensures { result ≡ space_length bytes.now.held }
+{
+    let held = bytes.held();
+    Class::Space.front(held)
+}
+
+/// Uses the white space that is next, which has so many bytes.
+#[inline(always)]
+fn pass_space(bytes: &mut Bytes, count: usize)
     requires near { is_near bytes.old ≡ true }
+    requires space { count ≡ space_length bytes.old.held }
     ensures { bytes.new ≡ past_space bytes.old }
 {
-    let count = Class::Space.front(bytes.held());
     if count == 0 {
         return;
     }
     bytes.pass(Class::Space, count);
+}
+
+/// Uses the parenthesis that is next, behind so many bytes of white space.
+#[inline(always)]
+pub fn pass_mark_behind(bytes: &mut Bytes, space: usize)
+    requires mark { (mark : ℕ) × (held_mark bytes.old ≡ Some mark) }
+    requires space { space ≡ space_length bytes.old.held }
+    ensures { bytes.new ≡ past_mark bytes.old }
+{
+    pass_space(bytes, space);
+    bytes.advance();
 }
 
 /// Uses the parenthesis that is next.
@@ -63,8 +83,8 @@ pub fn pass_mark(bytes: &mut Bytes)
     requires { (mark : ℕ) × (held_mark bytes.old ≡ Some mark) }
     ensures { bytes.new ≡ past_mark bytes.old }
 {
-    pass_space(bytes);
-    bytes.advance();
+    let space = space_ahead(bytes);
+    pass_mark_behind(bytes, space)
 }
 
 /// So many bytes of a word, where they are not too many and the byte behind them is there and may follow a word; 0 where not.
@@ -84,7 +104,7 @@ fn word_by(held: &[u8], count: usize) -> usize
 /// How many bytes a word that begins with a letter has at the front, where its end is there; 0 where not.
 #[inline(always)]
 #[tactic(auto, unfolding(crate::specs::Held::word_length))]
-fn word_length(held: &[u8]) -> usize
+pub fn word_length(held: &[u8]) -> usize
     ensures { result ≡ word_length held.now }
 {
     match held {
@@ -113,6 +133,18 @@ pub fn held_word(bytes: &Bytes) -> &[u8]
     word
 }
 
+/// Uses the word that is next, which has so many bytes, behind so many bytes of white space.
+#[inline(always)]
+pub fn pass_word_behind(bytes: &mut Bytes, space: usize, count: usize)
+    requires some { 0 < count }
+    requires word { count ≡ length (held_word bytes.old) }
+    requires space { space ≡ space_length bytes.old.held }
+    ensures { bytes.new ≡ past_word bytes.old }
+{
+    pass_space(bytes, space);
+    bytes.pass(Class::WordByte, count);
+}
+
 /// Uses the word that is next, which has so many bytes.
 #[inline(always)]
 pub fn pass_word(bytes: &mut Bytes, count: usize)
@@ -120,6 +152,6 @@ pub fn pass_word(bytes: &mut Bytes, count: usize)
     requires word { count ≡ length (held_word bytes.old) }
     ensures { bytes.new ≡ past_word bytes.old }
 {
-    pass_space(bytes);
-    bytes.pass(Class::WordByte, count);
+    let space = space_ahead(bytes);
+    pass_word_behind(bytes, space, count)
 }

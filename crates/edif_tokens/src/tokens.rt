@@ -2,6 +2,7 @@ ghost use Rattle.std.specs.Prelude.{◌≡◌, ◌+◌, ◌<◌, ◌≤◌, ℕ,
 ghost use Rattle.nl_bytes.specs.declared.bytes.TheConstants.{LIMIT};
 
 use crate::finding::found;
+use crate::form::{FormAt, form_at, form_word, pass_form};
 use crate::next::{held_mark, held_word, pass_mark, pass_word};
 use crate::token::Found;
 use nl_base::{NoMemory, Place, ReadError};
@@ -32,6 +33,7 @@ impl Tokens {
     ghost use Rattle.edif_values.specs.declared.token.Token.TheVariants.{Word};
     ghost use Rattle.edif_tokens.specs.Stream.{ReadsToken, fresh};
     ghost use Rattle.edif_tokens.specs.Held.{held_mark, mark_token, past_mark, held_word, past_word};
+    ghost use Rattle.edif_tokens.specs.HeldForm.{form_at, ReadsForm};
 
     /// A reader at the start of a text.
     ///
@@ -113,6 +115,44 @@ impl Tokens {
         // The buffer holds at most 4,096 bytes, as its call says.
         let _here = self.bytes.place();
         pass_word(&mut self.bytes, count)
+    }
+
+    /// Where the form that is next begins, where the bytes that are held show its `(` and its word.
+    ///
+    /// The word has some bytes exactly where they do.
+    #[inline(always)]
+    pub fn form_at(&self) -> FormAt
+        ensures at { result ≡ form_at self.now.window }
+        ensures held { length self.now.window.held ≤ 4096 }
+    {
+        // The buffer holds at most 4,096 bytes, as its call says.
+        let _here = self.bytes.place();
+        form_at(&self.bytes)
+    }
+
+    /// The word of the form that is next.
+    #[inline(always)]
+    pub fn form_word(&self, at: FormAt) -> &[u8]
+        requires some { 0 < at.count }
+        requires form { at ≡ form_at self.now.window }
+        ensures { result.now ≡ held_word (past_mark self.now.window) }
+    {
+        form_word(&self.bytes, at)
+    }
+
+    /// Takes the `(` and the word of the form that is next.
+    ///
+    /// A reader that is not spent then stands as after two calls of `next`, which answer the parenthesis and the word.
+    #[inline(always)]
+    pub fn take_form(&mut self, at: FormAt)
+        requires some { 0 < at.count }
+        requires form { at ≡ form_at self.old.window }
+        ensures left { self.new ≡ record { window = past_word (past_mark self.old.window); spent = self.old.spent } }
+        ensures reads { IsFalse self.old.spent → (left : Option (List ℕ)) → (faults : ℕ) → ReadsForm (held_word (past_mark self.old.window)) self.old (record { window = past_mark self.old.window; spent = self.old.spent }) self.new left faults }
+    {
+        // The buffer holds at most 4,096 bytes, as its call says.
+        let _here = self.bytes.place();
+        pass_form(&mut self.bytes, at)
     }
 
     /// Reads the next token, or `None` at the end of the input.

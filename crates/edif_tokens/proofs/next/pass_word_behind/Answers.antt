@@ -1,8 +1,8 @@
 use Rattle.edif_tokens.proofs.HeldTokens.{word_next, word_past, word_room}
-use Rattle.edif_tokens.proofs.next.pass_word.Goals as goal
+use Rattle.edif_tokens.proofs.next.pass_word_behind.Goals as goal
 
-pub pass_space-requires : goal.pass_space-requires
-pass_space-requires c = record { near = (word_next _ _ c.requires.word c.requires.some).near }
+pub pass_space-requires-clause-near : goal.pass_space-requires-clause-near
+pass_space-requires-clause-near c = (word_next _ _ c.requires.word c.requires.some).near
 
 pub pass-requires-clause-held : goal.pass-requires-clause-held
 pass-requires-clause-held c = (word_room c.args.bytes.now _ _ c.requires.word c.requires.some c.pass_space.ensures).0
