@@ -27,7 +27,7 @@ use Rattle.vlog_exprs.specs.Reasons.{mark_of, at_mark, at_expr}
 use Rattle.vlog_exprs.proofs.OneToken.{one_says}
 
 -- the next token is left that is taken for nothing
-left_next : {K X C : Type 0} (L : Language X) (f : K → X → Glance C Reason) (k : K) (x : X) (s t : Option (Ahead X)) → reading L any k s ≡ then_left x t → f k x ≡ leaves → reading L (maybe f) k s ≡ then_left None s
+pub left_next : {K X C : Type 0} (L : Language X) (f : K → X → Glance C Reason) (k : K) (x : X) (s t : Option (Ahead X)) → reading L any k s ≡ then_left x t → f k x ≡ leaves → reading L (maybe f) k s ≡ then_left None s
 unfolding reading any maybe then_left
 left_next L f k x None t h e = refl
 left_next L f k x (Some s) None h e = absurd cc

@@ -5,6 +5,7 @@ pub mod Ends
 pub mod Expressions
 pub mod Glances
 pub mod HeldMarks
+pub mod HeldWords
 pub mod Live
 pub mod OneToken
 pub mod TokenKinds

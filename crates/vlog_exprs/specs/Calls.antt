@@ -1,5 +1,5 @@
 -- What a call answers for what a token says.
-use Rattle.std.specs.Prelude.{◌≡◌, ℕ, Result, Ok, Err, IfOk, IfSome, Option, Some, None, is_some, Bool, true, false, if◌then◌else◌}
+use Rattle.std.specs.Prelude.{◌≡◌, ℕ, ◌<◌, ◌≤◌, not, ◌&&◌, List, [], length, is_none, Result, Ok, Err, IfOk, IfSome, Option, Some, None, is_some, Bool, true, false, if◌then◌else◌}
 use Rattle.nl_base.specs.declared.place.Place.{Place}
 use Rattle.nl_base.specs.declared.fault.Reason.{Reason}
 use Rattle.nl_base.specs.declared.fault.ReadError.{ReadError}
@@ -14,6 +14,8 @@ use Rattle.vlog_tokens.specs.Held as tokens
 use Rattle.vlog_exprs.specs.Language.{NoContext}
 use Rattle.vlog_tokens.specs.declared.token.VFound.{VFound}
 use Rattle.vlog_tokens.specs.declared.token.VToken.{VToken}
+use Rattle.vlog_tokens.specs.declared.token.VToken.TheVariants.{Name}
+use Rattle.vlog_tokens.specs.Items.{word_token}
 use Rattle.vlog_exprs.specs.declared.glance.Glance.{Glance}
 use Rattle.vlog_exprs.specs.declared.glance.Glance.TheVariants.{Takes, Refuses, Leaves}
 
@@ -29,6 +31,24 @@ held_mark r = if r.spent then None else unlooked r.ahead (tokens.held_mark r.win
 -- the reader behind that mark
 abbrev pub past_mark : Reader NoContext VFound → Reader NoContext VFound
 past_mark r = record { window = tokens.past_mark r.window; ahead = r.ahead; context = r.context; spent = r.spent }
+
+-- whether no error has spent a reader, and it has looked at no token
+abbrev pub is_unlooked : Reader NoContext VFound → Bool
+is_unlooked r = not r.spent && is_none r.ahead
+
+-- the simple name or the keyword that is next of a reader that has looked at no token, where the bytes that are held show it and its end
+unfoldable pub held_word : Reader NoContext VFound → List ℕ
+held_word r = if is_unlooked r then tokens.held_word r.window else []
+
+-- the reader behind that word
+abbrev pub past_word : Reader NoContext VFound → Reader NoContext VFound
+past_word r = record { window = tokens.past_word r.window; ahead = r.ahead; context = r.context; spent = r.spent }
+
+-- The name that is held was taken, or nothing was taken where no name is held, or there was no memory for the name.
+abbrev pub TakesHeld : Result (Option (List ℕ)) ReadError → Reader NoContext VFound → Reader NoContext VFound → Type 0
+TakesHeld (Ok (Some name)) old new = (word_token (held_word old) ≡ Name name) × (0 < length (held_word old)) × (length old.window.held ≤ 4096) × (new ≡ past_word old)
+TakesHeld (Ok None) old new = new ≡ old
+TakesHeld (Err e) old new = (e ≡ errors.NoMemory) × (0 < length (held_word old)) × (new ≡ spoilt old)
 
 -- the value, or the refusal of the token at its place, unless there was no memory for the reason's word
 abbrev pub answer : {V : Type 0} → Place → ℕ → Result (Result V Reason) NoMemory → Result V ReadError

@@ -24,6 +24,11 @@ fn takes_group<S: Source>(
 ) -> Result<bool, ReadError>
     ensures { TakesNext vlog stands (λ _ x. say.at_group x.token) result cursor.old cursor.new (supply S.left S.faults source.old) (supply S.left S.faults source.new) }
 {
+    let held = cursor.held_word();
+    let count = held.len();
+    if count > 0 {
+        return Ok(false);
+    }
     if let Some(_mark) = cursor.held_mark() {
         return Ok(false);
     }

@@ -1,19 +1,19 @@
-ghost use Rattle.std.specs.Prelude.{◌≡◌, ◌≤◌, ℕ, length, None, Some, IfOk, IfSome, IsSome, IsNone, IsTrue, IsFalse, option_map};
+ghost use Rattle.std.specs.Prelude.{◌≡◌, ◌<◌, ◌≤◌, ℕ, length, None, Some, IfOk, IfSome, IsSome, IsNone, IsTrue, IsFalse, option_map};
 ghost use Rattle.grammar.specs.Whole.{proper};
 ghost use Rattle.readers.specs.Parts.{any};
 ghost use Rattle.readers.specs.Sources.{supply, IsNear};
 ghost use Rattle.readers.specs.Readers.{same, fault_at, spoilt, Reads, Looks, Ends, Adds};
 ghost use Rattle.vlog_tokens.specs.Language.{vlog};
-ghost use Rattle.vlog_exprs.specs.Calls.{held_mark, past_mark, answer, left_after, seen_answer, seen_left, LooksOut};
+ghost use Rattle.vlog_exprs.specs.Calls.{is_unlooked, held_mark, past_mark, held_word, past_word, TakesHeld, answer, left_after, seen_answer, seen_left, LooksOut};
 ghost use Rattle.vlog_exprs.specs.Reasons.{trailing};
 
 use crate::glance::Glance;
 use crate::reasons::refused;
-use nl_base::{NoMemory, Place, ReadError, Reason, Seq, TextFault};
+use nl_base::{NoMemory, Place, ReadError, Reason, Seq, Text, TextFault};
 use nl_io::Source;
 use std::alloc::Global;
 use std::marker::Model;
-use vlog_tokens::{VFound, VTokens};
+use vlog_tokens::{VFound, VTokens, is_keyword};
 
 /// Reads the parts of a text, one after another, with one token of look-ahead.
 ///
@@ -77,6 +77,60 @@ impl VCursor {
         ensures { self.new ≡ past_mark self.old }
     {
         self.tokens.take_mark()
+    }
+
+    /// Whether no error has spent it, and no token was looked at.
+    #[inline(always)]
+    fn is_unlooked(&self) -> bool
+        ensures { result ≡ is_unlooked self.now }
+    {
+        !self.spent && self.ahead.is_none()
+    }
+
+    /// The simple name or the keyword that is next, where no token was looked at and the bytes that are held show it and its end;
+    /// no bytes where not.
+    #[inline(always)]
+    #[tactic(auto, unfolding(crate::specs::Calls::held_word))]
+    pub fn held_word(&self) -> &[u8]
+        ensures word { result.now ≡ held_word self.now }
+        ensures held { length self.now.window.held ≤ 4096 }
+    {
+        // The buffer holds at most 4,096 bytes, as this call says.
+        let _here = self.tokens.here();
+        if self.is_unlooked() {
+            return self.tokens.held_word();
+        }
+        &[]
+    }
+
+    /// Takes the word that is next, which has so many bytes.
+    #[inline(always)]
+    pub(crate) fn take_word(&mut self, count: usize)
+        requires some { 0 < count }
+        requires word { count ≡ length (held_word self.old) }
+        ensures { self.new ≡ past_word self.old }
+    {
+        self.tokens.take_word(count)
+    }
+
+    /// Takes the name that is next, where no token was looked at and the bytes that are held show it and its end.
+    #[inline(always)]
+    pub(crate) fn held_name(&mut self, alloc: Global) -> Result<Option<Text>, ReadError>
+        ensures { TakesHeld result self.old self.new }
+    {
+        let held = self.held_word();
+        let count = held.len();
+        if count == 0 {
+            return Ok(None);
+        }
+        if is_keyword(held) {
+            return Ok(None);
+        }
+        let Ok(text) = Text::copy(alloc, held) else {
+            return Err(self.no_memory());
+        };
+        self.take_word(count);
+        Ok(Some(text))
     }
 
     /// Takes the token ahead, which is there.

@@ -28,6 +28,25 @@ fn take_expr_start<S: Source>(
     ensures reads { Reads vlog same (expr_start left room) result cursor.old cursor.new (supply S.left S.faults source.old) (supply S.left S.faults source.new) }
     ensures room { IfOk result (λ start. start ≡ ExprStart.Brace → 0 < room) }
 {
+    let held = cursor.held_name(alloc)?;
+    if let Some(text) = held {
+        return Ok(ExprStart::Name(text));
+    }
+    take_expr_token(alloc, cursor, left, room, source)
+}
+
+/// Takes any token, with which an expression has to begin.
+#[inline(never)]
+fn take_expr_token<S: Source>(
+    alloc: Global,
+    cursor: &mut VCursor,
+    left: bool,
+    room: u8,
+    source: &mut S,
+) -> Result<ExprStart, ReadError>
+    ensures reads { Reads vlog same (expr_start left room) result cursor.old cursor.new (supply S.left S.faults source.old) (supply S.left S.faults source.new) }
+    ensures room { IfOk result (λ start. start ≡ ExprStart.Brace → 0 < room) }
+{
     let VFound { place, stop, token } = cursor.take(alloc, source)?;
     let said = expr_start(alloc, left, room, token);
     cursor.judged(place, stop, said)
@@ -35,6 +54,21 @@ fn take_expr_start<S: Source>(
 
 /// Takes the first token of an expression, where one is next.
 fn takes_expr_start<S: Source>(
+    alloc: Global,
+    cursor: &mut VCursor,
+    source: &mut S,
+) -> Result<Option<ExprStart>, ReadError>
+    ensures { TakesNext vlog same (λ _ x. say.at_expr x.token) result cursor.old cursor.new (supply S.left S.faults source.old) (supply S.left S.faults source.new) }
+{
+    let held = cursor.held_name(alloc)?;
+    if let Some(text) = held {
+        return Ok(Some(ExprStart::Name(text)));
+    }
+    takes_expr_token(alloc, cursor, source)
+}
+
+/// Looks at any token, and takes it where an expression begins with it.
+fn takes_expr_token<S: Source>(
     alloc: Global,
     cursor: &mut VCursor,
     source: &mut S,

@@ -185,7 +185,7 @@ pub fn choice_of<T: Copy>(alloc: Global, words: &[(&[u8], T)], token: VToken) ->
 
 /// The value of the first of some keywords that is this one.
 #[tactic(auto, unfolding(crate::specs::Reasons::meant_by))]
-fn meant_by<T: Copy>(words: &[(&[u8], T)], word: &[u8]) -> Option<T>
+pub fn meant_by<T: Copy>(words: &[(&[u8], T)], word: &[u8]) -> Option<T>
     ensures { result ≡ say.meant_by (say.rows words.now) word.now }
 {
     for (spelling, value) in words {

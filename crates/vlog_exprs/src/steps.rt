@@ -9,16 +9,28 @@ ghost use Rattle.vlog_exprs.specs.Reasons as say;
 
 use crate::cursor::VCursor;
 use crate::reasons::{
-    at_choice, at_mark, at_name, choice_of, keyword_of, mark_of, name_of, number_of,
+    at_choice, at_mark, at_name, choice_of, keyword_of, mark_of, meant_by, name_of, number_of,
 };
 use nl_base::{Int, ReadError, Text};
 use nl_io::Source;
 use std::alloc::Global;
-use vlog_tokens::VFound;
+use vlog_tokens::{VFound, is_keyword};
 
 impl VCursor {
     /// Takes a token: a name.
     pub fn name<S: Source>(&mut self, alloc: Global, source: &mut S) -> Result<Text, ReadError>
+        ensures { Reads vlog same name result self.old self.new (supply S.left S.faults source.old) (supply S.left S.faults source.new) }
+    {
+        let held = self.held_name(alloc)?;
+        if let Some(text) = held {
+            return Ok(text);
+        }
+        self.name_token(alloc, source)
+    }
+
+    /// Takes any token, which has to be a name.
+    #[inline(never)]
+    fn name_token<S: Source>(&mut self, alloc: Global, source: &mut S) -> Result<Text, ReadError>
         ensures { Reads vlog same name result self.old self.new (supply S.left S.faults source.old) (supply S.left S.faults source.new) }
     {
         let VFound { place, stop, token } = self.take(alloc, source)?;
@@ -112,6 +124,11 @@ impl VCursor {
             self.take_mark();
             return Ok(true);
         }
+        let held = self.held_word();
+        let count = held.len();
+        if count > 0 {
+            return Ok(false);
+        }
         self.takes_token(alloc, mark, source)
     }
 
@@ -160,6 +177,18 @@ impl VCursor {
     ) -> Result<Option<T>, ReadError>
         ensures { TakesNext vlog same (λ _ x. say.at_choice (say.rows words.now) x.token) result self.old self.new (supply S.left S.faults source.old) (supply S.left S.faults source.new) }
     {
+        let held = self.held_word();
+        let count = held.len();
+        if count > 0 {
+            let Some(value) = meant_by(words, held) else {
+                return Ok(None);
+            };
+            if is_keyword(held) {
+                self.take_word(count);
+                return Ok(Some(value));
+            }
+            return Ok(None);
+        }
         if let Some(_mark) = self.held_mark() {
             return Ok(None);
         }

@@ -1,8 +1,9 @@
-use Rattle.std.proofs.Common.{false, refl, sym}
-use Rattle.vlog_exprs.specs.Calls.{stands}
+use Rattle.std.proofs.Common.{false, refl, sym, ap, ◌<◌, List, ℕ, length, arith}
+use Rattle.vlog_exprs.specs.Calls.{stands, held_word}
 use Rattle.vlog_exprs.specs.Reasons.{at_group}
 use Rattle.vlog_exprs.proofs.HeldMarks.{mark_none}
 use Rattle.vlog_exprs.proofs.Glances.{seen_says, seen_none, seen_fails, stands_says, stands_fails}
+use Rattle.vlog_exprs.proofs.HeldWords.{word_none, group_leaves_word}
 use Rattle.vlog_exprs.proofs.attr.takes_group.Goals as goal
 
 pub returns-in_err-next : goal.returns-in_err-next
@@ -21,3 +22,8 @@ returns g c =
 
 pub returns-in-Some : goal.returns-in-Some
 returns-in-Some g c = mark_none stands at_group c.args.cursor.now c.args.cursor.now c.in-Some._mark (sym c.in-Some.ensures.mark) c.held_mark.ensures.held _ false refl refl
+
+pub returns-then-count-gt0 : goal.returns-then-count-gt0
+returns-then-count-gt0 g c =
+    let some : 0 < length (held_word c.args.cursor.now) = omega (arith, ap (λ (w : List ℕ). length w) c.held_word-held.ensures.word, c.if-count-gt0.true) in
+    word_none stands at_group c.args.cursor.now c.args.cursor.now some c.held_word-held.ensures.held _ false refl (group_leaves_word _)

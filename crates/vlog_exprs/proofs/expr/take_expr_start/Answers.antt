@@ -1,9 +1,14 @@
+use Rattle.std.proofs.Common.{refl}
+use Rattle.vlog_exprs.specs.Grammar as grammar
 use Rattle.vlog_exprs.specs.Reasons.{expr_start}
-use Rattle.vlog_exprs.proofs.OneToken.{one_says, one_fails}
+use Rattle.vlog_exprs.proofs.HeldWords.{name_says, name_fails, reads_still}
 use Rattle.vlog_exprs.proofs.expr.take_expr_start.Goals as goal
 
-pub returns-in_err-place-clause-reads : goal.returns-in_err-place-clause-reads
-returns-in_err-place-clause-reads g c = one_fails (λ _ x. expr_start c.args.left c.args.room x.token) _ _ _ _ _ _ c.in_err-place.ensures.reads c.from_residual.ensures.1
+pub returns-in_err-held-clause-reads : goal.returns-in_err-held-clause-reads
+returns-in_err-held-clause-reads g c = name_fails _ _ _ (λ _ x. expr_start c.args.left c.args.room x.token) _ _ c.in_err-held.ensures c.from_residual.ensures.1
+
+pub returns-in-Some-clause-reads : goal.returns-in-Some-clause-reads
+returns-in-Some-clause-reads g c = name_says _ _ _ (expr_start c.args.left c.args.room) c.in-Some.text _ (rw c.in-Some.is at c.in_ok-held.ensures) refl
 
 pub returns-clause-reads : goal.returns-clause-reads
-returns-clause-reads g c = one_says (λ _ x. expr_start c.args.left c.args.room x.token) _ _ _ _ _ c.in_ok-place.ensures.reads c.in_ok-place.ensures.near _ _ _ c.expr_start-said.ensures c.judged.ensures.answer c.judged.ensures.left
+returns-clause-reads g c = reads_still (grammar.expr_start c.args.left c.args.room) (rw c.in_default.is at c.in_ok-held.ensures) c.take_expr_token.ensures.reads

@@ -1,8 +1,10 @@
-use Rattle.std.proofs.Common.{None, refl, sym}
+use Rattle.std.proofs.Common.{rules, ◌≡◌, Some, None, refl, sym, ap, ◌∙◌, ◌<◌, List, ℕ, length, arith}
 use Rattle.readers.specs.Readers.{same}
-use Rattle.vlog_exprs.specs.Reasons.{at_choice, rows}
+use Rattle.vlog_exprs.specs.Reasons.{at_choice, meant_by, rows}
 use Rattle.vlog_exprs.proofs.Glances.{seen_says, seen_none, seen_fails}
 use Rattle.vlog_exprs.proofs.HeldMarks.{mark_none}
+use Rattle.vlog_exprs.specs.Calls.{held_word}
+use Rattle.vlog_exprs.proofs.HeldWords.{word_some, word_none, choice_leaves_word, choice_leaves_name, choice_takes_word}
 use Rattle.vlog_exprs.proofs.cursor.VCursor.takes_choice.Goals as goal
 
 pub returns-in_err-next : goal.returns-in_err-next
@@ -14,5 +16,25 @@ returns-in_default-next g c = seen_none (λ _ x. at_choice (rows c.args.words.no
 pub returns : goal.returns
 returns g c = seen_says (λ _ x. at_choice (rows c.args.words.now) x.token) _ _ _ _ _ (rw c.in-Some-next.is at c.in_ok-next.ensures) _ _ _ c.at_choice.ensures c.settled.ensures.answer c.settled.ensures.left
 
-pub returns-in-Some : goal.returns-in-Some
-returns-in-Some g c = mark_none same (at_choice (rows c.args.words.now)) c.args.self.now c.args.self.now c.in-Some._mark (sym c.in-Some.ensures.mark) c.held_mark.ensures.held _ None refl refl
+pub returns-in-Some-held_mark : goal.returns-in-Some-held_mark
+returns-in-Some-held_mark g c =
+    mark_none same (at_choice (rows c.args.words.now)) c.args.self.now c.args.self.now c.in-Some-held_mark._mark (sym c.in-Some-held_mark.ensures.mark) c.held_mark.ensures.held _ None refl refl
+
+pub returns-in_default : goal.returns-in_default
+returns-in_default g c =
+    let some : 0 < length (held_word c.args.self.now) = omega (arith, ap (λ (w : List ℕ). length w) c.held_word-held.ensures.word, c.if-count-gt0.true) in
+    let none : None ≡ meant_by (rows c.args.words.now) c.held_word-held.result.now = search (rules, c.meant_by.ensures, c.in_default) in
+    word_none same (at_choice (rows c.args.words.now)) c.args.self.now c.args.self.now some c.held_word-held.ensures.held _ None refl (choice_leaves_word (rows c.args.words.now) _ _ c.held_word-held.ensures.word none)
+
+pub returns-then-is_keyword : goal.returns-then-is_keyword
+returns-then-is_keyword g c =
+    let some : 0 < length (held_word c.args.self.now) = omega (arith, ap (λ (w : List ℕ). length w) c.held_word-held.ensures.word, c.if-count-gt0.true) in
+    let value : Some c.in-Some.value ≡ meant_by (rows c.args.words.now) c.held_word-held.result.now = search (rules, c.meant_by.ensures, c.in-Some) in
+    word_some same (at_choice (rows c.args.words.now)) c.args.self.now c.take_word.new.self some c.held_word-held.ensures.held _ (Some c.in-Some.value) c.in-Some.value refl
+    (choice_takes_word (rows c.args.words.now) _ _ c.in-Some.value c.held_word-held.ensures.word (sym c.is_keyword.ensures ∙ c.if-is_keyword.true) value) c.take_word.ensures
+
+pub returns-then-count-gt0 : goal.returns-then-count-gt0
+returns-then-count-gt0 g c =
+    let some : 0 < length (held_word c.args.self.now) = omega (arith, ap (λ (w : List ℕ). length w) c.held_word-held.ensures.word, c.if-count-gt0.true) in
+    word_none same (at_choice (rows c.args.words.now)) c.args.self.now c.args.self.now some c.held_word-held.ensures.held _ None refl
+    (choice_leaves_name (rows c.args.words.now) _ _ c.held_word-held.ensures.word (sym c.is_keyword.ensures ∙ c.if-is_keyword.false))
