@@ -7,7 +7,6 @@ use Rattle.grammar.specs.Whole.{Terminal, proper, end}
 use Rattle.nl_base.specs.declared.place.Place.{Place}
 use Rattle.nl_base.specs.declared.fault.Reason.{Reason}
 use Rattle.nl_base.specs.declared.fault.ReadError.{ReadError}
-use Rattle.nl_base.specs.declared.fault.ReadError.TheVariants as errors
 use Rattle.nl_bytes.specs.Bytes.{Window}
 use Rattle.readers.specs.Parts.{of_token, any, one, maybe}
 use Rattle.readers.specs.Sources.{Supply, Ahead, Language, IsNear}
@@ -27,7 +26,7 @@ use Rattle.vlog_tokens.specs.Language.{vlog}
 use Rattle.vlog_tokens.proofs.HeldWords.{word_reads}
 use Rattle.vlog_exprs.specs.Language.{NoContext, Vlog}
 use Rattle.vlog_exprs.specs.Calls.{held_word, past_word, TakesHeld}
-use Rattle.vlog_exprs.specs.Reasons.{at_mark, at_group, at_choice, meant_by, glance_of}
+use Rattle.vlog_exprs.specs.Reasons.{at_mark, at_group, at_name, at_choice, meant_by, glance_of}
 use Rattle.vlog_exprs.proofs.OneToken.{one_says}
 use Rattle.vlog_exprs.proofs.HeldMarks.{left_next}
 
@@ -144,6 +143,16 @@ group_leaves_word w = by (is_keyword w)
     by : (t : Bool) → at_group (cond t (Keyword w) (Name w)) ≡ leaves
     by true = refl
     by false = refl
+
+-- a keyword has some bytes
+pub keyword_some : (w : List ℕ) → is_keyword w ≡ true → 0 < length w
+unfolding is_keyword
+keyword_some [] k = absurd cc
+keyword_some (x ∷ xs) k = omega arith
+
+-- a keyword is no name
+pub name_leaves_keyword : (w : List ℕ) → is_keyword w ≡ true → at_name (word_token w) ≡ leaves
+name_leaves_keyword w k = rw k refl
 
 -- a word that is none of some keywords is left
 pub choice_leaves_word : {A : Type 0} (words : List (List ℕ × A)) (w v : List ℕ) → v ≡ w → None ≡ meant_by words v → at_choice words (word_token w) ≡ leaves

@@ -3,6 +3,7 @@ ghost use Rattle.grammar.specs.Whole.{proper};
 ghost use Rattle.readers.specs.Parts.{any};
 ghost use Rattle.readers.specs.Sources.{supply, IsNear};
 ghost use Rattle.readers.specs.Readers.{same, fault_at, spoilt, Reads, Looks, Ends, Adds};
+ghost use Rattle.vlog_tokens.specs.Keywords.{is_keyword};
 ghost use Rattle.vlog_tokens.specs.Language.{vlog};
 ghost use Rattle.vlog_exprs.specs.Calls.{is_unlooked, held_mark, past_mark, held_word, past_word, TakesHeld, answer, left_after, seen_answer, seen_left, LooksOut};
 ghost use Rattle.vlog_exprs.specs.Reasons.{trailing};
@@ -101,6 +102,16 @@ impl VCursor {
             return self.tokens.held_word();
         }
         &[]
+    }
+
+    /// Whether the word that is next is a keyword.
+    #[inline(always)]
+    pub(crate) fn at_held_keyword(&self) -> bool
+        ensures keyword { result ≡ is_keyword (held_word self.now) }
+        ensures held { length self.now.window.held ≤ 4096 }
+    {
+        let held = self.held_word();
+        is_keyword(held)
     }
 
     /// Takes the word that is next, which has so many bytes.

@@ -158,6 +158,25 @@ impl VCursor {
     ) -> Result<Option<Text>, ReadError>
         ensures { TakesNext vlog same (λ _ x. say.at_name x.token) result self.old self.new (supply S.left S.faults source.old) (supply S.left S.faults source.new) }
     {
+        let held = self.held_name(alloc)?;
+        if let Some(text) = held {
+            return Ok(Some(text));
+        }
+        self.takes_name_token(alloc, source)
+    }
+
+    /// Looks at any token, and takes it where it is a name.
+    #[inline(never)]
+    fn takes_name_token<S: Source>(
+        &mut self,
+        alloc: Global,
+        source: &mut S,
+    ) -> Result<Option<Text>, ReadError>
+        ensures { TakesNext vlog same (λ _ x. say.at_name x.token) result self.old self.new (supply S.left S.faults source.old) (supply S.left S.faults source.new) }
+    {
+        if self.at_held_keyword() {
+            return Ok(None);
+        }
         if let Some(_mark) = self.held_mark() {
             return Ok(None);
         }
