@@ -36,6 +36,7 @@ use Rattle.edif_values.specs.declared.file.Design.{Design}
 use Rattle.edif_values.specs.declared.file.FileItem.{FileItem}
 use Rattle.edif_values.specs.declared.file.FileItem.TheVariants as file_items
 use Rattle.edif_values.specs.declared.file.EdifFile.{EdifFile}
+use Rattle.edif_values.specs.Values.{is_contents, is_view}
 
 -- ---- interfaces and contents
 

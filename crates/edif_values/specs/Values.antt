@@ -1,7 +1,7 @@
 -- The values that are read from a text or can be written: their words are identifiers of at most 1,024 bytes, their numbers have an absolute
 -- value of at most 2^63-1, their strings have at most 1,048,576 bytes, lists of user data are at most 64 deep, a port has at most one
 -- direction, a view has at most one contents, and a cell has at most one view.
-use Rattle.std.specs.Prelude.{ℕ, ℤ, List, ⊤, IfSome, suc, ◌≤◌, max, fold, [], ◌∷◌, ◌++◌, Option, Some, None, length}
+use Rattle.std.specs.Prelude.{Bool, true, false, ℕ, ℤ, List, ⊤, IfSome, suc, ◌≤◌, max, fold, [], ◌∷◌, ◌++◌, Option, Some, None, length}
 use Rattle.std.specs.List.{AllByRecursion, filter}
 use Rattle.nl_base.specs.declared.number.Scaled.{Scaled}
 use Rattle.nl_base.specs.declared.value.PropValue.{PropValue}
