@@ -3,7 +3,10 @@ ghost use Rattle.std.specs.Prelude.{◌≡◌, ◌++◌, option_to_list, Some, I
 ghost use Rattle.std.specs.List.{filter_map, flat_map};
 ghost use Rattle.edif_design.specs.Design.{cell_properties, design_properties, design_property, instance_property, interface_property, net_property, port_property, property_value, view_property};
 
-use edif_values::{Cell, CellItem, Design, DesignItem, InstanceItem, InterfaceItem, NetItem, PortItem, Property, ViewItem, original};
+use edif_values::{
+    Cell, CellItem, Design, DesignItem, InstanceItem, InterfaceItem, NetItem, PortItem, Property,
+    ViewItem, original,
+};
 use net_hier::HProp;
 use nl_base::{NoMemory, PropValue, Seq, Text};
 use std::alloc::Global;

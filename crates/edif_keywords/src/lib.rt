@@ -16,8 +16,8 @@ pub mod header;
 pub mod parts;
 mod reasons;
 
-pub use edif_values::{Keyword, is_among, spelling};
 pub use aliases::{AliasFault, Aliases};
 pub use comment::read_comment;
 pub use cursor::Cursor;
+pub use edif_values::{Keyword, is_among, spelling};
 pub use find::find_keyword;

@@ -10,7 +10,7 @@ use crate::view::read_view;
 use edif_keywords::Cursor;
 use edif_names::{read_name, read_property};
 use edif_status::{read_note, read_status};
-use edif_values::{Cell, CellItem, CellKind, Keyword, Note, Property, Status, View, same_keyword};
+use edif_values::{Cell, CellItem, CellKind, Keyword, same_keyword};
 use nl_base::{ReadError, Seq};
 use nl_io::Source;
 use std::alloc::Global;

@@ -13,7 +13,7 @@ use edif_keywords::Cursor;
 use edif_names::read_name;
 use edif_status::{read_note, read_status};
 use edif_tokens::Tokens;
-use edif_values::{Design, EdifFile, FileItem, Keyword, Library, NameDef, Note, Status, same_keyword};
+use edif_values::{EdifFile, FileItem, Keyword, NameDef, same_keyword};
 use nl_base::{ReadError, Seq};
 use nl_io::Source;
 use std::alloc::Global;

@@ -4,7 +4,8 @@
 // by the grammar in `specs/Grammar.antt`; a text fault only where the bytes have that first fault, with its place and its reason; and
 // `TooLong` only where more bytes are given than are looked at and no first fault lies within those. A source that fails and want of
 // memory aside, it answers nothing else, and at a fault at most 4,096 bytes past its stop were taken. `laws` has it that these are three
-// cases: a text reads as at most one file, has at most one first fault, and never both. `edif_size` counts the items of all lists.
+// cases: a text reads as at most one file, has at most one first fault, and never both. The types and `edif_size` are those of
+// `edif_values`.
 #![tactic(auto)]
 
 pub mod cell;

@@ -10,7 +10,7 @@ use crate::technology::read_technology;
 use edif_keywords::Cursor;
 use edif_names::read_name;
 use edif_status::{read_note, read_status};
-use edif_values::{Cell, Keyword, Library, LibraryItem, Note, Status, same_keyword};
+use edif_values::{Keyword, Library, LibraryItem, same_keyword};
 use nl_base::{ReadError, Seq};
 use nl_io::Source;
 use std::alloc::Global;

@@ -11,7 +11,7 @@ use crate::interface::read_interface;
 use edif_keywords::Cursor;
 use edif_names::{read_name, read_property};
 use edif_status::{read_note, read_status};
-use edif_values::{Keyword, Note, Property, Status, View, ViewItem, same_keyword};
+use edif_values::{Keyword, View, ViewItem, same_keyword};
 use nl_base::{ReadError, Seq};
 use nl_io::Source;
 use std::alloc::Global;

@@ -14,7 +14,10 @@ use crate::contents::contents_of;
 use edif_naming::{named, properties_of};
 use edif_parts::{interface_of, output_port, view_ident};
 use edif_plans::Head;
-use edif_values::{Cell, CellItem, CellKind, ContentsItem, Instance, InterfaceItem, NameDef, Net, Port, PortName, Property, View, ViewItem};
+use edif_values::{
+    Cell, CellItem, CellKind, ContentsItem, Instance, InterfaceItem, NameDef, Net, Port, PortName,
+    Property, View, ViewItem,
+};
 use net_hier::{ConstName, HCell, HProp, Hier};
 use net_live::{add_props, last_values};
 use nl_base::{Ident, NoMemory, Seq};

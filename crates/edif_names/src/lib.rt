@@ -3,9 +3,7 @@
 // The public contract in plain words: `read_name` and `read_port_name` take a name from its first token on, `read_scaled` a number
 // from its first token on, and `read_property` what follows the keyword of a property up to its `)`. Each takes the tokens that its
 // production in `specs/Grammar.antt` spells a value with, and answers that value, or that part's first fault with its place and
-// reason, as the calls of `Cursor` do. `original` answers the text of a `rename`, else the identifier. `port_original` answers the
-// base and the range of an array whose text is one such as `bus[7:0]` of the array's size; any other text is the array's name, with
-// the range SIZE-1:0.
+// reason, as the calls of `Cursor` do. The types, `original` and `port_original` are those of `edif_values`.
 #![tactic(auto)]
 
 pub mod name;

@@ -9,7 +9,7 @@ use crate::port::read_designator;
 use edif_keywords::Cursor;
 use edif_names::{read_name, read_property};
 use edif_status::read_note;
-use edif_values::{Instance, InstanceItem, Keyword, Note, Property, same_keyword};
+use edif_values::{Instance, InstanceItem, Keyword, same_keyword};
 use nl_base::{Ident, ReadError, Seq};
 use nl_io::Source;
 use std::alloc::Global;

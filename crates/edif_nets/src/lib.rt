@@ -3,7 +3,7 @@
 // The public contract in plain words: each read call goes on behind the keyword of its form and takes the form up to its `)`. It answers the
 // value that the tokens spell, or the form's first fault with its place and reason; a source that fails and want of memory aside, it answers
 // nothing else. A port has at most one direction, and one that has none goes both ways. A net keeps what it joins in the order of the text, each
-// reference with its member and its instance (EDIF 2 0 0, port, instance and net).
+// reference with its member and its instance (EDIF 2 0 0, port, instance and net). The types and `direction` are those of `edif_values`.
 #![tactic(auto)]
 
 pub mod instance;

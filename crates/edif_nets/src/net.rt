@@ -8,7 +8,7 @@ ghost use Rattle.edif_nets.specs.Grammar.{member, whole_port, port_or_member, in
 use edif_keywords::Cursor;
 use edif_names::{read_name, read_property};
 use edif_status::read_note;
-use edif_values::{Keyword, Net, NetItem, Note, PortRef, Property, same_keyword};
+use edif_values::{Keyword, Net, NetItem, PortRef, same_keyword};
 use nl_base::{Ident, Int, ReadError, Seq};
 use nl_io::Source;
 use std::alloc::Global;

@@ -9,7 +9,7 @@ ghost use Rattle.edif_nets.specs.Grammar.{designator, direction_words, direction
 use edif_keywords::Cursor;
 use edif_names::{read_port_name, read_property};
 use edif_status::read_note;
-use edif_values::{Keyword, Note, Port, PortItem, Property, same_keyword};
+use edif_values::{Keyword, Port, PortItem, same_keyword};
 use nl_base::{Dir, ReadError, Seq, Text};
 use nl_io::Source;
 use std::alloc::Global;

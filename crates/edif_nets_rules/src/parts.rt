@@ -4,7 +4,9 @@ ghost use Rattle.std.specs.List.{filter_map, flat_map};
 ghost use Rattle.edif_design.specs.Parts.{cell_contents, contents, contents_in, instance_in, net_in, port_in, ports, view_in};
 ghost use Rattle.edif_nets_rules.specs.Lists.{interface_ports, seen};
 
-use edif_values::{Cell, CellItem, ContentsItem, Instance, InterfaceItem, Net, Port, View, ViewItem};
+use edif_values::{
+    Cell, CellItem, ContentsItem, Instance, InterfaceItem, Net, Port, View, ViewItem,
+};
 use nl_base::NoMemory;
 use std::alloc::Global;
 

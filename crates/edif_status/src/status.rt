@@ -7,7 +7,7 @@ ghost use Rattle.edif_status.specs.Grammar.{status_written, status_note, status_
 use crate::note::read_note;
 use crate::written::read_written;
 use edif_keywords::Cursor;
-use edif_values::{Keyword, Note, Status, StatusItem, Written, same_keyword};
+use edif_values::{Keyword, Status, StatusItem, same_keyword};
 use nl_base::{ReadError, Seq};
 use nl_io::Source;
 use std::alloc::Global;

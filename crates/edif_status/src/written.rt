@@ -6,7 +6,7 @@ ghost use Rattle.edif_status.specs.Grammar.{clock, stamp, version_text, no_versi
 
 use crate::note::read_note;
 use edif_keywords::Cursor;
-use edif_values::{Keyword, Note, Stamp, Written, WrittenItem, same_keyword};
+use edif_values::{Keyword, Stamp, Written, WrittenItem, same_keyword};
 use nl_base::{Int, ReadError, Seq, Text};
 use nl_io::Source;
 use std::alloc::Global;
