@@ -21,7 +21,7 @@ use Rattle.vlog_values.specs.Sizes.{vlog_size}
 use Rattle.vlog_values.specs.Values.{IsVlogValue}
 use Rattle.vlog_values.specs.declared.module.Module.{Module}
 use Rattle.vlog_values.specs.declared.module.VlogFile.{VlogFile}
-use Rattle.vlog_elab.specs.Answers.{IsDesignFrom, IsDesignOf, IsFaultFrom, IsFaultOf}
+use Rattle.vlog_elab.specs.Answers.{HasDesign, IsDesignFrom, IsDesignOf, IsFaultFrom, IsFaultOf}
 use Rattle.vlog_checked.specs.Clean.{IsClean}
 use Rattle.vlog_elab.specs.Ready.{AreReady, IsReady}
 use Rattle.vlog_elab.specs.Units.{cells_from, module_units, signal_width}
@@ -30,6 +30,8 @@ use Rattle.vlog_elab.specs.declared.answer.ResolveError.TheVariants.{Refused, To
 use Rattle.vlog_checked.proofs.Clean.{clean_file}
 use Rattle.vlog_elab.proofs.Fitting.{none_back, numbers_fit, those_few, those_fit, those_small}
 use Rattle.vlog_checked.proofs.Reaching.{those_values}
+use Rattle.net_hier.proofs.Building.{built, in_range, top_within}
+use Rattle.vlog_elab.proofs.Ordering.{has_postorder}
 use Rattle.vlog_elab.proofs.Signals.{units_are}
 
 pub first_reaches : (graph : List (List ℕ)) (n i : ℕ) → IsFirstRecursion graph n i → ReachesItself graph n
@@ -148,6 +150,25 @@ module _ (file : VlogFile) (top : Name) (value : IsVlogValue file) (small : vlog
   answered (Ok design) h = design_answered design h
   answered (Err fault) h = fault_answered fault h
 
+  -- cells that fit, of which none reaches itself and whose units are within the limit, have an order and so are a design
+  design_there : units (cells_from (reached file top)) ≤ unit_limit → HasDesign file top
+  design_there few =
+      let cells : List HCell = cells_from (reached file top) in
+      let number : ℕ = module_number (reached file top) top in
+      let fit : CellsFit (cells_from (reached file top)) (module_number (reached file top) top) = those_fit file top value clean small in
+      let free : (n : ℕ) → ¬ ReachesItself (cells_below (cells_from (reached file top))) n = none_back file top value clean small in
+      let order = has_postorder (cells_below (cells_from (reached file top))) (in_range (cells_from (reached file top)) number fit) free number (top_within (cells_from (reached file top)) number fit) in
+      let is_built = built (cells_from (reached file top)) number [] order.0 fit (record { no_recursion = free; few_units = few; postorder = order.1 }) in
+      record {
+        design = record { cells = cells; top = number; props = []; order = order.0 };
+        is_design = design_answered (record { cells = cells; top = number; props = []; order = order.0 }) (record { same_cells = is_built.same_cells; same_top = is_built.same_top; same_props = is_built.same_props; is_hier = is_built.is_hier });
+      }
+
+  pub checked : (result : Result (Unit {0}) ResolveError) → MatchResult result (λ done. units (cells_from (reached file top)) ≤ unit_limit) (IsFaultFrom (cells_from (reached file top)))
+      → MatchResult result (λ done. HasDesign file top) (IsFaultOf file top)
+  checked (Ok done) few = design_there few
+  checked (Err fault) h = fault_answered fault h
+
   -- the same of modules that are the reached ones
   module _ (ms : List Module) (are : ms ≡ reached file top) where
     pub ready_for : (names : List Name) → names ≡ map (λ m. m.name) (reached file top) → AreReady names ms
@@ -164,3 +185,6 @@ module _ (file : VlogFile) (top : Name) (value : IsVlogValue file) (small : vlog
     answered_for number is result h =
         answered result (subst (λ those. MatchResult result (IsDesignFrom (cells_from those) (module_number (reached file top) top)) (IsFaultFrom (cells_from those))) are
         (subst (λ n. MatchResult result (IsDesignFrom (cells_from ms) n) (IsFaultFrom (cells_from ms))) is h))
+
+    pub checked_for : (result : Result (Unit {0}) ResolveError) → MatchResult result (λ done. units (cells_from ms) ≤ unit_limit) (IsFaultFrom (cells_from ms)) → MatchResult result (λ done. HasDesign file top) (IsFaultOf file top)
+    checked_for result h = checked result (subst (λ those. MatchResult result (λ done. units (cells_from those) ≤ unit_limit) (IsFaultFrom (cells_from those))) are h)

@@ -2,5 +2,6 @@ pub mod Answering
 pub mod Fitting
 pub mod Joins
 pub mod Nodes
+pub mod Ordering
 pub mod OwnNames
 pub mod Signals

@@ -19,6 +19,11 @@ pub record IsDesignOf (file : VlogFile) (top : Name) (design : Design) : Type 0 
   pub same_props : design.props ≡ (vlog_design file top).props
   pub is_hier : IsHier design
 
+-- the file has a design under this top
+pub record HasDesign (file : VlogFile) (top : Name) : Type 0 where
+  pub design : Design
+  pub is_design : IsDesignOf file top design
+
 -- the file breaks no rule under this top, and its design has this many units, which pass the limit
 pub record IsTooBigFor (file : VlogFile) (top : Name) (count : ℕ) : Type 0 where
   pub no_refusal : first_G file top ≡ None

@@ -4,7 +4,7 @@ ghost use Rattle.net_graph.specs.Graph.{ReachesItself};
 ghost use Rattle.net_hier.specs.Design.{cells_below};
 ghost use Rattle.net_hier.specs.Units.{units};
 ghost use Rattle.net_hier.specs.Valid.{CellsFit, count_limit, unit_limit};
-ghost use Rattle.vlog_elab.specs.Answers.{IsDesignFrom, IsDesignOf, IsFaultFrom, IsFaultOf};
+ghost use Rattle.vlog_elab.specs.Answers.{HasDesign, IsDesignFrom, IsDesignOf, IsFaultFrom, IsFaultOf};
 ghost use Rattle.vlog_elab.specs.Ready.{AreReady};
 ghost use Rattle.vlog_elab.specs.Units.{cells_from};
 ghost use Rattle.vlog_elab.specs.declared.answer.ResolveError.TheVariants.{NoMemory};
@@ -59,6 +59,18 @@ fn built(alloc: Global, cells: Seq<HCell>, top: u32) -> Result<Hier, NoMemory>
     }
 }
 
+// Whether the units of modules are within the limit of a design.
+fn few_units(alloc: Global, names: &Names, scopes: &[Scope]) -> Result<(), ResolveError>
+    requires { AreReady names.now (modules_in scopes.now) }
+    ensures { MatchResult result (λ done. units (cells_from (modules_in scopes.now)) ≤ unit_limit) (IsFaultFrom (cells_from (modules_in scopes.now))) }
+{
+    let count = units_of(alloc, names, scopes)?;
+    if count > UNIT_LIMIT {
+        return Err(ResolveError::TooBig(count));
+    }
+    Ok(())
+}
+
 // The design of modules whose cells fit and of which none reaches itself.
 fn design_of(alloc: Global, names: &Names, scopes: &[Scope], top: u32) -> Result<Hier, ResolveError>
     requires ready { AreReady names.now (modules_in scopes.now) }
@@ -66,10 +78,7 @@ fn design_of(alloc: Global, names: &Names, scopes: &[Scope], top: u32) -> Result
     requires no_recursion { (number : ℕ) → ¬ ReachesItself (cells_below (cells_from (modules_in scopes.now))) number }
     ensures { MatchResult result (IsDesignFrom (cells_from (modules_in scopes.now)) top) (IsFaultFrom (cells_from (modules_in scopes.now))) }
 {
-    let count = units_of(alloc, names, scopes)?;
-    if count > UNIT_LIMIT {
-        return Err(ResolveError::TooBig(count));
-    }
+    few_units(alloc, names, scopes)?;
     let cells = cells_of(alloc, names, scopes)?;
     let hier = built(alloc, cells, top)?;
     Ok(hier)
@@ -88,5 +97,21 @@ pub fn elaborate(alloc: Global, file: &VlogFile, top: &Text) -> Result<Hier, Res
     match examined(alloc, file, top.bytes())? {
         Looked::Refused(refusal) => Err(ResolveError::Refused(refusal)),
         Looked::Clean(clean) => design_of(alloc, &clean.names, &clean.scopes, clean.top),
+    }
+}
+
+/// Whether a file of at most 268,435,456 items has a design under the module of this name: `Ok` exactly where `elaborate` answers one,
+/// and its errors. No cell is made.
+///
+/// # Errors
+/// Those of `elaborate`.
+pub fn check(alloc: Global, file: &VlogFile, top: &Text) -> Result<(), ResolveError>
+    requires value { IsVlogValue file.now }
+    requires small { vlog_size file.now ≤ count_limit }
+    ensures { MatchResult result (λ done. HasDesign file.now top.now) (IsFaultOf file.now top.now) }
+{
+    match examined(alloc, file, top.bytes())? {
+        Looked::Refused(refusal) => Err(ResolveError::Refused(refusal)),
+        Looked::Clean(clean) => few_units(alloc, &clean.names, &clean.scopes),
     }
 }
