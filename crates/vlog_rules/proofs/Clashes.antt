@@ -55,15 +55,19 @@ repeated_none before keys i h = clash_none (λ k. k.now) bytes_eq before keys i 
 
 -- the same where those before are the front of the list itself
 
+pub front_there : {A K : Type 0} (f : K → A) (clash : A → A → Bool) (keys : List K) (i : ℕ) (d : K) → i < length keys → false ≡ list_any (clash (f (get_or keys i d))) (map f (take i keys)) →
+    first_of (clashing clash (map f (take (i + 1) keys)) (map f (drop (i + 1) keys))) ≡ first_of (clashing clash (map f (take i keys)) (map f (drop i keys)))
+front_there f clash keys i d h e =
+    ap (λ before. first_of (clashing clash before (map f (drop (i + 1) keys)))) (ap (λ n. map f (take n keys)) (add-one i) ∙ (ap (map f) (take-suc keys i d h) ∙ map-append f (take i keys) (get_or keys i d ∷ [])))
+    ∙ sym (clash_there f clash (map f (take i keys)) keys i d h e)
+
 pub among_here : (keys : List (Bor (List ℕ))) (i : ℕ) (d : Bor (List ℕ)) → i < length keys → true ≡ has_name (names_of (take i keys)) (get_or keys i d).now →
     first_of (clashing bytes_eq (names_of (take i keys)) (names_of (drop i keys))) ≡ Some (get_or keys i d).now
 among_here keys i d h e = clash_here (λ k. k.now) bytes_eq (names_of (take i keys)) keys i d h e
 
 pub among_there : (keys : List (Bor (List ℕ))) (i : ℕ) (d : Bor (List ℕ)) → i < length keys → false ≡ has_name (names_of (take i keys)) (get_or keys i d).now →
     first_of (clashing bytes_eq (names_of (take (i + 1) keys)) (names_of (drop (i + 1) keys))) ≡ first_of (clashing bytes_eq (names_of (take i keys)) (names_of (drop i keys)))
-among_there keys i d h e =
-    ap (λ names. first_of (clashing bytes_eq names (names_of (drop (i + 1) keys)))) (ap (λ n. names_of (take n keys)) (add-one i) ∙ (ap names_of (take-suc keys i d h) ∙ map-append (λ k. k.now) (take i keys) (get_or keys i d ∷ [])))
-    ∙ sym (clash_there (λ k. k.now) bytes_eq (names_of (take i keys)) keys i d h e)
+among_there keys i d h e = front_there (λ k. k.now) bytes_eq keys i d h e
 
 pub among_none : (keys : List (Bor (List ℕ))) (i : ℕ) → length keys ≤ i → first_of (clashing bytes_eq (names_of (take i keys)) (names_of (drop i keys))) ≡ None
 among_none keys i h = clash_none (λ k. k.now) bytes_eq (names_of (take i keys)) keys i h

@@ -1,4 +1,5 @@
 pub mod Clashes
+pub mod KindLaws
 pub mod RuleLaws
 pub mod SeenLemmas
 pub mod StatementLaws

@@ -1,19 +1,10 @@
--- A look-up among the keys is a test of the declarations.
-use Rattle.std.proofs.Common.{◌≡◌, ℕ, Bool, true, false, ◌&&◌, ◌||◌, not, List, [], ◌∷◌, bytes_eq, ap, refl, ◌∙◌}
-use Rattle.std.proofs.lemmas.Bool.{or_from, or_parts}
-use Rattle.std.specs.Borrow.{Bor}
+-- A declaration clashes with one of a list where one of three kinds, or of five, is among those of its name.
+use Rattle.std.proofs.Common.{◌≡◌, Bool, true, false, ◌&&◌, ◌||◌, not, List, [], ◌∷◌, bytes_eq, ap, refl, ◌∙◌}
 use Rattle.std.specs.List.{list_any}
 use Rattle.vlog_design.specs.Names.{Declaration}
 use Rattle.vlog_design.specs.Rules.{same_declaration, same_kind, clash, is_signal}
 use Rattle.vlog_design.specs.declared.signals.Kind.{Kind}
 use Rattle.vlog_design.specs.declared.signals.Kind.TheVariants.{InHeader, Direction, NetDeclaration, Instance, Parameter}
-use Rattle.vlog_design.specs.contracts.signals.KindPartialEq.TheImpl.{ghosts}
-use Rattle.vlog_rules.specs.Seen.{declaration_of, declarations_of}
-
-pub any_key : (test : Kind × Bor (List ℕ) → Bool) (d : Declaration) → ((k : Kind × Bor (List ℕ)) → test k ≡ same_declaration d (declaration_of k)) → (keys : List (Kind × Bor (List ℕ))) →
-    list_any test keys ≡ list_any (same_declaration d) (declarations_of keys)
-any_key test d same [] = refl
-any_key test d same (k ∷ keys) = ap (λ b. b || list_any test keys) (same k) ∙ ap (λ b. same_declaration d (declaration_of k) || b) (any_key test d same keys)
 
 -- three kinds, or all five, can clash
 abbrev with_kind : Declaration → Kind → Declaration
@@ -34,33 +25,6 @@ five_or a b c e f u v w x y =
     ∙ ap (λ z. z || (f || y)) (swap_or (a || b || c) e (u || v || w) x
     ∙ ap (λ z. z || (e || x)) (swap_or (a || b) c (u || v) w
     ∙ ap (λ z. z || (c || w)) (swap_or a b u v)))
-
-pub kind_eq : (a b : Kind) → ghosts.eq a b ≡ same_kind a b
-kind_eq InHeader InHeader = refl
-kind_eq InHeader Direction = refl
-kind_eq InHeader NetDeclaration = refl
-kind_eq InHeader Instance = refl
-kind_eq InHeader Parameter = refl
-kind_eq Direction InHeader = refl
-kind_eq Direction Direction = refl
-kind_eq Direction NetDeclaration = refl
-kind_eq Direction Instance = refl
-kind_eq Direction Parameter = refl
-kind_eq NetDeclaration InHeader = refl
-kind_eq NetDeclaration Direction = refl
-kind_eq NetDeclaration NetDeclaration = refl
-kind_eq NetDeclaration Instance = refl
-kind_eq NetDeclaration Parameter = refl
-kind_eq Instance InHeader = refl
-kind_eq Instance Direction = refl
-kind_eq Instance NetDeclaration = refl
-kind_eq Instance Instance = refl
-kind_eq Instance Parameter = refl
-kind_eq Parameter InHeader = refl
-kind_eq Parameter Direction = refl
-kind_eq Parameter NetDeclaration = refl
-kind_eq Parameter Instance = refl
-kind_eq Parameter Parameter = refl
 
 -- what a declaration tests of another, for a port or net, and for an instance or parameter
 abbrev three : Kind → Kind → Bool → Bool
@@ -194,15 +158,3 @@ any_other d h (e ∷ ds) =
     ∙ ap (λ b. all_five e.kind same || b) (any_other d h ds)
     ∙ five_or (same_kind InHeader e.kind && same) (same_kind Direction e.kind && same) (same_kind NetDeclaration e.kind && same) (same_kind Instance e.kind && same) (same_kind Parameter e.kind && same)
     (any_of d InHeader ds) (any_of d Direction ds) (any_of d NetDeclaration ds) (any_of d Instance ds) (any_of d Parameter ds)
-
-apart : (kind name more : Bool) → (name && (kind || more)) ≡ false → (kind && name) ≡ false
-apart true true more h = h
-apart true false more h = refl
-apart false name more h = refl
-
--- what clashes with nothing is none of them
-pub not_same : (d : Declaration) (ds : List Declaration) → list_any (clash d) ds ≡ false → list_any (same_declaration d) ds ≡ false
-not_same d [] h = refl
-not_same d (e ∷ ds) h =
-    let parts = or_parts (clash d e) (list_any (clash d) ds) h in
-    or_from _ _ (apart (same_kind d.kind e.kind) (bytes_eq d.name e.name) (not (is_signal d.kind && is_signal e.kind)) parts.0) (not_same d ds parts.1)

@@ -1,4 +1,5 @@
 pub mod Defparams
+pub mod Kinds
 pub mod Redeclared
 pub mod Seen
 pub mod Wide

@@ -1,95 +1,17 @@
 // Names that are declared twice.
-use crate::refusals::refuse;
-use indexmap::IndexSet;
-use nl_base::{NoMemory, Refusal, Rule, Text};
-use std::alloc::Global;
-use std::marker::Model;
-use vlog_design::signals::Kind;
-use vlog_values::{Header, ItemV, Module, ParamDecl, ParamSet, PortDecl, VInst};
-
-/// The declarations that were met.
-#[derive(Drop)]
-pub struct Seen<'a> {
-    keys: IndexSet<(Kind, &'a [u8])>,
-}
-
-impl<'a> Model for Seen<'a> {
-    ghost use Rattle.std.specs.Prelude.{List};
-    ghost use Rattle.vlog_design.specs.Names.{Declaration};
-    ghost use Rattle.vlog_rules.specs.Seen.{declarations_of};
-
-    ghost Value = { List Declaration };
-
-    ghost view = { λ s. declarations_of s.keys.keys };
-}
-
-ghost use Rattle.std.specs.Prelude.{◌≡◌, true, false, [], ◌++◌, ◌∷◌, ◌&&◌, IfOk, OnOk, map, flat_map, option_map, take, length};
+ghost use Rattle.std.specs.Prelude.{◌≡◌, [], ◌++◌, ◌∷◌, IfOk, OnOk, map, flat_map, option_map};
 ghost use Rattle.nl_base.specs.declared.rule.Rule.TheVariants.{G4};
 ghost use Rattle.vlog_design.specs.declared.signals.Kind.TheVariants.{Parameter, Instance};
-ghost use Rattle.std.specs.List.{list_any};
 ghost use Rattle.vlog_design.specs.Names.{clashing, declarations, declared_as, declared_in_header, declared_in_item, declared_params, declared_port};
-ghost use Rattle.vlog_design.specs.Rules.{clash, declared_twice, first_of, is_signal, refused, same_declaration};
+ghost use Rattle.vlog_design.specs.Rules.{clash, declared_twice, first_of, refused};
 ghost use Rattle.vlog_rules.specs.Seen.{declaration_of, declarations_of};
 
-impl<'a> Seen<'a> {
-    pub fn empty(alloc: Global) -> Seen<'a>
-        ensures { result ≡ [] }
-    {
-        Seen {
-            keys: IndexSet::new(alloc),
-        }
-    }
-
-    fn has(&self, kind: Kind, name: &'a [u8]) -> bool
-        ensures { result ≡ list_any (same_declaration (record { kind = kind; name = name.now })) self.now }
-    {
-        self.keys.contains(&(kind, name))
-    }
-
-    fn has_signal_clash(&self, kind: Kind, name: &'a [u8]) -> bool
-        requires { is_signal kind ≡ true }
-        ensures { result ≡ list_any (clash (record { kind = kind; name = name.now })) self.now }
-    {
-        let own = self.has(kind, name);
-        let instance = self.has(Kind::Instance, name);
-        let parameter = self.has(Kind::Parameter, name);
-        own | instance | parameter
-    }
-
-    fn has_other_clash(&self, kind: Kind, name: &'a [u8]) -> bool
-        requires { is_signal kind ≡ false }
-        ensures { result ≡ list_any (clash (record { kind = kind; name = name.now })) self.now }
-    {
-        let header = self.has(Kind::InHeader, name);
-        let direction = self.has(Kind::Direction, name);
-        let net = self.has(Kind::NetDeclaration, name);
-        let instance = self.has(Kind::Instance, name);
-        let parameter = self.has(Kind::Parameter, name);
-        header | direction | net | instance | parameter
-    }
-
-    /// Whether a declaration that was met clashes with this one.
-    pub fn clashes(&self, kind: Kind, name: &'a [u8]) -> bool
-        ensures { result ≡ list_any (clash (record { kind = kind; name = name.now })) self.now }
-    {
-        match kind {
-            Kind::InHeader => self.has_signal_clash(kind, name),
-            Kind::Direction => self.has_signal_clash(kind, name),
-            Kind::NetDeclaration => self.has_signal_clash(kind, name),
-            Kind::Instance => self.has_other_clash(kind, name),
-            Kind::Parameter => self.has_other_clash(kind, name),
-        }
-    }
-
-    /// Adds a declaration that is not there.
-    pub fn add(&mut self, kind: Kind, name: &'a [u8]) -> Result<(), NoMemory>
-        requires { list_any (clash (record { kind = kind; name = name.now })) self.old ≡ false }
-        ensures added { OnOk result (self.new ≡ self.old ++ record { kind = kind; name = name.now } ∷ []) }
-    {
-        self.keys.insert((kind, name))?;
-        Ok(())
-    }
-}
+use crate::kinds::Met;
+use crate::refusals::refuse;
+use nl_base::{NoMemory, Refusal, Rule, Text};
+use std::alloc::Global;
+use vlog_design::signals::Kind;
+use vlog_values::{Header, ItemV, Module, ParamDecl, ParamSet, PortDecl, VInst};
 
 /// The first declaration that clashes with one before it.
 pub fn first_clash<'a>(
@@ -98,13 +20,13 @@ pub fn first_clash<'a>(
 ) -> Result<Option<(Kind, &'a [u8])>, NoMemory>
     ensures { IfOk result (λ found. option_map declaration_of found ≡ first_of (clashing clash [] (declarations_of declarations.now))) }
 {
-    let mut seen = Seen::empty(alloc);
+    let mut met = Met::nothing(alloc);
     for declaration in declarations {
         let (kind, name) = *declaration;
-        if seen.clashes(kind, name) {
+        let clashes = met.note(kind, name)?;
+        if clashes {
             return Ok(Some(*declaration));
         }
-        seen.add(kind, name)?;
     }
     Ok(None)
 }

@@ -10,6 +10,7 @@ pub mod connections;
 pub mod declared;
 pub mod defparams;
 pub mod directions;
+mod kinds;
 pub mod library;
 pub mod lists;
 pub mod module_rules;
