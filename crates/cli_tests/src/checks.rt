@@ -1,6 +1,6 @@
 // The tests of `check` on EDIF.
-use crate::given::{Row, answers, first_wrong, text_of};
-use crate::texts::{
+use cli_runs::given::{Row, answers, first_wrong, text_of};
+use cli_runs::texts::{
     BLINKER, CYCLE, NO_BIT, RECURSIVE, SEVERAL, SMALL, SPACED, UP_TO_CONTENTS, UP_TO_DESIGNS,
     WHOLE_ARRAY, WIDE, WITHOUT_DESIGN,
 };

@@ -1,6 +1,6 @@
 // The tests of `to-edif`.
-use crate::given::{Row, USAGE, answers, first_wrong, text_of};
-use crate::texts::{CHAINED, ESCAPED, LITERALS};
+use cli_runs::given::{Row, USAGE, answers, first_wrong, text_of};
+use cli_runs::texts::{CHAINED, ESCAPED, LITERALS};
 use std::alloc::Global;
 use std::test::Fail;
 

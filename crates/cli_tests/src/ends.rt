@@ -1,7 +1,7 @@
 // The tests of inputs and outputs that fail, and of an input that does not end.
-use crate::blanks::Blanks;
-use crate::given::{Given, Wanted, ends_so, given_plainly, sink_of, wanted_of, words_of};
-use crate::texts::{BLINKER, BLINKER_MODULES, RECURSIVE, SMALL};
+use cli_runs::blanks::Blanks;
+use cli_runs::given::{Given, Wanted, ends_so, given_plainly, sink_of, wanted_of, words_of};
+use cli_runs::texts::{BLINKER, BLINKER_MODULES, RECURSIVE, SMALL};
 use netlist_cli::run::run;
 use std::alloc::Global;
 use std::test::Fail;

@@ -1,9 +1,9 @@
 // The tests of `format` and `vformat`.
-use crate::given::{
+use cli_runs::given::{
     Given, Row, answers, ends_so, first_wrong, given_plainly, is_refused_early, text_around,
     wanted_of,
 };
-use crate::texts::{
+use cli_runs::texts::{
     ALIASED, BLINKER, BLINKER_MODULES, BLINKER_WRITTEN, CHAINED, CHAINED_WRITTEN, ESCAPED,
     ESCAPED_WRITTEN, LITERALS, LITERALS_WRITTEN, PARTS, PARTS_WRITTEN, SMALL, WRITTEN,
 };

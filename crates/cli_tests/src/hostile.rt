@@ -1,10 +1,10 @@
 // The tests of hostile texts: that break off, that are deep, long or wide.
-use crate::designs::{INV, design_of};
-use crate::given::{
+use cli_runs::designs::{INV, design_of};
+use cli_runs::given::{
     Given, add_number, answers, ends_so, given_plainly, is_refused_early, sink_of, source_of,
     text_around, text_of, wanted_of, words_of,
 };
-use crate::texts::{BLINKER, WRITTEN};
+use cli_runs::texts::{BLINKER, WRITTEN};
 use netlist_cli::run::run;
 use std::alloc::Global;
 use std::test::Fail;

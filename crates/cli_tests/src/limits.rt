@@ -1,5 +1,5 @@
 // The tests of designs above the limit of a design.
-use crate::given::{CHECK_M, answers};
+use cli_runs::given::{CHECK_M, answers};
 use std::alloc::Global;
 use std::test::Fail;
 

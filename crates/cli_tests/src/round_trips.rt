@@ -1,6 +1,6 @@
 // The tests that a design keeps its report, and its findings, over both translations.
-use crate::given::{answers, given_plainly, sink_of, source_of, words_of};
-use crate::texts::{BLINKER, LITERALS};
+use cli_runs::given::{answers, given_plainly, sink_of, source_of, words_of};
+use cli_runs::texts::{BLINKER, LITERALS};
 use netlist_cli::run::run;
 use nl_io::MemSink;
 use std::alloc::Global;

@@ -1,6 +1,6 @@
 // The tests of readers that are asked again: after an error each call that answers a result answers that the reader is spent.
-use crate::blanks::Blanks;
-use crate::given::{Given, given_plainly, source_of, text_around};
+use cli_runs::blanks::Blanks;
+use cli_runs::given::{Given, given_plainly, source_of, text_around};
 use edif_keywords::{Cursor, Keyword, read_comment};
 use edif_names::{read_name, read_port_name, read_property};
 use edif_nets::{read_instance, read_net, read_port};

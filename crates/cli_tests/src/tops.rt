@@ -1,5 +1,5 @@
 // The tests of `check --top` on Verilog.
-use crate::given::{CHECK_M, Row, answers, first_wrong};
+use cli_runs::given::{CHECK_M, Row, answers, first_wrong};
 use std::alloc::Global;
 use std::test::Fail;
 

@@ -1,6 +1,6 @@
 // The tests of the words behind the program's name.
-use crate::given::{Row, USAGE, answers, first_wrong};
-use crate::texts::SMALL;
+use cli_runs::given::{Row, USAGE, answers, first_wrong};
+use cli_runs::texts::SMALL;
 use netlist_cli::status::Status;
 use std::test::Fail;
 

@@ -1,6 +1,6 @@
 // The tests of `generate`.
-use crate::given::{Given, USAGE, Wanted, ends_so, given_plainly};
-use crate::texts::SMALL;
+use cli_runs::given::{Given, USAGE, Wanted, ends_so, given_plainly};
+use cli_runs::texts::SMALL;
 use std::test::Fail;
 
 const FORTY: &[u8] =

@@ -1,6 +1,6 @@
 // The tests of `report` and `lint`.
-use crate::designs::{DesignRow, ENDS, INPUTS, INV, UP_TO_CELLS, design_of, first_wrong_design};
-use crate::given::{
+use cli_runs::designs::{DesignRow, ENDS, INPUTS, INV, UP_TO_CELLS, design_of, first_wrong_design};
+use cli_runs::given::{
     Given, Row, add_number, answers, ends_so, first_wrong, given_plainly, text_of, wanted_of,
 };
 use std::alloc::Global;

@@ -1,7 +1,7 @@
 // The tests of `to-verilog`.
-use crate::designs::{B4, DesignRow, ENDS, INPUTS, INV, first_wrong_design};
-use crate::given::{Row, USAGE, first_wrong};
-use crate::texts::{BLINKER, BLINKER_MODULES, BLINKER_PARAMETERS};
+use cli_runs::designs::{B4, DesignRow, ENDS, INPUTS, INV, first_wrong_design};
+use cli_runs::given::{Row, USAGE, first_wrong};
+use cli_runs::texts::{BLINKER, BLINKER_MODULES, BLINKER_PARAMETERS};
 use std::test::Fail;
 
 const TO_VERILOG: &[u8] = b"to-verilog";

@@ -1,6 +1,6 @@
 // The tests of `to-spice`.
-use crate::designs::{B4, ENDS, INV, design_of};
-use crate::given::{Given, USAGE, Wanted, answers, ends_so, given_plainly, text_of, wanted_of};
+use cli_runs::designs::{B4, ENDS, INV, design_of};
+use cli_runs::given::{Given, USAGE, Wanted, answers, ends_so, given_plainly, text_of, wanted_of};
 use std::test::Fail;
 
 /// A cell that joins its two ports.

@@ -1,6 +1,6 @@
 // The tests of `flatten`.
-use crate::designs::{ENDS, INV, design_of};
-use crate::given::{Given, USAGE, answers, ends_so, given_plainly, text_of, wanted_of};
+use cli_runs::designs::{ENDS, INV, design_of};
+use cli_runs::given::{Given, USAGE, answers, ends_so, given_plainly, text_of, wanted_of};
 use crate::reports::{FEED_AND_BOX, LEVELS};
 use std::test::Fail;
 

@@ -1,0 +1,9 @@
+// What the tests of the program stand on: what a run is given and what it is to give, and the texts and designs that are run.
+//
+// There is no test here: these crates of tests share it, so that it is proved once.
+#![tactic(auto)]
+
+pub mod blanks;
+pub mod designs;
+pub mod given;
+pub mod texts;
