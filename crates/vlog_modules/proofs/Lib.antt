@@ -7,3 +7,4 @@ pub mod Items
 pub mod Live
 pub mod Pieces
 pub mod Reading
+pub mod Words

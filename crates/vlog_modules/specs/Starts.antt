@@ -1,9 +1,12 @@
 -- What a reader sees of the next token before it reads an item or a module, and those parts from their first tokens on.
-use Rattle.std.specs.Prelude.{Bool, true, false}
+use Rattle.std.specs.Prelude.{ℕ, List, Bool, true, false, is_some, if◌then◌else◌}
 use Rattle.grammar.specs.Part.{Glance, takes, refuses, leaves, gives, sequence}
 use Rattle.readers.specs.Parts.{if_next}
 use Rattle.vlog_tokens.specs.declared.token.VFound.{VFound}
+use Rattle.vlog_tokens.specs.Keywords.{is_keyword}
 use Rattle.vlog_exprs.specs.Language.{Vlog}
+use Rattle.vlog_exprs.specs.Reasons.{meant_by}
+use Rattle.vlog_items.specs.Grammar.{item_words}
 use Rattle.vlog_exprs.specs.Grammar.{attrs}
 use Rattle.vlog_modules.specs.Grammar.{at_item, at_piece, at_directive, directive, module_of, with_module}
 use Rattle.vlog_modules.specs.declared.file.SoFar.{SoFar}
@@ -17,6 +20,10 @@ is_taken leaves = false
 -- whether attributes or an item begin with a token
 unfoldable pub begins_item : VFound → Bool
 begins_item x = is_taken (at_item x.token)
+
+-- whether an item begins with a simple name or a keyword
+abbrev pub begins_by : List ℕ → Bool
+begins_by w = if is_keyword w then is_some (meant_by item_words w) else true
 
 -- whether a directive, attributes or a module begin with a token
 unfoldable pub begins_piece : VFound → Bool

@@ -8,7 +8,7 @@ ghost use Rattle.readers.specs.Readers.{same, Reads, LooksFor};
 ghost use Rattle.vlog_tokens.specs.Language.{vlog};
 ghost use Rattle.vlog_exprs.specs.Reasons.{meant_by};
 ghost use Rattle.vlog_items.specs.Grammar.{item_words};
-ghost use Rattle.vlog_modules.specs.Starts.{begins_item};
+ghost use Rattle.vlog_modules.specs.Starts.{begins_item, begins_by};
 ghost use Rattle.vlog_modules.specs.Grammar.{items, module_rest, module_of};
 
 use crate::header::read_header;
@@ -18,7 +18,7 @@ use nl_io::Source;
 use std::alloc::Global;
 use vlog_exprs::VCursor;
 use vlog_items::read_item;
-use vlog_tokens::{VFound, VToken};
+use vlog_tokens::{VFound, VToken, is_keyword};
 use vlog_values::{Attr, ItemV, Module};
 
 /// Whether a word is one of some.
@@ -66,9 +66,36 @@ fn begins_item(found: &VFound) -> bool
     }
 }
 
+/// Whether an item begins with a simple name or a keyword.
+fn begins_by(word: &[u8]) -> bool
+    ensures { result ≡ begins_by word.now }
+{
+    if is_keyword(word) {
+        return is_item_word(word);
+    }
+    true
+}
+
 /// Looks whether attributes or an item are next. It takes nothing.
-#[tactic(auto, using(readers::proofs::Looking::looks_for))]
 fn at_item<S: Source>(
+    alloc: Global,
+    cursor: &mut VCursor,
+    source: &mut S,
+) -> Result<bool, ReadError>
+    ensures { LooksFor vlog begins_item result cursor.old cursor.new (supply S.left S.faults source.old) (supply S.left S.faults source.new) }
+{
+    let held = cursor.held_word();
+    let count = held.len();
+    if count > 0 {
+        return Ok(begins_by(held));
+    }
+    at_item_token(alloc, cursor, source)
+}
+
+/// Looks at any token, and whether attributes or an item begin with it.
+#[inline(never)]
+#[tactic(auto, using(readers::proofs::Looking::looks_for))]
+fn at_item_token<S: Source>(
     alloc: Global,
     cursor: &mut VCursor,
     source: &mut S,
