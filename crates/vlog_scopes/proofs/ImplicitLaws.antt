@@ -1,10 +1,10 @@
 -- The names of nets without a declaration.
-use Rattle.std.proofs.Common.{◌≡◌, Bool, true, false, not, ◌||◌, ◌&&◌, cond, List, [], ◌∷◌, ◌++◌, filter, bytes_eq, if◌then◌else◌, refl, sym, ap, ◌∙◌, append-nil}
+use Rattle.std.proofs.Common.{◌≡◌, length, Bool, true, false, not, ◌||◌, ◌&&◌, cond, List, [], ◌∷◌, ◌++◌, filter, bytes_eq, if◌then◌else◌, refl, sym, ap, ◌∙◌, append-nil}
 use Rattle.std.specs.List.{list_any}
 use Rattle.std.proofs.lemmas.List.Elements.{filter_agree}
 use Rattle.std.proofs.lemmas.Slice.Eq.{bytes_eq-Decides}
 use Rattle.vlog_design.specs.Names.{Declaration, Name, Use, declarations, first_places, has_name, implicit_names, is_declared, is_implicit, is_whole, module_uses, target_uses}
-use Rattle.vlog_scopes.specs.Implicit.{declared_names, is_net, new_places, used_names, whole_names}
+use Rattle.vlog_scopes.specs.Implicit.{declared_names, new_places, undeclared, used_names}
 use Rattle.vlog_scopes.proofs.DistinctLaws.{has_append, other_way}
 use Rattle.vlog_values.specs.declared.module.Module.{Module}
 
@@ -73,22 +73,39 @@ declared_has m name = go (declarations m)
     go [] = refl
     go (d ∷ ds) = ap (λ b. bytes_eq name d.name || b) (go ds)
 
-pub whole_has : (uses : List Use) (name : Name) → has_name (whole_names uses) name ≡ list_any (λ u. bytes_eq name u.name && is_whole u.select) uses
-whole_has [] name = refl
-whole_has (u ∷ us) name = by (is_whole u.select) (bytes_eq name u.name) (whole_has us name)
-  where
-    by : (b c : Bool) → has_name (whole_names us) name ≡ list_any (λ v. bytes_eq name v.name && is_whole v.select) us
-        → list_any (bytes_eq name) (used_names (cond b (u ∷ filter (λ v. is_whole v.select) us) (filter (λ v. is_whole v.select) us))) ≡ ((bytes_eq name u.name && b) || list_any (λ v. bytes_eq name v.name && is_whole v.select) us)
-    by true c h = with_true (bytes_eq name u.name) h
-      where
-        with_true : (d : Bool) → has_name (whole_names us) name ≡ list_any (λ v. bytes_eq name v.name && is_whole v.select) us → (d || has_name (whole_names us) name) ≡ ((d && true) || list_any (λ v. bytes_eq name v.name && is_whole v.select) us)
-        with_true true g = refl
-        with_true false g = g
-    by false c h = without (bytes_eq name u.name) h
-      where
-        without : (d : Bool) → has_name (whole_names us) name ≡ list_any (λ v. bytes_eq name v.name && is_whole v.select) us → has_name (whole_names us) name ≡ ((d && false) || list_any (λ v. bytes_eq name v.name && is_whole v.select) us)
-        without true g = g
-        without false g = g
+-- the set of the names that stand whole and are not declared
+
+named_or : (name : Name) (u : Use) (us : List Use) (b : Bool) → has_name (used_names (cond b (u ∷ us) us)) name ≡ cond b (bytes_eq name u.name || has_name (used_names us) name) (has_name (used_names us) name)
+named_or name u us true = refl
+named_or name u us false = refl
+
+not_true : false ≡ true → ⊥
+not_true e = cc
+
+one_more : (whole known same there more : Bool) → (same ≡ true → there ≡ known) →
+    cond (whole && not known) (same || (not there && more)) (not there && more) ≡ (not there && ((same && whole) || more))
+one_more false known true there more h = refl
+one_more false known false there more h = refl
+one_more true false false there more h = refl
+one_more true true false there more h = refl
+one_more true false true false more h = refl
+one_more true false true true more h = absurd (not_true (sym (h refl)))
+one_more true true true true more h = refl
+one_more true true true false more h = absurd (not_true (h refl))
+
+none_there : (there : Bool) → false ≡ (not there && false)
+none_there true = refl
+none_there false = refl
+
+pub undeclared_has : (declared : List Name) (uses : List Use) (name : Name) →
+    has_name (undeclared declared uses) name ≡ (not (has_name declared name) && list_any (λ u. bytes_eq name u.name && is_whole u.select) uses)
+undeclared_has declared [] name = none_there (has_name declared name)
+undeclared_has declared (u ∷ us) name =
+    let kept = is_whole u.select && not (has_name declared u.name) in
+    let more = list_any (λ v. bytes_eq name v.name && is_whole v.select) us in
+    named_or name u (filter (λ v. is_whole v.select && not (has_name declared v.name)) us) kept
+    ∙ (ap (λ there. cond kept (bytes_eq name u.name || there) there) (undeclared_has declared us name)
+    ∙ one_more (is_whole u.select) (has_name declared u.name) (bytes_eq name u.name) (has_name declared name) more (λ e. ap (has_name declared) ((bytes_eq-Decides name u.name).0 e)))
 
 none_kept : (test : Name → Bool) (xs : List Name) → ((name : Name) → test name ≡ false) → filter test xs ≡ []
 none_kept test [] h = refl
@@ -99,13 +116,25 @@ pub none_implicit : (m : Module) → m.implicit ≡ false → implicit_names m �
 unfolding implicit_names is_implicit first_places
 none_implicit m h = ap first_places (none_kept (is_implicit m) (used_names (module_uses m)) (λ name. ap (λ b. b && not (is_declared m name) && list_any (λ u. bytes_eq name u.name && is_whole u.select) (target_uses m)) h))
 
+no_name : (nets : List Name) → length nets ≡ 0 → (name : Name) → has_name nets name ≡ false
+no_name [] h name = refl
+no_name (net ∷ nets) h name = absurd cc
+
 -- the names that are not declared and stand whole are those of the implicit nets
-pub implicit_are : (m : Module) (declared whole : List Name) (used : List Use) → m.implicit ≡ true → ((name : Name) → has_name declared name ≡ is_declared m name)
-    → ((name : Name) → has_name whole name ≡ list_any (λ u. bytes_eq name u.name && is_whole u.select) (target_uses m)) → used ≡ module_uses m
-    → new_places (is_net declared whole) [] (used_names used) ≡ implicit_names m
-unfolding implicit_names is_implicit
-implicit_are m declared whole used h d w u =
-    new_first (is_net declared whole) (used_names used)
-    ∙ (ap (λ us. first_places (filter (is_net declared whole) (used_names us))) u
-    ∙ ap first_places (filter_agree (is_net declared whole) (is_implicit m)
-    (λ name. (λ j. not (d name j) && w name j) ∙ sym (ap (λ b. b && not (is_declared m name) && list_any (λ x. bytes_eq name x.name && is_whole x.select) (target_uses m)) h)) (used_names (module_uses m))))
+module _ (m : Module) (nets : List Name) (allowed : m.implicit ≡ true)
+    (are : (name : Name) → has_name nets name ≡ (not (is_declared m name) && list_any (λ u. bytes_eq name u.name && is_whole u.select) (target_uses m))) where
+  has_implicit : (name : Name) → has_name nets name ≡ is_implicit m name
+  unfolding is_implicit
+  has_implicit name = are name ∙ sym (ap (λ b. b && not (is_declared m name) && list_any (λ u. bytes_eq name u.name && is_whole u.select) (target_uses m)) allowed)
+
+  pub implicit_are : (used : List Use) → used ≡ module_uses m → new_places (has_name nets) [] (used_names used) ≡ implicit_names m
+  unfolding implicit_names
+  implicit_are used u =
+      new_first (has_name nets) (used_names used)
+      ∙ (ap (λ us. first_places (filter (has_name nets) (used_names us))) u
+      ∙ ap first_places (filter_agree (has_name nets) (is_implicit m) has_implicit (used_names (module_uses m))))
+
+  -- where there are none, no net is implicit
+  pub none_undeclared : length nets ≡ 0 → implicit_names m ≡ []
+  unfolding implicit_names first_places
+  none_undeclared none = ap first_places (none_kept (is_implicit m) (used_names (module_uses m)) (λ name. sym (has_implicit name) ∙ no_name nets none name))

@@ -10,13 +10,9 @@ declared_names = map (λ declaration. declaration.name)
 abbrev pub used_names : List Use → List Name
 used_names = map (λ u. u.name)
 
--- the names that are used without a select
-abbrev pub whole_names : List Use → List Name
-whole_names uses = used_names (filter (λ u. is_whole u.select) uses)
-
--- a name that is not declared and stands whole
-abbrev pub is_net : List Name → List Name → Name → Bool
-is_net declared whole name = not (has_name declared name) && has_name whole name
+-- the names that are used without a select and are none of the declared ones
+abbrev pub undeclared : List Name → List Use → List Name
+undeclared declared uses = used_names (filter (λ u. is_whole u.select && not (has_name declared u.name)) uses)
 
 -- the name, where the test holds and it is not among these
 abbrev pub new_place : (Name → Bool) → List Name → Name → List Name
