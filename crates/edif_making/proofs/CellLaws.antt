@@ -19,13 +19,13 @@ use Rattle.net_live.specs.Live.{has_two_ends, have_property, is_bit, is_end, is_
 use Rattle.net_live.proofs.LiveLaws.{joined_node, passed, two_pass}
 use Rattle.net_stars.proofs.Lists.{contains_first, contains_later}
 use Rattle.edif_plans.specs.Faces.{instance_names}
-use Rattle.edif_plans.specs.Made.{AreAddedTo, needed_values}
+use Rattle.edif_plans.specs.Made.{AreAddedTo, live_below, needed_values}
 use Rattle.edif_plans.specs.Plans.{FitsCells, HasConstant, HasPorts, constant_number}
 use Rattle.edif_plans.specs.References.{CanRefer, FitsScene, HasPin, Scene}
 use Rattle.edif_plans.specs.declared.added.Added.{Added}
 use Rattle.edif_plans.specs.declared.added.Instances.{Instances}
 use Rattle.edif_plans.specs.declared.plan.Plan.{Plan}
-use Rattle.edif_making.specs.Nets.{HaveRefs, live_below}
+use Rattle.edif_making.specs.Nets.{HaveRefs}
 use Rattle.edif_making.proofs.LiveBelow.{live_each}
 
 -- ---- a constant in a live class is needed

@@ -8,7 +8,7 @@ use Rattle.net_hier.specs.declared.cells.HNet.{HNet}
 use Rattle.net_stars.proofs.Lists.{contains_cases}
 use Rattle.net_live.specs.Live.{AreLiveClasses, is_live}
 use Rattle.net_live.proofs.LiveLaws.{element_at}
-use Rattle.edif_making.specs.Nets.{live_below}
+use Rattle.edif_plans.specs.Made.{live_below}
 
 get_left : {A : Type 0} (xs ys : List A) (i : ℕ) (x : A) → slice_get xs i ≡ Some x → slice_get (xs ++ ys) i ≡ Some x
 get_left [] ys i x there = absurd cc

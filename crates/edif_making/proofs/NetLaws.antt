@@ -5,28 +5,36 @@ use Rattle.std.specs.Prelude.{nat_abs, slice_get}
 use Rattle.std.specs.Fmt.{signed_decimal}
 use Rattle.std.specs.Int.Signed.{mag}
 use Rattle.std.specs.List.{AllByRecursion, filter_map}
+use Rattle.std.proofs.lemmas.Bool.{le-ltb, lt-ltb}
 use Rattle.std.proofs.lemmas.Fmt.{IsAscii-signed, length_signed_le}
 use Rattle.std.proofs.lemmas.List.Concat.{flat_map-cons}
+use Rattle.std.proofs.lemmas.Option.{slice_get_past}
 use Rattle.nl_base.specs.Ranges.{Bounds, index_at}
 use Rattle.edif_values.specs.Proper.{AreBytes}
 use Rattle.edif_values.specs.Values.{IsString, IsProperty, IsNetItem}
+use Rattle.edif_values.specs.declared.name.NameDef.{NameDef}
 use Rattle.edif_values.specs.declared.property.Property.{Property}
 use Rattle.edif_values.specs.declared.net.NetItem.TheVariants as net_items
 use Rattle.edif_design.specs.Design.{net_property, property_value}
-use Rattle.edif_naming.specs.Naming.{seen}
+use Rattle.edif_naming.specs.Naming.{name_for, seen}
 use Rattle.edif_naming.specs.Sound.{AreSoundProps, IsShort, IsSoundProp}
+use Rattle.edif_naming.proofs.NamingLaws.{original_name_for}
 use Rattle.edif_naming.proofs.SoundLaws.{all_append, all_at, ascii_bytes}
 use Rattle.net_bits.specs.Classes.{ClassTable, members_of}
+use Rattle.net_hier.specs.Cells.{width_of}
 use Rattle.net_hier.specs.declared.cells.HNet.{HNet}
 use Rattle.net_hier.specs.declared.cells.HPort.{HPort}
 use Rattle.net_hier.specs.declared.cells.HProp.{HProp}
 use Rattle.net_hier.specs.declared.nodes.Node.{Node}
 use Rattle.net_hier.specs.declared.nodes.Node.TheVariants as nodes
 use Rattle.net_live.specs.Last.{last_of}
-use Rattle.net_live.specs.Live.{bit_word, class_props, index_word, is_live, props_of_net, props_of_node}
+use Rattle.net_live.specs.Live.{bit_word, class_props, first_net, index_word, is_live, props_of_net, props_of_node}
+use Rattle.edif_plans.specs.Made.{live_below}
+use Rattle.edif_plans.specs.NetNames.{HasNoSpareText, first_port_bit, name_by, name_of_bit, name_of_class, name_of_net, plain_name}
 use Rattle.edif_plans.specs.Sound.{IsSoundNet, IsSoundPort}
+use Rattle.edif_plans.proofs.Lists.{is_at}
 use Rattle.edif_parts.proofs.PortLaws.{seen_sound}
-use Rattle.edif_making.specs.Nets.{HasFewDigits, live_below}
+use Rattle.edif_making.specs.Nets.{HasFewDigits}
 
 -- ---- live classes
 
@@ -62,6 +70,49 @@ word_short (Some range) bit small =
     let digits : length (signed_decimal (index_at range bit)) ≤ 10 + 1 = length_signed_le 10 (index_at range bit) (few_digits (index_at range bit) small) (mag_small (index_at range bit) small) in
     let whole = length-append (signed_decimal (index_at range bit)) (93 ∷ []) in
     omega (arith, digits, whole)
+
+-- the name of a bit that a port has, and of one that it has not
+pub bit_there : (port : HPort) (bit : ℕ) → bit < width_of port.range → name_of_bit (Some port) bit ≡ bit_word port bit
+unfolding name_of_bit
+bit_there port bit inside = ap (λ b. cond b (bit_word port bit) plain_name) (lt-ltb bit (width_of port.range) inside)
+
+pub bit_past : (port : HPort) (bit : ℕ) → width_of port.range ≤ bit → name_of_bit (Some port) bit ≡ plain_name
+unfolding name_of_bit
+bit_past port bit past = ap (λ b. cond b (bit_word port bit) plain_name) (le-ltb bit (width_of port.range) past)
+
+-- those of a bit of a port that is there, and of one that is not
+pub port_there : (ports : List HPort) (i : ℕ) (x : HPort) (bit : ℕ) → i < length ports → x ≡ get_or ports i x → name_of_bit (slice_get ports i) bit ≡ name_of_bit (Some x) bit
+port_there ports i x bit inside is = ap (λ o. name_of_bit o bit) (is_at ports i x x inside is)
+
+pub port_past : (ports : List HPort) (i bit : ℕ) → length ports ≤ i → name_of_bit (slice_get ports i) bit ≡ plain_name
+unfolding name_of_bit
+port_past ports i bit past = ap (λ o. name_of_bit o bit) (slice_get_past ports i past)
+
+-- and those of a net
+pub net_there : (nets : List HNet) (i : ℕ) (x : HNet) → i < length nets → x ≡ get_or nets i x → name_of_net (slice_get nets i) ≡ x.name
+unfolding name_of_net
+net_there nets i x inside is = ap name_of_net (is_at nets i x x inside is)
+
+pub net_past : (nets : List HNet) (i : ℕ) → length nets ≤ i → name_of_net (slice_get nets i) ≡ plain_name
+unfolding name_of_net
+net_past nets i past = ap name_of_net (slice_get_past nets i past)
+
+-- the name of a class with a net, of one with a port bit alone, and of another one
+pub name_by_net : (nets : List HNet) (ports : List HPort) (nodes : List Node) (net : ℕ) → Some net ≡ first_net nodes → name_of_class nets ports nodes ≡ name_of_net (slice_get nets net)
+unfolding name_by
+name_by_net nets ports nodes net is = ap (λ f. name_by nets ports f (first_port_bit nodes)) (sym is)
+
+pub name_by_port : (nets : List HNet) (ports : List HPort) (nodes : List Node) (port bit : ℕ) → None ≡ first_net nodes → Some (port, bit) ≡ first_port_bit nodes → name_of_class nets ports nodes ≡ name_of_bit (slice_get ports port) bit
+unfolding name_by
+name_by_port nets ports nodes port bit none is = (λ j. name_by nets ports (sym none j) (sym is j))
+
+pub name_by_none : (nets : List HNet) (ports : List HPort) (nodes : List Node) → None ≡ first_net nodes → None ≡ first_port_bit nodes → name_of_class nets ports nodes ≡ plain_name
+unfolding name_by
+name_by_none nets ports nodes none nowhere = (λ j. name_by nets ports (sym none j) (sym nowhere j))
+
+-- a name that is made of an identifier and a name has no spare text
+pub no_spare_text : (made : NameDef) (ident name : List ℕ) → made ≡ name_for ident name → HasNoSpareText made
+no_spare_text made ident name is = subst HasNoSpareText (sym is) (ap (name_for ident) (sym (original_name_for ident name)))
 
 pub word_string : (port : HPort) (bit : ℕ) (word : List ℕ) → word ≡ bit_word port bit → HasFewDigits port.range bit → IsShort port.name → IsString word
 word_string port bit word is small h =

@@ -5,8 +5,12 @@ use Rattle.std.specs.List.{AllByRecursion}
 use Rattle.std.proofs.lemmas.List.{map-append}
 use Rattle.std.proofs.lemmas.Option.{slice_get-map}
 use Rattle.edif_values.specs.Values.{IsString}
+use Rattle.net_bits.specs.Classes.{ClassTable}
+use Rattle.net_hier.specs.declared.cells.HCell.{HCell}
 use Rattle.edif_naming.proofs.SoundLaws.{all_push}
 use Rattle.edif_plans.proofs.Lists.{is_at}
+use Rattle.edif_plans.specs.NetNames.{net_names}
+use Rattle.edif_making.specs.Named.{IsNamed}
 use Rattle.edif_making.specs.declared.nets.Planned.{Planned}
 
 abbrev pub class_of_plan : Planned → ℕ
@@ -17,6 +21,14 @@ class_planned old new one live is test = ap (map class_of_plan) is ∙ (map-appe
 
 pub name_planned : (old new : List Planned) (one : Planned) → new ≡ old ++ one ∷ [] → AllByRecursion (λ (net : Planned). IsString net.name) old → IsString one.name → AllByRecursion (λ (net : Planned). IsString net.name) new
 name_planned old new one is all string = all_push (λ (net : Planned). IsString net.name) old new one all string is
+
+pub named_planned : (cell : HCell) (classes : ClassTable) (old new : List Planned) (one : Planned) → new ≡ old ++ one ∷ [] → AllByRecursion (IsNamed cell classes) old → IsNamed cell classes one → AllByRecursion (IsNamed cell classes) new
+named_planned cell classes old new one is all named = all_push (IsNamed cell classes) old new one all named is
+
+-- the names of nets that have those of their classes
+pub names_planned : (cell : HCell) (classes : ClassTable) (planned : List Planned) → AllByRecursion (IsNamed cell classes) planned → map (λ (net : Planned). net.name) planned ≡ net_names cell classes (map class_of_plan planned)
+names_planned cell classes [] all = refl
+names_planned cell classes (net ∷ planned) all = (λ j. all.0 j ∷ names_planned cell classes planned all.1 j)
 
 pub class_at : (planned : List Planned) (place : ℕ) (x d : Planned) → place < length planned → x ≡ get_or planned place d → slice_get (map class_of_plan planned) place ≡ Some x.class
 class_at planned place x d inside is = slice_get-map class_of_plan planned place ∙ ap (option_map class_of_plan) (is_at planned place x d inside is)

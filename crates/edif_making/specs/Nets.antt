@@ -1,18 +1,11 @@
 -- The nets that are written for a cell (EDIF 2 0 0, net, joined).
-use Rattle.std.specs.Prelude.{⊤, ◌≡◌, ◌<◌, ◌≤◌, ◌^◌, ℕ, zero, suc, ◌++◌, cond, List, [], ◌∷◌, Option, Some, None, nat_abs, slice_get}
+use Rattle.std.specs.Prelude.{⊤, ◌≡◌, ◌<◌, ◌≤◌, ◌^◌, ℕ, List, Option, Some, None, nat_abs, slice_get}
 use Rattle.std.specs.List.{AllByRecursion}
 use Rattle.nl_base.specs.Ranges.{Bounds, index_at}
 use Rattle.net_bits.specs.Classes.{ClassTable, members_of}
 use Rattle.net_hier.specs.declared.cells.HCell.{HCell}
-use Rattle.net_hier.specs.declared.cells.HNet.{HNet}
-use Rattle.net_live.specs.Live.{is_live}
 use Rattle.edif_plans.specs.References.{CanRefer, Scene}
 use Rattle.edif_plans.specs.Sound.{IsSoundNet, IsSoundPort}
-
--- the live classes below a number, in order
-unfoldable pub live_below : List HNet → ClassTable → ℕ → List ℕ
-live_below nets classes zero = []
-live_below nets classes (suc n) = live_below nets classes n ++ cond (is_live nets (members_of classes n)) (n ∷ []) []
 
 -- each of these classes is one, and what its nodes are, or what stands for them, is there
 pub record HaveRefs (scene : Scene) (classes : ClassTable) (live : List ℕ) : Type 0 where

@@ -1,5 +1,5 @@
 -- What is made of a cell of a design (EDIF 2 0 0, cell, view, interface, contents, instance, net, joined).
-use Rattle.std.specs.Prelude.{⊤, ◌≡◌, ℕ, ◌++◌, Bool, true, false, cond, List, [], ◌∷◌, map, get_or}
+use Rattle.std.specs.Prelude.{⊤, ◌≡◌, ℕ, zero, suc, ◌++◌, Bool, true, false, cond, List, [], ◌∷◌, map, get_or}
 use Rattle.std.specs.List.{AllByRecursion}
 use Rattle.nl_base.specs.declared.value.Dir.TheVariants.{Output}
 use Rattle.edif_values.specs.Values.{IsWord, IsProperty, IsInstance, IsNet, IsPort}
@@ -12,11 +12,13 @@ use Rattle.edif_values.specs.declared.port.PortItem.TheVariants.{Direction}
 use Rattle.edif_values.specs.declared.cell.Cell.{Cell}
 use Rattle.net_hier.specs.declared.cells.HCell.{HCell}
 use Rattle.net_hier.specs.declared.cells.HInst.{HInst}
+use Rattle.net_hier.specs.declared.cells.HNet.{HNet}
 use Rattle.net_hier.specs.declared.cells.HProp.{HProp}
 use Rattle.net_hier.specs.declared.constants.ConstName.{ConstName}
 use Rattle.net_bits.specs.Classes.{ClassTable, members_of}
 use Rattle.net_live.specs.Last.{last_of}
-use Rattle.net_live.specs.Live.{AreLiveClasses, class_props, needs_constant}
+use Rattle.net_live.specs.Live.{AreLiveClasses, class_props, is_live, needs_constant}
+use Rattle.edif_values.specs.Names.{original}
 use Rattle.edif_lookup.specs.Refusals.{is_in}
 use Rattle.edif_meanings.specs.Apart.{AreApart}
 use Rattle.edif_design.specs.CellRules.{port_ident}
@@ -26,6 +28,7 @@ use Rattle.edif_naming.specs.Naming.{name_for}
 use Rattle.edif_naming.specs.Sound.{AreSoundProps, IsShort}
 use Rattle.edif_spaces.specs.Spaces.{AreIdents}
 use Rattle.edif_plans.specs.Faces.{face_for, face_of, instance_face, instance_faces, instance_ident, instance_names}
+use Rattle.edif_plans.specs.NetNames.{HasNoSpareText, net_names}
 use Rattle.edif_plans.specs.References.{Scene, refs_for}
 use Rattle.edif_plans.specs.Sound.{IsSoundInstance, IsSoundNet, IsSoundPort}
 use Rattle.edif_plans.specs.declared.added.Instances.{Instances}
@@ -60,9 +63,18 @@ pub record AreInstancesFor (plan : Plan) (own : List HInst) (instances : Instanc
   pub faces : map instance_face made ≡ instance_faces plan own instances.added
   pub sound : AllByRecursion IsSoundInstance own → AllByRecursion IsInstance made
 
--- a net for each live class, which joins what its nodes stand for and has the last value of each property of its nets
+-- the live classes below a number, in order
+unfoldable pub live_below : List HNet → ClassTable → ℕ → List ℕ
+live_below nets classes zero = []
+live_below nets classes (suc n) = live_below nets classes n ++ cond (is_live nets (members_of classes n)) (n ∷ []) []
+
+-- a net for each live class, in order, which has the name of its class, joins what its nodes stand for and has the last value of each property of its nets
 pub record AreNetsFor (scene : Scene) (classes : ClassTable) (live : List ℕ) (nets : List Net) : Type 0 where
   pub are_live : AreLiveClasses scene.cell.nets classes live
+  pub in_order : live ≡ live_below scene.cell.nets classes classes.count
+  pub names : map (λ net. original net.name) nets ≡ net_names scene.cell classes live
+  pub idents : AreIdents (net_names scene.cell classes live) (map (λ net. net.name.ident) nets)
+  pub no_spare_text : AllByRecursion (λ net. HasNoSpareText net.name) nets
   pub apart : AreApart (map (λ net. net.name.ident) nets)
   pub joined : map (λ net. net.joined) nets ≡ map (λ class. refs_for scene (members_of classes class)) live
   pub props : map (λ net. (net_value net).props) nets ≡ map (λ class. last_of (class_props scene.cell.nets (members_of classes class))) live

@@ -5,10 +5,9 @@ use Rattle.net_hier.specs.declared.cells.HInst.{HInst}
 use Rattle.edif_naming.specs.Naming.{name_for}
 use Rattle.edif_written.specs.Written.{cell_of}
 use Rattle.edif_plans.specs.Faces.{added_face, face_for, own_face}
-use Rattle.edif_plans.specs.Made.{AreAddedTo}
+use Rattle.edif_plans.specs.Made.{AreAddedTo, live_below}
 use Rattle.edif_plans.specs.Plans.{HasHead}
 use Rattle.edif_plans.specs.Sound.{IsSoundInstance, IsSoundPort}
-use Rattle.edif_making.specs.Nets.{live_below}
 use Rattle.edif_making.proofs.CellLaws.{added_in_plan, idents_count, refs_there, scene_fits}
 use Rattle.edif_making.proofs.made.cell_under.Goals as goal
 
