@@ -1,7 +1,7 @@
 // The tests of `flatten`.
+use crate::reports::{FEED_AND_BOX, LEVELS};
 use cli_runs::designs::{ENDS, INV, design_of};
 use cli_runs::given::{Given, USAGE, answers, ends_so, given_plainly, text_of, wanted_of};
-use crate::reports::{FEED_AND_BOX, LEVELS};
 use std::test::Fail;
 
 /// The one leaf of the levels, under its joined name.

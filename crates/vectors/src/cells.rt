@@ -8,7 +8,10 @@ ghost use Rattle.edif_values.specs.declared.view.ViewItem.TheVariants as view_it
 ghost use Rattle.vectors.specs.Cells as spec;
 
 use crate::idents::{cell_ident, ident, name};
-use edif_values::{Cell, CellItem, CellKind, ContentsItem, Instance, InterfaceItem, LibraryItem, NameDef, Net, Port, PortItem, PortName, PortRef, View, ViewItem};
+use edif_values::{
+    Cell, CellItem, CellKind, ContentsItem, Instance, InterfaceItem, LibraryItem, NameDef, Net,
+    Port, PortItem, PortName, PortRef, View, ViewItem,
+};
 use nl_base::{Dir, Ident, NoMemory, Seq};
 use std::alloc::Global;
 
