@@ -174,43 +174,63 @@ fn add_index(
     }
 }
 
-/// The refusal of a bit that an earlier net has, with these names.
+/// The names of a reference to this port of the cell or of the instance of this number.
+fn told_names(
+    alloc: Global,
+    scope: &Scope<'_, '_>,
+    names: &NetNames<'_>,
+    instance: Option<u32>,
+    face: &Port,
+) -> Result<Seq<Text>, NoMemory>
+    ensures { IfOk result (λ told. told ≡ names_of (lists_of scope.now) names.now.net.now instance (port_name face.now)) }
+{
+    let told = port_names(
+        alloc,
+        names.net,
+        instance_name(scope, instance),
+        port_name(face),
+    )?;
+    Ok(told)
+}
+
+/// The refusal of a bit that an earlier net has.
 fn taken_bit(
     alloc: Global,
-    cell: &[u8],
-    told: Seq<Text>,
+    scope: &Scope<'_, '_>,
+    names: &NetNames<'_>,
     face: &Port,
     taken: &Bits,
     spot: Spot,
 ) -> Result<Option<Refusal>, NoMemory>
-    ensures { IfOk result (λ found. found ≡ lowest (taken_breaks cell.now told face.now taken.now (node_of_bit spot.instance spot.port) spot.bit)) }
+    ensures { IfOk result (λ found. found ≡ lowest (taken_breaks names.now.cell.now (names_of (lists_of scope.now) names.now.net.now spot.instance (port_name face.now)) face.now taken.now (node_of_bit spot.instance spot.port) spot.bit)) }
 {
     if !taken.has(spot) {
         return Ok(unbroken());
     }
-    let mut told = told;
+    let mut told = told_names(alloc, scope, names, spot.instance, face)?;
     let (_, indexes) = port_face(face);
     add_index(alloc, &mut told, indexes, spot.bit)?;
-    let found = refused(alloc, Rule::E11, cell, told)?;
+    let found = refused(alloc, Rule::E11, names.cell, told)?;
     Ok(found)
 }
 
-/// The refusal of a reference with this member to the port, with these names.
+/// The refusal of a reference with this member to the port. The names of what is referred to are made only for a refusal.
 fn bit_refusal(
     alloc: Global,
-    cell: &[u8],
-    told: Seq<Text>,
+    scope: &Scope<'_, '_>,
+    names: &NetNames<'_>,
     face: &Port,
     taken: &Bits,
     instance: Option<u32>,
     port: u32,
     member: Option<i64>,
 ) -> Result<Option<Refusal>, NoMemory>
-    ensures { IfOk result (λ found. found ≡ lowest (bit_breaks cell.now told face.now taken.now (node_of_bit instance port) member)) }
+    ensures { IfOk result (λ found. found ≡ lowest (bit_breaks names.now.cell.now (names_of (lists_of scope.now) names.now.net.now instance (port_name face.now)) face.now taken.now (node_of_bit instance port) member)) }
 {
     match bit_of(port_size(face), member) {
         None => {
-            let found = no_bit(alloc, cell, told, port_size(face), member)?;
+            let told = told_names(alloc, scope, names, instance, face)?;
+            let found = no_bit(alloc, names.cell, told, port_size(face), member)?;
             Ok(found)
         }
         Some(bit) => {
@@ -219,7 +239,7 @@ fn bit_refusal(
                 port,
                 bit,
             };
-            let found = taken_bit(alloc, cell, told, face, taken, spot)?;
+            let found = taken_bit(alloc, scope, names, face, taken, spot)?;
             Ok(found)
         }
     }
@@ -240,13 +260,7 @@ fn port_refusal(
     match port_at(scope, instance, port) {
         None => Ok(unbroken()),
         Some(face) => {
-            let told = port_names(
-                alloc,
-                names.net,
-                instance_name(scope, instance),
-                port_name(face),
-            )?;
-            let found = bit_refusal(alloc, names.cell, told, face, taken, instance, port, member)?;
+            let found = bit_refusal(alloc, scope, names, face, taken, instance, port, member)?;
             Ok(found)
         }
     }
