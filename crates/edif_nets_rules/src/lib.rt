@@ -12,6 +12,7 @@ pub mod faces;
 pub mod found;
 pub mod indexes;
 pub mod instances;
+pub mod joined;
 pub mod naming;
 pub mod parts;
 pub mod ports;

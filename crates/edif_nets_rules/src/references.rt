@@ -1,21 +1,18 @@
 // What the references in the nets of a cell break.
 ghost use Rattle.std.specs.Prelude.{◌≡◌, ◌∷◌, ◌++◌, true, [], None, IfOk, OnOk};
-ghost use Rattle.std.specs.List.{filter_map, flat_map, list_any};
 ghost use Rattle.edif_lookup.specs.Refusals.{broken, if_some, lowest};
-ghost use Rattle.net_hier.specs.declared.nodes.Node.{Node};
-ghost use Rattle.edif_design.specs.CellRules.{bit_of, index_names, is_wide, member_refusals, port_name, same_node, size_of};
-ghost use Rattle.edif_nets_rules.specs.Breaks.{bit_breaks, found_breaks, names_of, port_breaks_at, ref_breaks, ref_node, taken_breaks};
+ghost use Rattle.edif_design.specs.CellRules.{bit_of, index_names, is_wide, member_refusals, port_name, size_of};
+ghost use Rattle.edif_nets_rules.specs.Breaks.{bit_breaks, found_breaks, names_of, port_breaks_at, taken_breaks};
 ghost use Rattle.edif_nets_rules.specs.Scopes.{lists_of, port_at};
-ghost use Rattle.std.specs.Prelude.{option_to_list};
 ghost use Rattle.edif_nets_rules.specs.Spots.{node_of_bit};
 
 use crate::bits::{Bits, Spot};
 use crate::faces::{port_face, port_name, port_size};
-use crate::found::{Found, Scope, find_port, instance_name, member_of, port_at, spot_of};
+use crate::found::{Found, Scope, instance_name, member_of, port_at};
 use crate::indexes::{Indexes, index_text, member_text};
 use crate::naming::port_names;
 use crate::sizes::bit_of;
-use edif_lookup::{lower, one_name, refusal, two_names};
+use edif_lookup::{one_name, refusal, two_names};
 use edif_values::{Port, PortRef};
 use nl_base::{Ident, NoMemory, Refusal, Rule, Seq, Text};
 use std::alloc::Global;
@@ -174,43 +171,63 @@ fn add_index(
     }
 }
 
-/// The refusal of a bit that an earlier net has, with these names.
+/// The names of a reference to this port of the cell or of the instance of this number.
+fn told_names(
+    alloc: Global,
+    scope: &Scope<'_, '_>,
+    names: &NetNames<'_>,
+    instance: Option<u32>,
+    face: &Port,
+) -> Result<Seq<Text>, NoMemory>
+    ensures { IfOk result (λ told. told ≡ names_of (lists_of scope.now) names.now.net.now instance (port_name face.now)) }
+{
+    let told = port_names(
+        alloc,
+        names.net,
+        instance_name(scope, instance),
+        port_name(face),
+    )?;
+    Ok(told)
+}
+
+/// The refusal of a bit that an earlier net has.
 fn taken_bit(
     alloc: Global,
-    cell: &[u8],
-    told: Seq<Text>,
+    scope: &Scope<'_, '_>,
+    names: &NetNames<'_>,
     face: &Port,
     taken: &Bits,
     spot: Spot,
 ) -> Result<Option<Refusal>, NoMemory>
-    ensures { IfOk result (λ found. found ≡ lowest (taken_breaks cell.now told face.now taken.now (node_of_bit spot.instance spot.port) spot.bit)) }
+    ensures { IfOk result (λ found. found ≡ lowest (taken_breaks names.now.cell.now (names_of (lists_of scope.now) names.now.net.now spot.instance (port_name face.now)) face.now taken.now (node_of_bit spot.instance spot.port) spot.bit)) }
 {
     if !taken.has(spot) {
         return Ok(unbroken());
     }
-    let mut told = told;
+    let mut told = told_names(alloc, scope, names, spot.instance, face)?;
     let (_, indexes) = port_face(face);
     add_index(alloc, &mut told, indexes, spot.bit)?;
-    let found = refused(alloc, Rule::E11, cell, told)?;
+    let found = refused(alloc, Rule::E11, names.cell, told)?;
     Ok(found)
 }
 
-/// The refusal of a reference with this member to the port, with these names.
+/// The refusal of a reference with this member to the port. The names of what is referred to are made only for a refusal.
 fn bit_refusal(
     alloc: Global,
-    cell: &[u8],
-    told: Seq<Text>,
+    scope: &Scope<'_, '_>,
+    names: &NetNames<'_>,
     face: &Port,
     taken: &Bits,
     instance: Option<u32>,
     port: u32,
     member: Option<i64>,
 ) -> Result<Option<Refusal>, NoMemory>
-    ensures { IfOk result (λ found. found ≡ lowest (bit_breaks cell.now told face.now taken.now (node_of_bit instance port) member)) }
+    ensures { IfOk result (λ found. found ≡ lowest (bit_breaks names.now.cell.now (names_of (lists_of scope.now) names.now.net.now instance (port_name face.now)) face.now taken.now (node_of_bit instance port) member)) }
 {
     match bit_of(port_size(face), member) {
         None => {
-            let found = no_bit(alloc, cell, told, port_size(face), member)?;
+            let told = told_names(alloc, scope, names, instance, face)?;
+            let found = no_bit(alloc, names.cell, told, port_size(face), member)?;
             Ok(found)
         }
         Some(bit) => {
@@ -219,7 +236,7 @@ fn bit_refusal(
                 port,
                 bit,
             };
-            let found = taken_bit(alloc, cell, told, face, taken, spot)?;
+            let found = taken_bit(alloc, scope, names, face, taken, spot)?;
             Ok(found)
         }
     }
@@ -240,13 +257,7 @@ fn port_refusal(
     match port_at(scope, instance, port) {
         None => Ok(unbroken()),
         Some(face) => {
-            let told = port_names(
-                alloc,
-                names.net,
-                instance_name(scope, instance),
-                port_name(face),
-            )?;
-            let found = bit_refusal(alloc, names.cell, told, face, taken, instance, port, member)?;
+            let found = bit_refusal(alloc, scope, names, face, taken, instance, port, member)?;
             Ok(found)
         }
     }
@@ -254,7 +265,7 @@ fn port_refusal(
 
 /// The refusal of a reference that leads here.
 #[tactic(auto, unfolding(crate::specs::Breaks::found_breaks))]
-fn found_refusal(
+pub(crate) fn found_refusal(
     alloc: Global,
     scope: &Scope<'_, '_>,
     names: &NetNames<'_>,
@@ -295,71 +306,4 @@ fn found_refusal(
             Ok(made)
         }
     }
-}
-
-/// The refusal of a reference.
-fn ref_refusal(
-    alloc: Global,
-    scope: &Scope<'_, '_>,
-    names: &NetNames<'_>,
-    taken: &Bits,
-    reference: &PortRef,
-) -> Result<Option<Refusal>, NoMemory>
-    ensures { IfOk result (λ made. made ≡ lowest (ref_breaks (lists_of scope.now) names.now.cell.now names.now.net.now taken.now reference.now)) }
-{
-    let found = find_port(alloc, scope, reference)?;
-    let made = found_refusal(alloc, scope, names, taken, reference, found)?;
-    Ok(made)
-}
-
-/// The first refusal of what a net joins.
-pub fn joined_refusal(
-    alloc: Global,
-    scope: &Scope<'_, '_>,
-    names: &NetNames<'_>,
-    taken: &Bits,
-    joined: &[PortRef],
-) -> Result<Option<Refusal>, NoMemory>
-    ensures { IfOk result (λ found. found ≡ lowest (flat_map (ref_breaks (lists_of scope.now) names.now.cell.now names.now.net.now taken.now) joined.now)) }
-{
-    let mut best = unbroken();
-    for reference in joined {
-        let next = ref_refusal(alloc, scope, names, taken, reference)?;
-        best = lower(best, next);
-    }
-    Ok(best)
-}
-
-/// Adds the bit that a reference means.
-fn add_bit(
-    alloc: Global,
-    scope: &Scope<'_, '_>,
-    taken: &mut Bits,
-    reference: &PortRef,
-) -> Result<(), NoMemory>
-    ensures { OnOk result ((other : Node) → list_any (same_node other) taken.new ≡ list_any (same_node other) (taken.old ++ option_to_list (ref_node (lists_of scope.now) reference.now))) }
-{
-    let found = find_port(alloc, scope, reference)?;
-    match spot_of(scope, found, member_of(reference)) {
-        None => Ok(()),
-        Some(spot) => {
-            taken.add(spot)?;
-            Ok(())
-        }
-    }
-}
-
-/// Adds the bits that a net has.
-pub fn add_bits(
-    alloc: Global,
-    scope: &Scope<'_, '_>,
-    taken: &mut Bits,
-    joined: &[PortRef],
-) -> Result<(), NoMemory>
-    ensures { OnOk result ((other : Node) → list_any (same_node other) taken.new ≡ list_any (same_node other) (taken.old ++ filter_map (ref_node (lists_of scope.now)) joined.now)) }
-{
-    for reference in joined {
-        add_bit(alloc, scope, taken, reference)?;
-    }
-    Ok(())
 }

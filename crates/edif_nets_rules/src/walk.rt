@@ -16,9 +16,10 @@ ghost use Rattle.edif_nets_rules.specs.Walks.{AddsBits, AddsName, HasMet, instan
 use crate::bits::Bits;
 use crate::found::Scope;
 use crate::instances::{instance_refusal, second_refusal};
+use crate::joined::meet_joined;
 use crate::parts::{contents_of, instances_in};
 use crate::ports::ports_refusal;
-use crate::references::{NetNames, add_bits, joined_refusal, unbroken};
+use crate::references::{NetNames, unbroken};
 use crate::tables::{InstanceTable, PortTable};
 use edif_design::FileTables;
 use edif_lookup::{Names, lower};
@@ -79,8 +80,7 @@ fn meet_net<'a>(
         net: original(&net.name),
     };
     let joined = net.joined.items();
-    let first = joined_refusal(alloc, scope, &names, &met.taken, joined)?;
-    add_bits(alloc, scope, &mut met.taken, joined)?;
+    let first = meet_joined(alloc, scope, &names, &mut met.taken, joined)?;
     Ok(lower(second, first))
 }
 

@@ -6,4 +6,4 @@ pub returns-clause-refusal : goal.returns-clause-refusal
 returns-clause-refusal c =
     net_found (lists_of c.args.scope.now) c.args.cell.now c.args.met.now.nets c.args.met.now.taken c.args.net.now c.bytes-ident.result.now c.original.result.now c.items-joined.result.now
     c.in_ok-ident_taken.ident_taken c.in_ok-second.second c.in_ok-first.first c.lower.result c.bytes-ident.ensures.bytes c.original.ensures c.items-joined.ensures c.in_ok-ident_taken.ensures.known
-    c.in_ok-second.ensures c.in_ok-first.ensures c.lower.ensures
+    c.in_ok-second.ensures c.in_ok-first.ensures.refusal c.lower.ensures
