@@ -39,7 +39,7 @@ use Rattle.vlog_values.specs.declared.module.VlogFile.{VlogFile}
 use Rattle.vlog_writer.specs.Forms.{vlog_text}
 use Rattle.netlist_cli.specs.declared.failure.Failure.{Failure}
 use Rattle.netlist_cli.specs.declared.failure.Failure.TheVariants as failures
-use Rattle.netlist_cli.specs.Designs.{AreFlatModules, AreModulesFor, HasDesign, IsDesignRead, IsFlatFile, IsNoDesign, Makes, MakesOf, PutsMade, first_question}
+use Rattle.netlist_cli.specs.Designs.{AreFlatModules, AreModulesFor, HasDesign, IsDesignRead, IsFlatFile, IsNoDesign, Makes, MakesOf, PutsMade, ReadsDesign, first_question}
 use Rattle.netlist_cli.specs.Meanings.{IsEdifOf, IsFlatEdifOf, IsFlatVerilogOf, IsMadeOfDesign, IsSpiceOf, IsVerilogOf, Judgement, SaysOfEdif, SaysOfVerilog, any_design, edif, edif_first, few_flat, flat_rules, meaning, of_design, plain_target, spice_rules, target_rules, verilog, verilog_first}
 use Rattle.netlist_cli.specs.Outcomes.{FileLanguage, Verdict, fine, or_refused}
 use Rattle.netlist_cli.specs.Runs.{Does, IsFailureOf}
@@ -73,6 +73,12 @@ design_under_is_sound top file value (Ok design) h =
     let said : IsVlogDesign file top design = record { same_cells = h.same_cells; same_top = h.same_top; same_props = h.same_props } in
     sound_design design (short_names file top value design said) (sound file top value design said)
 design_under_is_sound top file value (Err f) h = tt
+
+-- whether a Verilog file that was read has a design
+pub file_is_judged_under : (top : Name) (i j : Supply) (file : VlogFile) → IfSome i.left (λ bytes. VlogReads bytes file) → IsAtEnd j.left → (judged : Result (Unit {0}) Failure)
+    → MatchResult judged (λ done. verilog_answers.HasDesign file top) (IsFailureOf (λ verdict. verilog_first top file ≡ Some verdict)) → MatchResult judged (λ done. ReadsDesign (Some top) i j) (IsNoDesign (Some top) i j)
+file_is_judged_under top i j file reads ended (Ok done) h = record { design = h.design; is_read = record { file = file; reads_as = reads; ended = ended; is_design = h.is_design } }
+file_is_judged_under top i j file reads ended (Err f) h = design_under_is_read top i j file reads ended (Err f) h
 
 -- ---- from a design to what is done
 

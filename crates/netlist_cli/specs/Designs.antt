@@ -44,6 +44,11 @@ abbrev pub IsDesignRead : Option Name → Supply → Supply → Design → Type 
 IsDesignRead None i j design = HasDesign EdifReads edif_answers.IsDesignOf i j design
 IsDesignRead (Some top) i j design = HasDesign VlogReads (λ file read. verilog_answers.IsDesignOf file top read) i j design
 
+-- there is such a design
+pub record ReadsDesign (top : Option Name) (i j : Supply) : Type 0 where
+  pub design : Design
+  pub is_read : IsDesignRead top i j design
+
 -- what is asked of a file before a command asks anything of its design
 abbrev pub first_question : Option Name → Question
 first_question None = record { language = edif; IsSaid = λ file verdict. edif_first file ≡ Some verdict }

@@ -6,8 +6,8 @@ ghost use Rattle.netlist_cli.specs.Meanings.{meaning_of, ok_text};
 ghost use Rattle.netlist_cli.specs.Outcomes.{fine};
 ghost use Rattle.netlist_cli.specs.Runs.{Does, TakesFrom};
 
-use crate::designs::read_design;
 use crate::failure::{Failure, after_writing};
+use crate::judging::judge_text;
 use nl_base::Text;
 use nl_io::{Sink, Source};
 use nl_output::Output;
@@ -38,8 +38,8 @@ pub fn check<S: Source, O: Sink>(
     ensures taken { TakesFrom
         (supply S.left S.faults input.old) (supply S.left S.faults input.new) }
 {
-    match read_design(alloc, top, input) {
-        Ok(_) => {
+    match judge_text(alloc, top, input) {
+        Ok(()) => {
             let done = put_ok(output);
             done
         }

@@ -39,6 +39,7 @@ pub mod failure;
 pub mod flattening;
 pub mod formatting;
 pub mod generating;
+pub mod judging;
 pub mod laws;
 pub mod line;
 pub mod linting;

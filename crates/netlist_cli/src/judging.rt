@@ -1,0 +1,90 @@
+// Whether an input has a design, for the command that asks nothing more of one. No design of a Verilog file is made.
+ghost use Rattle.std.specs.Prelude.{◌≡◌, ◌≤◌, MatchResult, None, Some};
+ghost use Rattle.net_hier.specs.Valid.{count_limit};
+ghost use Rattle.readers.specs.Sources.{supply};
+ghost use Rattle.vlog_elab.specs.Answers.{HasDesign as HasVlogDesign};
+ghost use Rattle.vlog_values.specs.Sizes.{vlog_size};
+ghost use Rattle.vlog_values.specs.Values.{IsVlogValue};
+ghost use Rattle.netlist_cli.specs.Designs.{IsNoDesign, ReadsDesign};
+ghost use Rattle.netlist_cli.specs.Meanings.{verilog_first};
+ghost use Rattle.netlist_cli.specs.Runs.{IsFailureOf, TakesFrom};
+
+use crate::designs::read_edif_design;
+use crate::failure::Failure;
+use nl_base::Text;
+use nl_io::Source;
+use std::alloc::Global;
+use vlog_elab::ResolveError as VlogError;
+use vlog_sound::read_sound_vlog;
+use vlog_values::VlogFile;
+
+/// Whether a Verilog file has a design under the module of this name, or why it has none.
+fn judge_under(alloc: Global, file: &VlogFile, top: &Text) -> Result<(), Failure>
+    requires value { IsVlogValue file.now }
+    requires small { vlog_size file.now ≤ count_limit }
+    ensures { MatchResult result (λ done. HasVlogDesign file.now top.now)
+        (IsFailureOf (λ verdict. verilog_first top.now file.now ≡ Some verdict)) }
+{
+    match vlog_elab::check(alloc, file, top) {
+        Ok(()) => Ok(()),
+        Err(error) => match error {
+            VlogError::Refused(refusal) => Err(Failure::Refused(refusal)),
+            VlogError::TooBig(units) => Err(Failure::DesignLimit(units)),
+            VlogError::NoMemory => Err(Failure::NoMemory),
+        },
+    }
+}
+
+/// Reads a Verilog file and tells whether it has a design under the module of this name.
+fn judge_text_under<S: Source>(alloc: Global, top: &Text, input: &mut S) -> Result<(), Failure>
+    ensures reads { MatchResult result
+        (λ done. ReadsDesign (Some top.now)
+        (supply S.left S.faults input.old) (supply S.left S.faults input.new))
+        (IsNoDesign (Some top.now)
+        (supply S.left S.faults input.old) (supply S.left S.faults input.new)) }
+    ensures taken { TakesFrom
+        (supply S.left S.faults input.old) (supply S.left S.faults input.new) }
+{
+    match read_sound_vlog(alloc, input) {
+        Ok(file) => {
+            let judged = judge_under(alloc, &file, top);
+            judged
+        }
+        Err(error) => Err(Failure::of_read_error(error)),
+    }
+}
+
+/// Reads an EDIF file and tells whether it has a design, which is made.
+fn judge_edif_text<S: Source>(alloc: Global, input: &mut S) -> Result<(), Failure>
+    ensures reads { MatchResult result
+        (λ done. ReadsDesign None
+        (supply S.left S.faults input.old) (supply S.left S.faults input.new))
+        (IsNoDesign None (supply S.left S.faults input.old) (supply S.left S.faults input.new)) }
+    ensures taken { TakesFrom
+        (supply S.left S.faults input.old) (supply S.left S.faults input.new) }
+{
+    match read_edif_design(alloc, input) {
+        Ok(_design) => Ok(()),
+        Err(failure) => Err(failure),
+    }
+}
+
+/// Reads a file and tells whether it has a design: an EDIF file, or a Verilog file under the module of this name.
+pub fn judge_text<S: Source>(
+    alloc: Global,
+    top: &Option<Text>,
+    input: &mut S,
+) -> Result<(), Failure>
+    ensures reads { MatchResult result
+        (λ done. ReadsDesign top.now
+        (supply S.left S.faults input.old) (supply S.left S.faults input.new))
+        (IsNoDesign top.now
+        (supply S.left S.faults input.old) (supply S.left S.faults input.new)) }
+    ensures taken { TakesFrom
+        (supply S.left S.faults input.old) (supply S.left S.faults input.new) }
+{
+    match top {
+        None => judge_edif_text(alloc, input),
+        Some(top) => judge_text_under(alloc, top, input),
+    }
+}
