@@ -24,7 +24,7 @@ use Rattle.vlog_exprs.specs.Reasons as say
 use Rattle.vlog_exprs.proofs.Expressions.{digits_are}
 use Rattle.vlog_exact.specs.Sizes.{LooksOn}
 
-Next : Type 0
+abbrev Next : Type 0
 Next = Terminal VFound Place
 
 two : (q : Bool) → q ≡ false → q ≡ true → ⊥
@@ -60,11 +60,10 @@ full y more b e f = let m = e ∙ f in absurd cc
 
 -- an expression of this number and one more token at least is none
 no_more : (room : ℕ) (n : ℤ) → say.is_size n ≡ false → (x : VFound) (y : Next) (more : List Next) (v : Expr) → x.token ≡ token.Number n → Spells tt (expr false room) (proper x ∷ (y ∷ more)) v → ⊥
-unfolding expr expr_by one
+unfolding expr expr_by expr_rest one
 no_more room n h x y more v e s = by s.0 s.1 s.2 s.3 s.4 s.5
   where
     by : (u : ExprStart) (a b : List Next) → proper x ∷ (y ∷ more) ≡ a ++ b → Spells tt (expr_start false room) a u → Spells tt (expr_rest (inside false room) u) b v → ⊥
-    unfolding one expr_rest
     by u a b place t r =
         let parts = rest_is (proper x) y t.0 more b (place ∙ ap (λ (z : List Next). z ++ b) t.1) in
         let start : say.expr_start false room x.token ≡ Ok (starts.Number n) = rw e refl in
@@ -75,18 +74,17 @@ no_more room n h x y more v e s = by s.0 s.1 s.2 s.3 s.4 s.5
 pub looks : (room : ℕ) (n : ℤ) → say.is_size n ≡ false → LooksOn (expr false room) n
 unfolding expr expr_by one expr_rest sized digits if_next
 looks room n h = record {
-  is_text = λ x e. (exprs.LooseNumber n, starts.Number n, proper x ∷ [], [], refl, (proper x, refl, rw e refl), (None, [], [], refl, inr (refl, refl), (refl, refl)));
+  is_text = λ x e. (exprs.LooseNumber n, (starts.Number n, proper x ∷ [], [], refl, (proper x, refl, rw e refl), (None, [], [], refl, inr (refl, refl), (refl, refl))));
   is_whole = λ x e g. no_more room n h x g.0 g.1.0 g.1.1 e g.1.2;
   needs_more = λ x e. rw e refl;
 }
 
 -- and so with a constant
 no_more_const : (n : ℤ) → say.is_size n ≡ false → (x : VFound) (y : Next) (more : List Next) (v : Const) → x.token ≡ token.Number n → Spells tt constant (proper x ∷ (y ∷ more)) v → ⊥
-unfolding constant one
+unfolding constant const_rest one
 no_more_const n h x y more v e s = by s.0 s.1 s.2 s.3 s.4 s.5
   where
     by : (u : ConstStart) (a b : List Next) → proper x ∷ (y ∷ more) ≡ a ++ b → Spells tt const_start a u → Spells tt (const_rest u) b v → ⊥
-    unfolding one const_rest
     by u a b place t r =
         let parts = rest_is (proper x) y t.0 more b (place ∙ ap (λ (z : List Next). z ++ b) t.1) in
         let start : say.const_start x.token ≡ Ok (const_starts.Number n) = rw e refl in
@@ -97,7 +95,7 @@ no_more_const n h x y more v e s = by s.0 s.1 s.2 s.3 s.4 s.5
 pub const_looks : (n : ℤ) → say.is_size n ≡ false → LooksOn constant n
 unfolding constant one const_rest sized_const digits if_next
 const_looks n h = record {
-  is_text = λ x e. (consts.Number n, const_starts.Number n, proper x ∷ [], [], refl, (proper x, refl, rw e refl), (None, [], [], refl, inr (refl, refl), (refl, refl)));
+  is_text = λ x e. (consts.Number n, (const_starts.Number n, proper x ∷ [], [], refl, (proper x, refl, rw e refl), (None, [], [], refl, inr (refl, refl), (refl, refl))));
   is_whole = λ x e g. no_more_const n h x g.0 g.1.0 g.1.1 e g.1.2;
   needs_more = λ x e. rw e refl;
 }

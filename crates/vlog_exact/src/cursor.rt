@@ -26,7 +26,6 @@ pub fn keywords_are_read_wholly()
 {}
 
 /// One of some keywords, at least one.
-pub fn choices_are_read_wholly()
-    ensures { (A : Type 0) (words : List (List ℕ × A)) (word : List ℕ) (value : A) → meant_by words word ≡ Some value →
-        IsReadWholly (choice words) Any }
+pub fn choices_are_read_wholly<T: Copy>()
+    ensures { (words : List (List ℕ × T)) (word : List ℕ) (value : T) → meant_by words word ≡ Some value → IsReadWholly (choice words) Any }
 {}

@@ -7,4 +7,4 @@ use Rattle.vlog_exact.proofs.Wholly.{wholly}
 use Rattle.vlog_exact.proofs.cursor.choices_are_read_wholly.Goals as goal
 
 pub returns : goal.returns
-returns c = λ A words word value h. wholly (choice words) Any (live_choice words word value h) (closed_one (λ _ x. say.choice_of words x.token) tt) tt
+returns c = λ start words word value h. wholly (choice words) Any (live_choice words word value h) (closed_one (λ _ x. say.choice_of words x.token) tt) tt
