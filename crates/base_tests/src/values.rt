@@ -14,7 +14,7 @@ fn texts_and_lists_take_memory(rt: HostRuntime) -> Result<(), Fail> {
     let mut names = Seq::empty(rt.alloc());
     assert!(rt; names.is_empty());
     names.push(Text::copy(rt.alloc(), b"size")?)?;
-    names.push(Text::of([112, 95, 120].to_vec(rt.alloc())?))?;
+    names.push(Text::of(rt.alloc(), [112, 95, 120].to_vec(rt.alloc())?)?)?;
     assert_eq!(rt; names.len(), 2);
     let refusal = Refusal {
         rule: Rule::E12,
@@ -48,12 +48,12 @@ fn identifiers(rt: HostRuntime) -> Result<(), Fail> {
         assert_eq!(rt; is_identifier(bytes), want);
     }
     let longest = vec![in rt.alloc(); b'a'; 1024]?;
-    match Ident::check(Text::of(longest)) {
+    match Ident::check(Text::of(rt.alloc(), longest)?) {
         Ok(ident) => assert_eq!(rt; ident.bytes().len(), 1024),
         Err(_) => assert!(rt; false),
     }
     let longer = vec![in rt.alloc(); b'a'; 1025]?;
-    match Ident::check(Text::of(longer)) {
+    match Ident::check(Text::of(rt.alloc(), longer)?) {
         Ok(_) => assert!(rt; false),
         Err(text) => assert_eq!(rt; text.len(), 1025),
     }

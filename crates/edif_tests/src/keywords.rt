@@ -67,7 +67,7 @@ fn aliases_mean_keywords(rt: HostRuntime) -> Result<(), Fail> {
 /// What a word of so many letters means, where 2,000 of them are an alias.
 fn meaning_of_letters(alloc: Global, count: usize) -> Result<Option<Keyword>, Fail> {
     let mut aliases = Aliases::new(alloc);
-    let alias = Text::of(vec![in alloc; b'A'; 2000]?);
+    let alias = Text::of(alloc, vec![in alloc; b'A'; 2000]?)?;
     let _ = ending_of(&mut aliases, alias, b"net");
     let word = vec![in alloc; b'a'; count]?;
     Ok(aliases.look(word.as_slice()))

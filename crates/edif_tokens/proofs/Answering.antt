@@ -138,6 +138,22 @@ led_halted {class} {lead} {byte} {p} {old} {mid} {new} {l} {m} {l'} {t} {after} 
   answer = λ bs known. Answers-err p bs (GivesText p after) (GivesSpanned p (b.used ++ s.used)) (text_at (in_class class) lead bs) e (led_spells b s bs known);
 }
 
+-- want of memory answers, whatever would have been given
+pub no_memory : {A B : Type 0} (p : Place) (bs : List ℕ) (G : Piece A → B → Type 0) (x : Result (Piece A) Flaw) → Answers p bs G x (Err NoMemory)
+no_memory p bs G (Ok piece) = tt
+no_memory p bs G (Err f) = tt
+
+-- there is no memory for a text that was read
+pub led_no_memory : {class : Class} {lead : Bool} {byte : ℕ} {p : Place} {old mid new : Window} {l m l' : Option (List ℕ)} {t after : List ℕ} {stop : ℕ} {u : Unit {0}}
+    → Begins class lead byte p old mid l m t (Ok u) → Spans class p mid new m l' t after (Ok stop) → ReadsText class lead p old new l l' (Err NoMemory)
+led_no_memory {class} {lead} {byte} {p} {old} {mid} {new} {l} {m} {l'} {t} {after} {stop} b s = record {
+  used = b.used ++ s.used;
+  uses = Uses-trans old mid new l m l' b.used s.used b.uses s.uses;
+  some = tt;
+  shape = tt;
+  answer = λ bs known. no_memory p bs (GivesSpanned p (b.used ++ s.used)) (text_at (in_class class) lead bs);
+}
+
 -- ---- tokens
 
 abbrev pub GivesFound : Place → List ℕ → Piece Token → Found → Type 0

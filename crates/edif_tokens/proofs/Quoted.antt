@@ -2,6 +2,7 @@
 use Rattle.std.proofs.Common.{◌≡◌, ℕ, ◌+◌, List, [], ◌∷◌, ◌++◌, length, get_or, drop, Option, Result, Ok, Err, refl, sym, ap, ◌∙◌, subst, arith, length-append}
 use Rattle.nl_base.specs.declared.place.Place.{Place}
 use Rattle.nl_base.specs.declared.fault.ReadError.{ReadError}
+use Rattle.nl_base.specs.declared.fault.ReadError.TheVariants.{NoMemory}
 use Rattle.nl_base.specs.Place.{place_after, place_past}
 use Rattle.nl_bytes.specs.Bytes.{Window, Uses}
 use Rattle.nl_bytes.proofs.Uses.{Uses-byte, Uses-trans}
@@ -14,7 +15,7 @@ use Rattle.edif_tokens.specs.Strings.{Parts, string_at}
 use Rattle.edif_tokens.specs.Spelling.{string_spelled, str_of}
 use Rattle.edif_tokens.specs.Stream.{found_at}
 use Rattle.edif_tokens.specs.Scan.{Answers, ReadsPart, Reads}
-use Rattle.edif_tokens.proofs.Answering.{Answers-err-then}
+use Rattle.edif_tokens.proofs.Answering.{Answers-err-then, no_memory}
 use Rattle.edif_tokens.proofs.Spans.{offset_grows}
 
 -- the byte at which a reader stands was used
@@ -49,6 +50,16 @@ string_refused {a} {b} {c} {m} {n} {v} {w} {e} p s empty begins t = record {
       let h2 = subst (λ (x : List ℕ). Answers {A = List ℕ} {B = ℕ} p (34 ∷ [] ++ k.0) (λ _ _. ⊥) (string_at Parts x 1 k.0) (Err e)) empty h in
       let h3 = Answers-err-then {A = List ℕ} {B = ℕ} p (34 ∷ [] ++ k.0) (λ _ _. ⊥) (GivesFound p (34 ∷ [] ++ t.used)) str_of (string_at Parts [] 1 k.0) e (λ piece. refl) h2 in
       subst (λ (x : List ℕ). Answers p x (GivesFound p (34 ∷ [] ++ t.used)) (string_spelled x) (Err e)) (sym k.2) h3;
+}
+
+-- there is no memory for a string that was read
+pub string_no_memory : {a b c d : Window} {m n : Option (List ℕ)} {v w : List ℕ} (p : Place) → Steps a b 34 → ReadsPart (λ s. Parts) (λ s. Parts) p p b c m n v w (Ok tt) → Steps c d 34
+    → Reads string_spelled p a d m n (Err NoMemory)
+string_no_memory {a} {b} {c} {d} {m} {n} p s t z = record {
+  used = (34 ∷ [] ++ t.used) ++ 34 ∷ [];
+  uses = Uses-trans a c d m n n (34 ∷ [] ++ t.used) (34 ∷ []) (Uses-trans a b c m m n (34 ∷ []) t.used (steps_use s m) t.uses) (steps_use z n);
+  some = tt;
+  answer = λ bs known. no_memory p bs (GivesFound p ((34 ∷ [] ++ t.used) ++ 34 ∷ [])) (string_spelled bs);
 }
 
 pub string_given : {a b c d : Window} {m n : Option (List ℕ)} {v w : List ℕ} (p : Place) (s : Steps a b 34) (empty : v ≡ []) (begins : p ≡ a.place) → ReadsPart (λ s. Parts) (λ s. Parts) p p b c m n v w (Ok tt) → Steps c d 34 → (f : Found) → f ≡ record { place = p; stop = c.place.offset + 1; token = Str w }

@@ -89,10 +89,8 @@ fn pieced_text<S: Source>(
     let mut text = Vec::new(alloc);
     begin(bytes, class, lead, byte, place, &mut text, source)?;
     let stop = span(bytes, class, place, &mut text, source)?;
-    Ok(Spanned {
-        text: Text::of(text),
-        stop,
-    })
+    let text = Text::of(alloc, text)?;
+    Ok(Spanned { text, stop })
 }
 
 /// The word that a text is.

@@ -162,9 +162,10 @@ pub fn string<S: Source>(
     parts(bytes, place, &mut value, source)?;
     let here = bytes.place();
     bytes.advance();
+    let text = Text::of(alloc, value)?;
     Ok(Found {
         place,
         stop: here.offset + 1,
-        token: Token::Str(Text::compact(alloc, value)),
+        token: Token::Str(text),
     })
 }

@@ -41,14 +41,11 @@ fn leaf_instance(
 {
     let _cells = hier.cells();
     let spot = spots[leaf as usize];
-    let name = joined_name(alloc, hier, spots, leaf)?;
+    let joined = joined_name(alloc, hier, spots, leaf)?;
+    let name = Text::of(alloc, joined)?;
     let cell = cells.place(spot.cell);
     let props = leaf_props(alloc, hier, spots, leaf)?;
-    Ok(HInst {
-        name: Text::compact(alloc, name),
-        cell,
-        props,
-    })
+    Ok(HInst { name, cell, props })
 }
 
 /// The instances for leaves.

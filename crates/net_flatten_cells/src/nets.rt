@@ -96,8 +96,9 @@ fn numbered_net(alloc: Global, number: u32) -> Result<HNet, NoMemory>
     let len = spell_u64(number as u64, &mut digits);
     let mut name = Vec::from_slice(alloc, b"n")?;
     name.extend_from_slice(&digits[..len])?;
+    let name = Text::of(alloc, name)?;
     Ok(HNet {
-        name: Text::compact(alloc, name),
+        name,
         props: Seq::empty(alloc),
     })
 }

@@ -25,7 +25,7 @@ pub fn name_at(alloc: Global, hier: &Hier, spots: &[Spot], spot: u32) -> Result<
 {
     let _cells = hier.cells();
     let name = joined_name(alloc, hier, spots, spot)?;
-    Ok(Text::of(name))
+    Text::of(alloc, name)
 }
 
 /// Whether two spots have one joined name.

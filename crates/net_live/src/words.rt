@@ -28,10 +28,10 @@ pub fn bit_word(alloc: Global, port: &HPort, bit: u32) -> Result<Text, NoMemory>
 {
     let mut word = Vec::from_slice(alloc, port.name.bytes())?;
     match port.range {
-        None => Ok(Text::of(word)),
+        None => Text::of(alloc, word),
         Some(range) => {
             add_index(&mut word, range.index(bit))?;
-            Ok(Text::of(word))
+            Text::of(alloc, word)
         }
     }
 }

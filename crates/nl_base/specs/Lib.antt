@@ -5,4 +5,5 @@ pub mod Place
 pub mod RangeForm
 pub mod Ranges
 pub mod Rules
+pub mod Texts
 pub mod formers

@@ -4,7 +4,7 @@
 // The public contract in plain words: a `Text` is its bytes and a `Seq` is its list. An `Ident` is an EDIF identifier (EDIF 2 0 0,
 // basic syntax) of at most 1,024 bytes. An `Int` is below 2^63 in absolute value, and each end of a `Range` below 2^31. Numbers are
 // spelled in decimal. `split_range` answers the base and the range exactly where a text has the range form, as `bus[7:0]`.
-// No call but `Text::copy` and `Seq::push` takes memory.
+// No call but `Text::copy`, `Text::of` and `Seq::push` takes memory.
 #![tactic(auto)]
 
 pub mod case;

@@ -5,27 +5,41 @@ use std::alloc::Global;
 use std::marker::Model;
 
 /// The most bytes that a text keeps in itself.
-const SHORT: usize = 16;
+const SHORT: usize = 14;
+
+/// Where the bytes of a text are.
+#[derive(Drop)]
+pub(crate) enum Kept {
+    // How many bytes there are, and they, with zeros behind them.
+    Short(u8, [u8; SHORT]),
+    Long(Box<Vec<u8>>),
+}
 
 /// A text of any bytes, which contracts see as the list of its bytes.
 ///
-/// Up to 16 bytes that are copied lie in the text itself, and others in an allocation.
-#[derive(Drop)]
+/// Up to 14 bytes lie in the text itself, which has 16 bytes, and others in an allocation.
 pub struct Text {
-    long: Vec<u8>,
-    short: [u8; SHORT],
-    // How many bytes lie in `short`; where there are any, `long` has none.
-    count: u8,
+    kept: Kept,
 }
 
 impl Model for Text {
-    ghost use Rattle.std.specs.Prelude.{List, [], ℕ, ◌≡◌, ◌≤◌, ◌<◌, ◌++◌, take};
+    ghost use Rattle.std.specs.Prelude.{List, ℕ};
 
     ghost Value = { List ℕ };
 
-    ghost view = { λ t. take t.count t.short ++ t.long.items };
+    ghost use Rattle.nl_base.specs.Texts.{kept_bytes, IsKept};
 
-    ghost invariant = { λ t. (t.count ≤ 16) × (0 < t.count → t.long.items ≡ []) };
+    ghost view = { λ t. kept_bytes t.kept };
+
+    ghost invariant = { λ t. IsKept t.kept };
+}
+
+// A call, and no choice between the two forms, in each function that drops a text.
+impl Drop for Text {
+    fn drop(self) {
+        let Text { kept } = self;
+        drop(kept);
+    }
 }
 
 impl Text {
@@ -35,49 +49,53 @@ impl Text {
         ensures { IfOk result (λ text. text ≡ bytes.now) }
     {
         if bytes.len() <= SHORT {
-            return Ok(Text::short(alloc, bytes));
+            return Ok(Text::short(bytes));
         }
-        let long = Vec::from_slice(alloc, bytes)?;
-        Ok(Text::of(long))
+        Text::long_copy(alloc, bytes)
     }
 
     /// A text of these few bytes; it takes no memory.
     #[inline(always)]
-    fn short(alloc: Global, bytes: &[u8]) -> Text
-        requires { length bytes.now ≤ 16 }
+    fn short(bytes: &[u8]) -> Text
+        requires { length bytes.now ≤ 14 }
         ensures { result ≡ bytes.now }
     {
-        let mut text = Text {
-            long: Vec::new(alloc),
-            short: [0; SHORT],
-            count: bytes.len() as u8,
-        };
-        let (front, _) = text.short.split_at_mut(bytes.len());
+        let mut short = [0; SHORT];
+        let (front, _) = short.split_at_mut(bytes.len());
         front.copy_from_slice(bytes);
-        text
-    }
-
-    /// The text that these bytes are; it takes no memory.
-    #[inline]
-    pub fn of(bytes: Vec<u8>) -> Text
-        ensures { result ≡ bytes.items }
-    {
         Text {
-            long: bytes,
-            short: [0; SHORT],
-            count: 0,
+            kept: Kept::Short(bytes.len() as u8, short),
         }
     }
 
-    /// The text that these bytes are, of which few are moved into it; it takes no memory.
+    /// A text of these bytes, in an allocation.
+    #[inline(never)]
+    fn long_copy(alloc: Global, bytes: &[u8]) -> Result<Text, NoMemory>
+        ensures { IfOk result (λ text. text ≡ bytes.now) }
+    {
+        let bytes = Vec::from_slice(alloc, bytes)?;
+        Text::long(alloc, bytes)
+    }
+
+    /// The text that these bytes are, in an allocation.
+    fn long(alloc: Global, bytes: Vec<u8>) -> Result<Text, NoMemory>
+        ensures { IfOk result (λ text. text ≡ bytes.items) }
+    {
+        let long = Box::new(alloc, bytes)?;
+        Ok(Text {
+            kept: Kept::Long(long),
+        })
+    }
+
+    /// The text that these bytes are. Few are moved into it, which takes no memory.
     #[inline]
-    pub fn compact(alloc: Global, bytes: Vec<u8>) -> Text
-        ensures { result ≡ bytes.items }
+    pub fn of(alloc: Global, bytes: Vec<u8>) -> Result<Text, NoMemory>
+        ensures { IfOk result (λ text. text ≡ bytes.items) }
     {
         if bytes.len() <= SHORT {
-            return Text::short(alloc, bytes.as_slice());
+            return Ok(Text::short(bytes.as_slice()));
         }
-        Text::of(bytes)
+        Text::long(alloc, bytes)
     }
 
     /// Its bytes.
@@ -85,11 +103,13 @@ impl Text {
     pub fn bytes(&self) -> &[u8]
         ensures { result.now ≡ self.now }
     {
-        if self.count == 0 {
-            return self.long.as_slice();
+        match &self.kept {
+            Kept::Short(count, short) => {
+                let (front, _) = short.split_at(*count as usize);
+                front
+            }
+            Kept::Long(long) => long.as_slice(),
         }
-        let (front, _) = self.short.split_at(self.count as usize);
-        front
     }
 
     /// The number of its bytes.

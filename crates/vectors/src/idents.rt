@@ -35,5 +35,6 @@ pub(crate) fn cell_ident(alloc: Global, number: u32) -> Result<Ident, NoMemory>
     let len = spell_u64(number as u64, &mut digits);
     let mut bytes = Vec::from_slice(alloc, b"c")?;
     bytes.extend_from_slice(&digits[..len])?;
-    Ok(Ident::of(Text::compact(alloc, bytes)))
+    let text = Text::of(alloc, bytes)?;
+    Ok(Ident::of(text))
 }

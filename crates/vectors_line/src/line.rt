@@ -49,7 +49,7 @@ fn line_of(
     line.extend_from_slice(b" leaves, ")?;
     add_number(&mut line, bytes)?;
     line.extend_from_slice(b" bytes of Verilog\n")?;
-    Ok(Text::of(line))
+    Text::of(alloc, line)
 }
 
 /// The line of the generated file of a seed and so many cells: the file is written to memory, read again, resolved and translated.

@@ -48,7 +48,7 @@ fn net_name(alloc: Global, name: &[u8], range: Option<Range>, bit: u32) -> Resul
             bytes.push(b'[')?;
             bytes.extend_from_slice(buffer.format(range.index(bit)).as_bytes())?;
             bytes.push(b']')?;
-            Ok(Text::of(bytes))
+            Text::of(alloc, bytes)
         }
     }
 }

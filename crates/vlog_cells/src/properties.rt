@@ -43,7 +43,7 @@ fn based_text(alloc: Global, based: &Based) -> Result<Text, NoMemory>
 {
     let mut bytes = Vec::new(alloc);
     add_based(based, &mut bytes)?;
-    Ok(Text::of(bytes))
+    Text::of(alloc, bytes)
 }
 
 /// The normal spelling of a literal.
@@ -54,7 +54,7 @@ fn literal_text(alloc: Global, literal: &Literal) -> Result<Text, NoMemory>
     let mut buffer = Buffer::new();
     let mut bytes = Vec::from_slice(alloc, buffer.format(literal.size).as_bytes())?;
     add_based(&literal.based, &mut bytes)?;
-    Ok(Text::of(bytes))
+    Text::of(alloc, bytes)
 }
 
 /// What a constant is in a parameter.

@@ -23,7 +23,8 @@ fn shown(alloc: Global, text: &[u8]) -> Result<Text, Fail> {
             bits.push(letter(*bit))?;
         }
     }
-    Ok(Text::of(bits))
+    let text = Text::of(alloc, bits)?;
+    Ok(text)
 }
 
 #[test]

@@ -1,4 +1,4 @@
-ghost use Rattle.std.specs.Prelude.{◌≡◌, ◌≤◌, length, IfOk};
+ghost use Rattle.std.specs.Prelude.{◌≡◌, ◌≤◌, length, Some, IfOk};
 ghost use Rattle.std.specs.List.{filter};
 ghost use Rattle.vlog_tokens.specs.Items.{is_kept, word_item, number_item, real_item, is_signed, digits_of, has_value, based_item, directive_item, item_of};
 ghost use Rattle.vlog_tokens.specs.Numbers.{number_of, real_of};
@@ -36,6 +36,21 @@ pub fn word_token(text: Text) -> VToken
         return VToken::Keyword(text);
     }
     VToken::Name(text)
+}
+
+fn word_item(alloc: Global, text: Vec<u8>) -> Result<Option<Item>, NoMemory>
+    ensures { IfOk result (λ item. item ≡ Some (word_item text.items)) }
+{
+    let text = Text::of(alloc, text)?;
+    Ok(Some(Item::Token(word_token(text))))
+}
+
+/// The name that an escaped name is.
+fn escaped_item(alloc: Global, text: Vec<u8>) -> Result<Option<Item>, NoMemory>
+    ensures { IfOk result (λ item. item ≡ Some (Item.Token (VToken.Name text.items))) }
+{
+    let text = Text::of(alloc, text)?;
+    Ok(Some(Item::Token(VToken::Name(text))))
 }
 
 fn number_item(text: &[u8]) -> Option<Item>
@@ -110,26 +125,28 @@ fn based_item(alloc: Global, base: Base, text: &[u8]) -> Result<Option<Item>, No
     if !has_value(base, digits.as_slice()) {
         return Ok(None);
     }
+    let digits = Text::of(alloc, digits)?;
     Ok(Some(Item::Token(VToken::Based(Based {
         signed,
         base,
-        digits: Text::compact(alloc, digits),
+        digits,
     }))))
 }
 
 /// A directive, or the white space that it is.
-fn directive_item(text: Vec<u8>) -> Item
-    ensures { result ≡ directive_item text.items }
+fn directive_item(alloc: Global, text: Vec<u8>) -> Result<Option<Item>, NoMemory>
+    ensures { IfOk result (λ item. item ≡ Some (directive_item text.items)) }
 {
     if text.as_slice() == b"`timescale".as_slice() {
-        return Item::Line;
+        return Ok(Some(Item::Line));
     }
     if text.as_slice() == b"`celldefine".as_slice()
         || text.as_slice() == b"`endcelldefine".as_slice()
     {
-        return Item::Blank;
+        return Ok(Some(Item::Blank));
     }
-    Item::Token(VToken::Directive(Text::of(text)))
+    let text = Text::of(alloc, text)?;
+    Ok(Some(Item::Token(VToken::Directive(text))))
 }
 
 /// What the bytes of a token are; none where a number is too large.
@@ -138,14 +155,14 @@ pub fn item_of(alloc: Global, phase: Phase, text: Vec<u8>) -> Result<Option<Item
     ensures { IfOk result (λ item. item ≡ item_of phase text.items) }
 {
     match phase {
-        Phase::Word => Ok(Some(Item::Token(word_token(Text::compact(alloc, text))))),
-        Phase::Escaped => Ok(Some(Item::Token(VToken::Name(Text::compact(alloc, text))))),
+        Phase::Word => word_item(alloc, text),
+        Phase::Escaped => escaped_item(alloc, text),
         Phase::Whole => Ok(number_item(text.as_slice())),
         Phase::Fraction => Ok(real_item(text.as_slice())),
         Phase::Exponent => Ok(real_item(text.as_slice())),
         Phase::Digits(base) => based_item(alloc, base, text.as_slice()),
         Phase::Unknown => based_item(alloc, Base::Decimal, text.as_slice()),
-        Phase::Directive => Ok(Some(directive_item(text))),
+        Phase::Directive => directive_item(alloc, text),
         _ => Ok(None),
     }
 }

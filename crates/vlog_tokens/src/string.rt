@@ -200,8 +200,9 @@ pub fn string<S: Source>(
     parts(bytes, place, &mut value, source)?;
     let here = bytes.place();
     bytes.advance();
+    let text = Text::of(alloc, value)?;
     Ok(Spot {
-        item: Item::Token(VToken::Str(Text::compact(alloc, value))),
+        item: Item::Token(VToken::Str(text)),
         stop: here.offset + 1,
     })
 }

@@ -13,7 +13,7 @@ place-cell-requires c =
 pub returns : goal.returns
 returns c = λ paths of.
     let r = leaf_read c.args.hier.now c.args.spots.now c.requires.spots c.args.leaf c.requires.leaf (record { parent = 0; instance = 0; cell = 0 }) in
-    leaf_made c.args.hier.now.cells c.args.spots.now paths c.args.cells.now.numbers c.args.leaf c.compact.result c.place-cell.result c.in_ok-props.props
-    (c.compact.ensures ∙ c.in_ok-name.ensures (path_at paths c.args.leaf) (listed_path c.args.hier.now c.cells-cells.ensures.valid.valid c.args.spots.now c.requires.spots paths of c.args.leaf r.within))
+    leaf_made c.args.hier.now.cells c.args.spots.now paths c.args.cells.now.numbers c.args.leaf c.in_ok-name.name c.place-cell.result c.in_ok-props.props
+    (c.in_ok-name.ensures ∙ c.in_ok-joined.ensures (path_at paths c.args.leaf) (listed_path c.args.hier.now c.cells-cells.ensures.valid.valid c.args.spots.now c.requires.spots paths of c.args.leaf r.within))
     (c.place-cell.ensures ∙ ap (place_in c.args.cells.now.numbers) r.is)
     c.in_ok-props.ensures
