@@ -71,7 +71,8 @@ fn array_text(alloc: Global, name: &[u8], range: Range) -> Result<Text, NoMemory
     text.push(b':')?;
     add_number(&mut text, range.right)?;
     text.push(b']')?;
-    Text::of(alloc, text)
+    let text = Text::of(alloc, text)?;
+    Ok(text)
 }
 
 /// The name of an array port with this identifier, name and range.

@@ -63,7 +63,8 @@ fn numbered_text(alloc: Global, number: u64) -> Result<Text, NoMemory>
     let mut name = Vec::with_capacity(alloc, 22)?;
     name.extend_from_slice(b"id")?;
     name.extend_from_slice(&digits[..len])?;
-    Text::of(alloc, name)
+    let text = Text::of(alloc, name)?;
+    Ok(text)
 }
 
 /// The stem followed by a number, as an identifier.

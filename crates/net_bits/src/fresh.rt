@@ -35,5 +35,6 @@ fn numbered(alloc: Global, stem: &[u8], number: u64) -> Result<Text, NoMemory>
     let len = spell_u64(number, &mut digits);
     let mut name = Vec::from_slice(alloc, stem)?;
     name.extend_from_slice(&digits[..len])?;
-    Text::of(alloc, name)
+    let text = Text::of(alloc, name)?;
+    Ok(text)
 }

@@ -25,7 +25,8 @@ pub fn name_at(alloc: Global, hier: &Hier, spots: &[Spot], spot: u32) -> Result<
 {
     let _cells = hier.cells();
     let name = joined_name(alloc, hier, spots, spot)?;
-    Text::of(alloc, name)
+    let text = Text::of(alloc, name)?;
+    Ok(text)
 }
 
 /// Whether two spots have one joined name.

@@ -28,10 +28,14 @@ pub fn bit_word(alloc: Global, port: &HPort, bit: u32) -> Result<Text, NoMemory>
 {
     let mut word = Vec::from_slice(alloc, port.name.bytes())?;
     match port.range {
-        None => Text::of(alloc, word),
+        None => {
+            let text = Text::of(alloc, word)?;
+            Ok(text)
+        }
         Some(range) => {
             add_index(&mut word, range.index(bit))?;
-            Text::of(alloc, word)
+            let text = Text::of(alloc, word)?;
+            Ok(text)
         }
     }
 }

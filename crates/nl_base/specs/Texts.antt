@@ -1,5 +1,5 @@
 -- What the bytes of a text are, in each of the two forms in which it keeps them.
-use Rattle.std.specs.Prelude.{Unit, ℕ, List, ◌≤◌, take}
+use Rattle.std.specs.Prelude.{ℕ, List, ◌≤◌, take}
 use Rattle.nl_base.specs.declared.text.Kept.{Kept}
 use Rattle.nl_base.specs.declared.text.Kept.TheVariants.{Short, Long}
 

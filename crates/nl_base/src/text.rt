@@ -36,6 +36,7 @@ impl Model for Text {
 
 // A call, and no choice between the two forms, in each function that drops a text.
 impl Drop for Text {
+    #[inline]
     fn drop(self) {
         let Text { kept } = self;
         drop(kept);

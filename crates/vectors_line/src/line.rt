@@ -49,7 +49,8 @@ fn line_of(
     line.extend_from_slice(b" leaves, ")?;
     add_number(&mut line, bytes)?;
     line.extend_from_slice(b" bytes of Verilog\n")?;
-    Text::of(alloc, line)
+    let text = Text::of(alloc, line)?;
+    Ok(text)
 }
 
 /// The line of the generated file of a seed and so many cells: the file is written to memory, read again, resolved and translated.

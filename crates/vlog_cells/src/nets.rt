@@ -48,7 +48,8 @@ fn net_name(alloc: Global, name: &[u8], range: Option<Range>, bit: u32) -> Resul
             bytes.push(b'[')?;
             bytes.extend_from_slice(buffer.format(range.index(bit)).as_bytes())?;
             bytes.push(b']')?;
-            Text::of(alloc, bytes)
+            let text = Text::of(alloc, bytes)?;
+            Ok(text)
         }
     }
 }

@@ -43,7 +43,8 @@ fn based_text(alloc: Global, based: &Based) -> Result<Text, NoMemory>
 {
     let mut bytes = Vec::new(alloc);
     add_based(based, &mut bytes)?;
-    Text::of(alloc, bytes)
+    let text = Text::of(alloc, bytes)?;
+    Ok(text)
 }
 
 /// The normal spelling of a literal.
@@ -54,7 +55,8 @@ fn literal_text(alloc: Global, literal: &Literal) -> Result<Text, NoMemory>
     let mut buffer = Buffer::new();
     let mut bytes = Vec::from_slice(alloc, buffer.format(literal.size).as_bytes())?;
     add_based(&literal.based, &mut bytes)?;
-    Text::of(alloc, bytes)
+    let text = Text::of(alloc, bytes)?;
+    Ok(text)
 }
 
 /// What a constant is in a parameter.
