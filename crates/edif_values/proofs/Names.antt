@@ -1,10 +1,13 @@
 -- The name and the range of an array, by what the split of its text answers.
-use Rattle.std.proofs.Common.{◌≡◌, ◌∙◌, sym, ap, refl, inl, inr, ℕ, List, take, length, Option, Some, None, option_map, pos}
+use Rattle.std.proofs.Common.{◌≡◌, ◌∙◌, sym, ap, refl, subst, inl, inr, ℕ, List, take, length, Option, Some, None, option_map, pos}
+use Rattle.std.specs.Prelude.{negsuc}
 use Rattle.std.proofs.Math.Seq.{take-append_seam}
 use Rattle.nl_base.specs.Ranges.{Bounds, bracketed, HasNoRangeForm}
 use Rattle.nl_base.specs.RangeForm.{range_form}
 use Rattle.nl_base.proofs.RangeForm.{range_form-is, range_form-complete}
-use Rattle.edif_values.specs.Names.{NamesArray, named_array, array_name}
+use Rattle.edif_values.specs.Names.{HasSize, NamesArray, NamesPort, named_array, array_name, original, port_original}
+use Rattle.edif_values.specs.declared.name.PortName.{PortName}
+use Rattle.edif_values.specs.declared.name.PortName.TheVariants.{Single, Array}
 
 abbrev count_of : ℕ × Bounds → Option (ℕ × Bounds) → ℕ
 count_of other None = other.0
@@ -38,3 +41,12 @@ array_named text size = by (range_form text size) refl
         absurd cc in
         inr (none, refl, refl)
     by (Some form) is = inl (range_form-is text size form.0 form.1 is)
+
+-- what is the original name of a port and its range names the port
+pub port_named : (name : PortName) (text : List ℕ) (range : Option Bounds) → HasSize name → ◌≡◌ {A = List ℕ × Option Bounds} (text, range) (port_original name) → NamesPort name text range
+port_named name text range sized e = subst (λ (z : List ℕ × Option Bounds). NamesPort name z.0 z.1) (sym e) (by name sized)
+  where
+    by : (name : PortName) → HasSize name → NamesPort name (port_original name).0 (port_original name).1
+    by (Single name) sized = (refl, refl)
+    by (Array name (pos size)) sized = array_named (original name) size
+    by (Array name (negsuc n)) sized = sized

@@ -39,6 +39,13 @@ abbrev pub port_original : PortName → List ℕ × Option Bounds
 port_original (Single name) = (original name, None)
 port_original (Array name size) = ((array_name (original name) size).0, Some (array_name (original name) size).1)
 
+-- The text and the range are the original name of a port and its range: those of an array, or an object's original name and none.
+abbrev pub NamesPort : PortName → List ℕ → Option Bounds → Type 0
+NamesPort (Single name) text range = (text ≡ original name) × (range ≡ None)
+NamesPort (Array name (pos size)) text (Some range) = NamesArray (original name) size text range
+NamesPort (Array name (pos size)) text None = ⊥
+NamesPort (Array name (negsuc n)) text range = ⊥
+
 -- a size of an array of at most 65,536 bits
 abbrev pub IsSize : ℤ → Type 0
 IsSize (pos size) = (1 ≤ size) × (size ≤ 65536)

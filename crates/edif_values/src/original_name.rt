@@ -1,6 +1,6 @@
 // The original names of objects and of ports.
 ghost use Rattle.std.specs.Prelude.{◌≡◌, ◌≤◌, pos, option_map};
-ghost use Rattle.edif_values.specs.Names.{original, array_name, port_original, HasSize};
+ghost use Rattle.edif_values.specs.Names.{original, array_name, port_original, HasSize, NamesPort};
 
 use crate::name::{NameDef, PortName};
 use nl_base::{Range, split_range};
@@ -35,7 +35,8 @@ fn array_name(text: &[u8], size: u32) -> (&[u8], Range)
 /// array's size; any other text is the name itself, with the range SIZE-1:0. The size has to be from 1 to 65,536 bits.
 pub fn port_original(name: &PortName) -> (&[u8], Option<Range>)
     requires { HasSize name.now }
-    ensures { (result.0.now, result.1) ≡ port_original name.now }
+    ensures value { (result.0.now, result.1) ≡ port_original name.now }
+    ensures names { NamesPort name.now result.0.now result.1 }
 {
     match name {
         PortName::Single(name) => (original(name), None),

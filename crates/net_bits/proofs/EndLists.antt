@@ -1,8 +1,8 @@
 -- lists of neighbours, while joins are added to them
-use Rattle.std.proofs.Common.{Vec, Global, ◌≡◌, ℕ, ◌+◌, ◌<◌, ◌++◌, ◌==◌, ◌*◌, List, [], ◌∷◌, Some, length, get_or, set, take, replicate, map, sum_by, if◌then◌else◌, refl, sym, ◌∙◌, ap, subst, arith, append_assoc, length-set, Bool, true, false, eqb, slice_get}
+use Rattle.std.proofs.Common.{◌≡◌, ℕ, ◌+◌, ◌<◌, ◌++◌, ◌==◌, ◌*◌, List, [], ◌∷◌, Some, length, get_or, set, take, replicate, map, sum_by, if◌then◌else◌, refl, sym, ◌∙◌, ap, subst, arith, append_assoc, length-set, Bool, true, false, eqb, slice_get}
 use Rattle.std.specs.List.Sorted.{IsStrictlySortedBy}
 use Rattle.std.proofs.lemmas.Bool.{eqb-true, eq-eqb}
-use Rattle.std.proofs.lemmas.List.{length-map, map-append, map-set, get_or-map, append-nil, take_more, get_or-replicate, length-replicate}
+use Rattle.std.proofs.lemmas.List.{map-append, append-nil, take_more, get_or_default, get_or-replicate, length-replicate}
 use Rattle.std.proofs.lemmas.List.Concat.{flat_map-append}
 use Rattle.std.proofs.lemmas.List.Sums.{sum_by-set}
 use Rattle.std.proofs.lemmas.Grind.{common_steps}
@@ -66,35 +66,28 @@ module _ (nodes : List Node) (sorted : IsStrictlySortedBy node_cmp nodes) where
 pub AreOtherEnds-none : (nodes : List Node) → AreOtherEnds nodes [] (replicate (length nodes) [])
 AreOtherEnds-none nodes = record { len = length-replicate (length nodes) []; ends = λ v x h. ap (map (slice_get nodes)) (get_or-replicate (length nodes) v [] [] (slice_get_within nodes v x h)) }
 
--- a push onto the list at `a`, seen through the lists
-grow_view : (vs : List (Vec ℕ Global)) (a b : ℕ) (old new : Vec ℕ Global) → a < length vs → old ≡ get_or vs a old → new.items ≡ old.items ++ b ∷ []
-    → map (λ v. v.items) (set vs a new) ≡ grow (map (λ v. v.items) vs) a b
-grow_view vs a b old new h o n =
-    map-set (λ (v : Vec ℕ Global). v.items) vs a new
-    ∙ ap (λ t. set (map (λ v. v.items) vs) a t) (n ∙ ap (λ t. t ++ b ∷ []) (ap (λ (v : Vec ℕ Global). v.items) o ∙ sym (get_or-map (λ (v : Vec ℕ Global). v.items) vs a old [] h)))
+-- a push onto the list at `a`
+grow_at : (lists : List (List ℕ)) (a b : ℕ) (old new : List ℕ) → a < length lists → old ≡ get_or lists a old → new ≡ old ++ b ∷ [] → set lists a new ≡ grow lists a b
+grow_at lists a b old new h o n = ap (λ t. set lists a t) (n ∙ ap (λ t. t ++ b ∷ []) (o ∙ get_or_default lists a old [] h))
 
 -- after the joins before `i` and the pushes of the join at `i`
-pub join_more : (nodes : List Node) → IsStrictlySortedBy node_cmp nodes → (joins : List Join) (i : ℕ) (d : Join) (a b : ℕ) (vs : List (Vec ℕ Global)) (old₁ new₁ old₂ new₂ : Vec ℕ Global) → i < length joins
+pub join_more : (nodes : List Node) → IsStrictlySortedBy node_cmp nodes → (joins : List Join) (i : ℕ) (d : Join) (a b : ℕ) (lists : List (List ℕ)) (old₁ new₁ old₂ new₂ : List ℕ) → i < length joins
     → slice_get nodes a ≡ Some (get_or joins i d).a → slice_get nodes b ≡ Some (get_or joins i d).b
-    → AreOtherEnds nodes (take i joins) (map (λ v. v.items) vs)
-    → sum_by length (map (λ v. v.items) vs) ≡ 2 * i
-    → old₁ ≡ get_or vs a old₁
-    → new₁.items ≡ old₁.items ++ b ∷ []
-    → old₂ ≡ get_or (set vs a new₁) b old₂
-    → new₂.items ≡ old₂.items ++ a ∷ []
-    → AreOtherEnds nodes (take (i + 1) joins) (map (λ v. v.items) (set (set vs a new₁) b new₂))
-    × (sum_by length (map (λ v. v.items) (set (set vs a new₁) b new₂)) ≡ 2 * (i + 1))
-join_more nodes sorted joins i d a b vs old₁ new₁ old₂ new₂ in' ha hb h s o₁ n₁ o₂ n₂ =
+    → AreOtherEnds nodes (take i joins) lists
+    → sum_by length lists ≡ 2 * i
+    → old₁ ≡ get_or lists a old₁
+    → new₁ ≡ old₁ ++ b ∷ []
+    → old₂ ≡ get_or (set lists a new₁) b old₂
+    → new₂ ≡ old₂ ++ a ∷ []
+    → AreOtherEnds nodes (take (i + 1) joins) (set (set lists a new₁) b new₂)
+    × (sum_by length (set (set lists a new₁) b new₂) ≡ 2 * (i + 1))
+join_more nodes sorted joins i d a b lists old₁ new₁ old₂ new₂ in' ha hb h s o₁ n₁ o₂ n₂ =
     let j = get_or joins i d in
-    let lists = map (λ (v : Vec ℕ Global). v.items) vs in
-    let len : length vs ≡ length nodes = sym (length-map vs (λ (v : Vec ℕ Global). v.items)) ∙ h.len in
-    let in_a : a < length vs = omega (arith, len, slice_get_within nodes a j.a ha) in
-    let in_b' : b < length vs = omega (arith, len, slice_get_within nodes b j.b hb) in
-    let in_b : b < length (set vs a new₁) = simp length-set in_b' in
-    let e₁ = grow_view vs a b old₁ new₁ in_a o₁ n₁ in
-    let e₂ = grow_view (set vs a new₁) b a old₂ new₂ in_b o₂ n₂ ∙ ap (λ t. grow t b a) e₁ in
     let a' : a < length lists = omega (arith, h.len, slice_get_within nodes a j.a ha) in
     let b'' : b < length lists = omega (arith, h.len, slice_get_within nodes b j.b hb) in
+    let in_b : b < length (set lists a new₁) = simp length-set b'' in
+    let e₁ = grow_at lists a b old₁ new₁ a' o₁ n₁ in
+    let e₂ = grow_at (set lists a new₁) b a old₂ new₂ in_b o₂ n₂ ∙ ap (λ t. grow t b a) e₁ in
     let b' : b < length (grow lists a b) = simp length-set b'' in (
       subst (λ t. AreOtherEnds nodes (take (i + 1) joins) t) (sym e₂)
           (subst (λ t. AreOtherEnds nodes t (grow (grow lists a b) b a)) (sym (take_more joins i d in')) (AreOtherEnds-push nodes sorted (take i joins) j a b lists h ha hb)),

@@ -1,6 +1,7 @@
-ghost use Rattle.std.specs.Prelude.{◌≡◌, ℕ, ◌+◌, ◌*◌, ◌<◌, ◌≤◌, ◌^◌, List, [], map, length, slice_get, Some, slice_index, slice_index_or, sum_by, IfOk};
+ghost use Rattle.std.specs.Prelude.{◌≡◌, ℕ, ◌+◌, ◌*◌, ◌<◌, ◌≤◌, ◌^◌, List, [], length, slice_get, Some, slice_index, slice_index_or, sum_by, IfOk};
 
 use crate::joined::{joined_nodes, neighbour_lists};
+use crate::short_list::ShortList;
 use crate::steps::Steps;
 use indexmap::IndexSet;
 use net_hier::{HCell, Node};
@@ -13,18 +14,17 @@ use std::sync::ledger::Ledger;
 #[derive(Drop)]
 pub struct Adjacency {
     nodes: IndexSet<Node>,
-    lists: Vec<Vec<u32>>,
+    lists: Vec<ShortList>,
 }
 
 impl Model for Adjacency {
-    ghost use Rattle.std.specs.Prelude.{map};
     ghost use Rattle.net_bits.specs.Neighbours.{Neighbours, AreFew};
 
     ghost Value = { Neighbours };
 
-    ghost view = { λ a. record { nodes = a.nodes.keys; lists = map (λ list. list.items) a.lists.items } };
+    ghost view = { λ a. record { nodes = a.nodes.keys; lists = a.lists.items } };
 
-    ghost invariant = { λ a. AreFew (record { nodes = a.nodes.keys; lists = map (λ list. list.items) a.lists.items }) };
+    ghost invariant = { λ a. AreFew (record { nodes = a.nodes.keys; lists = a.lists.items }) };
 }
 
 impl Adjacency {
@@ -76,7 +76,7 @@ impl Adjacency {
         ensures cost { steps.new ≡ steps.old + 1 }
     {
         steps.tick();
-        self.lists[number as usize][place as usize]
+        self.lists[number as usize].at(place as usize)
     }
 
     // The set of the nodes.

@@ -117,7 +117,7 @@ fn list_members<L: Ledger>(
     ensures members { IfOk result (λ lists. AreMembers (record { nodes = adjacency.now.nodes; numbers = numbers.now; count = count }) (map (λ list. list.items) lists.items)) }
     ensures cost { steps.new ≤ steps.old + length adjacency.now.nodes }
 {
-    let mut members = Vec::new(alloc);
+    let mut members = Vec::with_capacity(alloc, count as usize)?;
     for _class in 0..count {
         members.push(Vec::new(alloc))?;
     }

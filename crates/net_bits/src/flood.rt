@@ -29,9 +29,9 @@ fn number_node(
 
 /// Gives the number `class` to the root and to all nodes that are connected to it.
 fn flood<L: Ledger>(
-    alloc: Global,
     adjacency: &Adjacency,
     numbers: &mut [Option<u32>],
+    work: &mut Vec<u32>,
     root: u32,
     class: u32,
     steps: &mut Steps<L>,
@@ -41,16 +41,17 @@ fn flood<L: Ledger>(
     requires lists { AreMutual adjacency.now.lists }
     requires root { root < length adjacency.now.lists }
     requires unnumbered { number numbers.old root ≡ None }
+    requires idle { work.old.items ≡ [] }
     requires numbered { IsNumbered (IsNext adjacency.now.lists) numbers.old root class [] }
+    ensures idle { OnOk result (work.new.items ≡ []) }
     ensures numbered { OnOk result (IsNumbered (IsNext adjacency.now.lists) numbers.new (root + 1) (class + 1) []) }
     ensures cost { steps.new + unspent numbers.new adjacency.now.lists ≤ steps.old + unspent numbers.old adjacency.now.lists }
 {
-    let mut work = Vec::new(alloc);
-    number_node(numbers, &mut work, root, class)?;
+    number_node(numbers, work, root, class)?;
     while let Some(node) = work.pop() {
         for place in 0..adjacency.degree(node) {
             let other = adjacency.neighbour(node, place, steps);
-            number_node(numbers, &mut work, other, class)?;
+            number_node(numbers, work, other, class)?;
         }
     }
     Ok(())
@@ -61,7 +62,7 @@ fn all_of(alloc: Global, classes: &[Option<u32>]) -> Result<Vec<u32>, NoMemory>
     requires { (v : ℕ) → v < length classes.now → (c : ℕ) × (number classes.now v ≡ Some c) }
     ensures { IfOk result (λ numbers. map Some numbers.items ≡ classes.now) }
 {
-    let mut numbers = Vec::new(alloc);
+    let mut numbers = Vec::with_capacity(alloc, classes.len())?;
     for class in classes {
         match class {
             Some(class) => numbers.push(*class)?,
@@ -90,9 +91,9 @@ pub fn number_classes<L: Ledger>(
 
 // Floods from the root, where it has no class yet, and answers how many classes there are then.
 fn flood_root<L: Ledger>(
-    alloc: Global,
     adjacency: &Adjacency,
     numbers: &mut [Option<u32>],
+    work: &mut Vec<u32>,
     root: u32,
     class: u32,
     steps: &mut Steps<L>,
@@ -104,6 +105,8 @@ fn flood_root<L: Ledger>(
     requires few { class ≤ root }
     requires short { length adjacency.now.nodes < 2 ^ 32 }
     requires numbered { IsNumbered (IsNext adjacency.now.lists) numbers.old root class [] }
+    requires idle { work.old.items ≡ [] }
+    ensures idle { OnOk result (work.new.items ≡ []) }
     ensures numbered { IfOk result (λ count. IsNumbered (IsNext adjacency.now.lists) numbers.new (root + 1) count []) }
     ensures few { IfOk result (λ count. count ≤ root + 1) }
     ensures cost { steps.new + unspent numbers.new adjacency.now.lists ≤ steps.old + unspent numbers.old adjacency.now.lists }
@@ -111,7 +114,7 @@ fn flood_root<L: Ledger>(
     if numbers[root as usize].is_some() {
         return Ok(class);
     }
-    flood(alloc, adjacency, numbers, root, class, steps)?;
+    flood(adjacency, numbers, work, root, class, steps)?;
     Ok(class + 1)
 }
 
@@ -129,9 +132,10 @@ fn flood_all<L: Ledger>(
 {
     let count = adjacency.count();
     let mut numbers = vec![in alloc; None; count as usize]?;
+    let mut work = Vec::new(alloc);
     let mut class = 0;
     for root in 0..count {
-        class = flood_root(alloc, adjacency, &mut numbers, root, class, steps)?;
+        class = flood_root(adjacency, &mut numbers, &mut work, root, class, steps)?;
     }
     Ok((numbers, class))
 }

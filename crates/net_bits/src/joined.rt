@@ -1,4 +1,4 @@
-ghost use Rattle.std.specs.Prelude.{◌≡◌, ◌≤◌, ◌<◌, ◌^◌, ◌*◌, ◌↔◌, List, [], Some, Contains, IfOk, OnOk, length, map, slice_get, sum_by};
+ghost use Rattle.std.specs.Prelude.{◌≡◌, ◌≤◌, ◌<◌, ◌^◌, ◌*◌, ◌↔◌, List, [], Some, Contains, IfOk, OnOk, length, slice_get, sum_by};
 ghost use Rattle.indexmap.specs.IndexSet.{insert_key};
 ghost use Rattle.std.specs.List.Sorted.{IsStrictlySortedBy};
 ghost use Rattle.std.specs.Set.{distinct_count};
@@ -6,6 +6,7 @@ ghost use Rattle.net_hier.specs.Nodes.{node_cmp};
 ghost use Rattle.net_hier.specs.declared.nodes.Node.{Node};
 ghost use Rattle.net_bits.specs.Neighbours.{AreOtherEnds, ends, same_node};
 
+use crate::short_list::ShortList;
 use indexmap::IndexSet;
 use net_hier::{Join, Node};
 use nl_base::NoMemory;
@@ -26,7 +27,7 @@ pub fn joined_nodes(alloc: Global, joins: &[Join]) -> Result<IndexSet<Node>, NoM
     ensures joined { IfOk result (λ nodes. (node : Node) → Contains nodes.keys node ↔ Contains (ends joins.now) node) }
     ensures count { IfOk result (λ nodes. length nodes.keys ≡ distinct_count same_node (ends joins.now)) }
 {
-    let mut nodes = IndexSet::new(alloc);
+    let mut nodes = IndexSet::with_capacity(alloc, joins.len().saturating_mul(2))?;
     for join in joins {
         add_ends(&mut nodes, join)?;
     }
@@ -64,16 +65,16 @@ pub fn neighbour_lists(
     alloc: Global,
     nodes: &IndexSet<Node>,
     joins: &[Join],
-) -> Result<Vec<Vec<u32>>, NoMemory>
+) -> Result<Vec<ShortList>, NoMemory>
     requires in_order { IsStrictlySortedBy node_cmp nodes.now.keys }
     requires members { (node : Node) → Contains (ends joins.now) node → Contains nodes.now.keys node }
     requires few { length nodes.now.keys < 2 ^ 32 }
-    ensures lists { IfOk result (λ lists. AreOtherEnds nodes.now.keys joins.now (map (λ list. list.items) lists.items)) }
-    ensures degrees { IfOk result (λ lists. sum_by length (map (λ list. list.items) lists.items) ≡ 2 * length joins.now) }
+    ensures lists { IfOk result (λ lists. AreOtherEnds nodes.now.keys joins.now lists.items) }
+    ensures degrees { IfOk result (λ lists. sum_by length lists.items ≡ 2 * length joins.now) }
 {
-    let mut lists = Vec::new(alloc);
+    let mut lists = Vec::with_capacity(alloc, nodes.len())?;
     for _node in 0..nodes.len() {
-        lists.push(Vec::new(alloc))?;
+        lists.push(ShortList::empty(alloc))?;
     }
     for join in joins {
         let (a, b) = ends_of(nodes, join);

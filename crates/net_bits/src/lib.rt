@@ -16,6 +16,7 @@ pub mod fresh;
 mod joined;
 pub mod leaf;
 pub mod names;
+pub mod short_list;
 pub mod steps;
 
 pub use adjacency::Adjacency;

@@ -8,7 +8,7 @@ use Rattle.net_bits.proofs.flood.flood.Goals as goal
 pub loop-node-init : goal.loop-node-init
 loop-node-init g c =
     let made = c.in_ok-number_node.ensures.unknown c.requires.unnumbered in
-    let e : c.number_node.new.work.items ≡ c.args.root ∷ [] = made.1 ∙ ap (λ ws. ws ++ c.args.root ∷ []) c.new-work.ensures.items in
+    let e : c.number_node.new.work.items ≡ c.args.root ∷ [] = made.1 ∙ ap (λ ws. ws ++ c.args.root ∷ []) c.requires.idle in
     let spent = unspent-set c.args.numbers.now c.args.adjacency.now.lists c.args.root c.args.class (omega arith) c.requires.len c.requires.unnumbered in
     record {
       flooding = subst₂ (λ ns t. IsFlooding c.args.adjacency.now.lists ns c.args.root c.args.class t) (sym made.0) (sym e)

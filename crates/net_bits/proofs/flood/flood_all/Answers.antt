@@ -12,6 +12,7 @@ loop-root-init g c =
       len = search rules;
       numbered = subst (λ t. IsNumbered (IsNext c.args.adjacency.now.lists) t 0 0 []) (sym e) (numbered-none (IsNext c.args.adjacency.now.lists) (length c.args.adjacency.now.lists));
       few = omega arith;
+      idle = search rules;
       cost = subst (λ t. c.args.steps.now + unspent t c.args.adjacency.now.lists ≤ c.args.steps.now + (sum_by length c.args.adjacency.now.lists)) (sym e)
           (omega (arith, unspent-none c.args.adjacency.now.lists));
     }
@@ -28,5 +29,6 @@ loop-root-preserved g c =
       len = ap length e ∙ l ∙ c.loop-root.invariant.len;
       numbered = subst (λ t. IsNumbered (IsNext c.args.adjacency.now.lists) t (c.loop-root.root + 1) c.in_ok-class.class []) (sym e) c.in_ok-class.ensures.numbered;
       few = c.in_ok-class.ensures.few;
+      idle = search rules;
       cost = omega (arith, ap (λ t. unspent t c.args.adjacency.now.lists) e, c.in_ok-class.ensures.cost, ap (λ t. unspent t c.args.adjacency.now.lists) d);
     }

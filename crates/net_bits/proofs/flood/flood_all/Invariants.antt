@@ -7,5 +7,6 @@ invariant-loop-root g l = record {
   len : length l.numbers.items ≡ length l.adjacency.lists;
   numbered : IsNumbered (IsNext l.adjacency.lists) l.numbers.items l.root l.class [];
   few : l.class ≤ l.root;
+  idle : l.work.items ≡ [];
   cost : l.steps + unspent l.numbers.items l.adjacency.lists ≤ l.fn.steps + sum_by length l.adjacency.lists;
 }

@@ -1,4 +1,4 @@
-use Rattle.std.proofs.Common.{arith, Vec, Global, Contains, ◌↔◌, ℕ, length, map, subst, ap}
+use Rattle.std.proofs.Common.{arith, Contains, ◌↔◌, length, subst, ap}
 use Rattle.std.proofs.lemmas.Map.Made.{distinct_count-le}
 use Rattle.net_hier.specs.declared.nodes.Join.{Join}
 use Rattle.net_hier.specs.declared.nodes.Node.{Node}
@@ -29,5 +29,5 @@ returns-clause-neighbours c = record {
     in_order = c.in_ok-nodes.ensures.in_order;
     joined = subst (λ joins. (node : Node) → Contains c.in_ok-nodes.nodes.keys node ↔ Contains (ends joins) node) c.items-joins.ensures c.in_ok-nodes.ensures.joined;
   };
-  lists = subst (λ joins. AreOtherEnds c.in_ok-nodes.nodes.keys joins (map (λ (v : Vec ℕ Global). v.items) c.in_ok-lists.lists.items)) c.items-joins.ensures c.in_ok-lists.ensures.lists;
+  lists = subst (λ joins. AreOtherEnds c.in_ok-nodes.nodes.keys joins c.in_ok-lists.lists.items) c.items-joins.ensures c.in_ok-lists.ensures.lists;
 }
