@@ -24,8 +24,8 @@ use Rattle.vlog_tokens.specs.declared.string.Escaped.TheVariants.{Stands, Octal,
 use Rattle.vlog_tokens.specs.Flaws.{Piece, Flaw, flaw}
 use Rattle.vlog_tokens.specs.Spelling.{str_of, string_spelled}
 use Rattle.vlog_tokens.specs.Strings.{Within, Parts, Escape, Code, is_octal, escaped_by, is_full, part_by, escape_by, with_code, string_at, Closes, Codes, quoted, closed}
-use Rattle.vlog_tokens.specs.Parts.{refusal, Reaches, Answers, Meaning, Part, Reads}
-use Rattle.vlog_tokens.proofs.Parts.{Refused, Steps, steps_use, part_used, part_then, part_halted, part_no_memory, refusal_answers, here_at, offset_at, offset_grows}
+use Rattle.vlog_tokens.specs.Parts.{refusal, Reaches, Answers, GivesSpot, Meaning, Part, Reads}
+use Rattle.vlog_tokens.proofs.Parts.{Refused, Steps, steps_use, part_used, part_then, part_halted, refusal_answers, here_at, offset_at, offset_grows}
 use Rattle.vlog_tokens.proofs.Scanning.{front_of, none_of, refuses, bad_here, bad_first, reaches_less}
 use Rattle.vlog_tokens.proofs.Reading.{StepsOn, reads_err, reads_ok}
 
@@ -338,13 +338,19 @@ pub string_refused : (w : List ℕ) {a b c : Window} {quote : ℕ} {m n : Option
 string_refused w {a} {b} {c} {quote} {m} {n} {v} {e} p s empty begins t =
     reads_err (part_then (opening m v s empty) (subst (λ (q : Place). Part {X = Unit {0}} (string_at Parts v) (λ _. string_at Parts w) q b c m n (Err e)) begins t)) str_of str_on string_spelled (λ bs. refl)
 
+-- want of memory answers, whatever would have been given
+no_memory : {A B : Type 0} (p : Place) (bs : List ℕ) (G : Piece A → B → Type 0) (x : Result (Piece A) Flaw) → Answers p bs G x (Err NoMemory)
+no_memory p bs G (Ok piece) = tt
+no_memory p bs G (Err f) = tt
+
 -- there is no memory for a string that was read
-pub string_no_memory : {a b c d : Window} {quote : ℕ} {m n : Option (List ℕ)} {v w : List ℕ} (p : Place) → Steps a b quote → v ≡ [] → p ≡ a.place → Part {X = Unit {0}} (string_at Parts v) (λ _. string_at Parts w) p b c m n (Ok tt) → Steps c d 34
-    → Reads string_spelled a d m n (Err NoMemory)
-string_no_memory {a} {b} {c} {d} {quote} {m} {n} {v} {w} p s empty begins t z =
-    let inner = part_then (opening m v s empty) (subst (λ (q : Place). Part {X = Unit {0}} (string_at Parts v) (λ _. string_at Parts w) q b c m n (Ok tt)) begins t) in
-    let whole = part_then inner (part_used {X = Unit {0}} (λ _. closed w) a.place (steps_use z n) tt (λ i rest. closing w rest i)) in
-    reads_err (part_no_memory {Y = Unit {0}} whole (λ _. closed w)) str_of str_on string_spelled (λ bs. refl)
+pub string_no_memory : {a b c d : Window} {quote : ℕ} {m n : Option (List ℕ)} {used : List ℕ} → Steps a b quote → Uses b c m n used → Steps c d 34 → Reads string_spelled a d m n (Err NoMemory)
+string_no_memory {a} {b} {c} {d} {quote} {m} {n} {used} s u z = record {
+  used = (quote ∷ [] ++ used) ++ 34 ∷ [];
+  uses = Uses-trans a c d m n n (quote ∷ [] ++ used) (34 ∷ []) (Uses-trans a b c m m n (quote ∷ []) used (steps_use s m) u) (steps_use z n);
+  some = tt;
+  answer = λ bs known. no_memory a.place bs (GivesSpot a.place ((quote ∷ [] ++ used) ++ 34 ∷ [])) (string_spelled bs);
+}
 
 pub string_given : {a b c d : Window} {quote : ℕ} {m n : Option (List ℕ)} {v w : List ℕ} (p : Place) → Steps a b quote → v ≡ [] → p ≡ a.place → Part {X = Unit {0}} (string_at Parts v) (λ _. string_at Parts w) p b c m n (Ok tt) → Steps c d 34
     → (x : Spot) → x ≡ record { item = Token (Str w); stop = c.place.offset + 1 } → Reads string_spelled a d m n (Ok x)

@@ -15,7 +15,7 @@ returns-in_err-text-clause-reads g c =
     let p = err_from_is_err_and c.from_residual-in_err-text.result c.from_residual-in_err-text.ensures.1 in
     let quote : Steps c.args.bytes.now c.advance.new.self c.requires.ahead.0 = record { tail = c.requires.ahead.1; ahead = c.requires.ahead.2; held = c.advance.ensures.held; place = c.advance.ensures.place } in
     let closing : Steps c.parts.new.bytes c.advance-2.new.self 34 = record { tail = c.in_ok-parts.ensures.quote.0; ahead = c.in_ok-parts.ensures.quote.1; held = c.advance-2.ensures.held; place = c.advance-2.ensures.place } in
-    rw (p.1, p.2) (string_no_memory _ quote c.new-value.ensures.items c.place-place.ensures.place c.in_ok-parts.ensures.part closing)
+    rw (p.1, p.2) (string_no_memory quote c.in_ok-parts.ensures.part.uses closing)
 
 pub returns-clause-reads : goal.returns-clause-reads
 returns-clause-reads g c =
