@@ -1,5 +1,5 @@
 // The bits that the nets of a cell have.
-ghost use Rattle.std.specs.Prelude.{◌≡◌, ◌||◌, List, [], OnOk};
+ghost use Rattle.std.specs.Prelude.{◌≡◌, ◌||◌, List, [], OnOk, OnErr};
 ghost use Rattle.std.specs.List.{list_any};
 ghost use Rattle.net_hier.specs.declared.nodes.Node.{Node};
 ghost use Rattle.edif_design.specs.CellRules.{same_node};
@@ -54,7 +54,8 @@ impl Bits {
 
     /// Adds the bit.
     pub fn add(&mut self, spot: Spot) -> Result<(), NoMemory>
-        ensures { OnOk result ((other : Node) → list_any (same_node other) self.new ≡ (same_node other (node_at spot) || list_any (same_node other) self.old)) }
+        ensures added { OnOk result ((other : Node) → list_any (same_node other) self.new ≡ (same_node other (node_at spot) || list_any (same_node other) self.old)) }
+        ensures kept { OnErr result (self.new ≡ self.old) }
     {
         if let Ok(_) = self.set.insert(spot) {
             return Ok(());

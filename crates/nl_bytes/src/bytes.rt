@@ -80,6 +80,8 @@ impl Bytes {
     /// The byte ahead, or `None` at the end. It takes from the source only where no byte is held.
     pub fn peek<S: Source>(&mut self, source: &mut S) -> Result<Option<u8>, Halt>
         ensures none_used { Uses self.old self.new (S.left source.old) (S.left source.new) [] }
+        ensures lazy { 0 < length self.old.held → (self.new ≡ self.old) × (source.new ≡ source.old) }
+        ensures used_up { IsErrOf result Halt.Failed → self.new.held ≡ [] }
         ensures ahead { IfOk result (IsAhead self.new (S.left source.new)) }
         ensures within { OnOk result (self.new.place.offset ≤ LIMIT) }
         ensures too_long { IsErrOf result Halt.TooLong → LIMIT < self.new.place.offset }

@@ -1,5 +1,5 @@
 // The instances of a cell.
-ghost use Rattle.std.specs.Prelude.{◌≡◌, ◌<◌, ◌^◌, ◌++◌, List, ℕ, bytes_eq, flat_map, length, map, IfOk, OnOk};
+ghost use Rattle.std.specs.Prelude.{◌≡◌, ◌<◌, ◌^◌, ◌++◌, [], List, ℕ, bytes_eq, flat_map, length, map, IfOk, OnOk};
 ghost use Rattle.std.specs.List.{position_or_len};
 ghost use Rattle.vlog_design.specs.Design.{def_sets, module_instances};
 ghost use Rattle.vlog_design.specs.Names.{defparam_statement, instance_statement};
@@ -71,6 +71,14 @@ fn number_of(names: &Names, name: &[u8]) -> u32
     }
 }
 
+/// A list with room for so many properties.
+fn room_for(alloc: Global, count: usize) -> Result<Seq<HProp>, NoMemory>
+    ensures { IfOk result (λ props. props ≡ []) }
+{
+    let room = Vec::with_capacity(alloc, count)?;
+    Ok(Seq::of(room))
+}
+
 /// The properties of an instance: the attributes and parameters of its statement, and then the values by `defparam`.
 fn instance_props(
     alloc: Global,
@@ -79,7 +87,8 @@ fn instance_props(
 ) -> Result<Seq<HProp>, NoMemory>
     ensures { IfOk result (λ made. made ≡ props_by statement.now (sets_of sets.now)) }
 {
-    let mut props = Seq::empty(alloc);
+    let count = statement.attrs.len().saturating_add(statement.params.len());
+    let mut props = room_for(alloc, count.saturating_add(sets.len()))?;
     add_attrs(alloc, &mut props, statement.attrs.items())?;
     add_params(alloc, &mut props, statement.params.items())?;
     add_sets(alloc, &mut props, sets)?;

@@ -14,6 +14,9 @@ use vlog_design::signals::Place;
 use vlog_design::table::Table;
 use vlog_values::{Attr, ItemV, Module, NetDecl};
 
+/// The most bytes of an index in brackets.
+const INDEX_ROOM: usize = 13;
+
 /// A net that is no port.
 #[derive(Clone, Copy)]
 pub struct WireOf<'a> {
@@ -44,7 +47,8 @@ fn net_name(alloc: Global, name: &[u8], range: Option<Range>, bit: u32) -> Resul
         }
         Some(range) => {
             let mut buffer = Buffer::new();
-            let mut bytes = Vec::from_slice(alloc, name)?;
+            let mut bytes = Vec::with_capacity(alloc, name.len().saturating_add(INDEX_ROOM))?;
+            bytes.extend_from_slice(name)?;
             bytes.push(b'[')?;
             bytes.extend_from_slice(buffer.format(range.index(bit)).as_bytes())?;
             bytes.push(b']')?;

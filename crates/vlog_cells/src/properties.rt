@@ -11,6 +11,9 @@ use nl_base::{NoMemory, PropValue, Seq, Text};
 use std::alloc::Global;
 use vlog_values::{Attr, Base, Based, Const, DefSet, Literal, ParamSet};
 
+/// The most bytes of a literal before its digits.
+const HEAD_ROOM: usize = 13;
+
 /// The small letter of a base.
 fn base_letter(base: Base) -> u8
     ensures { result ≡ base_letter base }
@@ -53,7 +56,9 @@ fn literal_text(alloc: Global, literal: &Literal) -> Result<Text, NoMemory>
     ensures { IfOk result (λ text. text ≡ literal_spelling literal.now) }
 {
     let mut buffer = Buffer::new();
-    let mut bytes = Vec::from_slice(alloc, buffer.format(literal.size).as_bytes())?;
+    let room = literal.based.digits.len().saturating_add(HEAD_ROOM);
+    let mut bytes = Vec::with_capacity(alloc, room)?;
+    bytes.extend_from_slice(buffer.format(literal.size).as_bytes())?;
     add_based(&literal.based, &mut bytes)?;
     let text = Text::of(alloc, bytes)?;
     Ok(text)

@@ -19,7 +19,7 @@ impl<'a> Model for Names<'a> {
     ghost view = { λ n. names_of n.set.keys };
 }
 
-ghost use Rattle.std.specs.Prelude.{◌≡◌, [], ◌++◌, ◌∷◌, not, bytes_eq, position, length, if◌then◌else◌, IfOk};
+ghost use Rattle.std.specs.Prelude.{◌≡◌, [], ◌++◌, ◌∷◌, not, bytes_eq, position, length, if◌then◌else◌, IfOk, OnErr};
 ghost use Rattle.vlog_design.specs.Names.{has_name};
 
 impl<'a> Names<'a> {
@@ -57,6 +57,7 @@ impl<'a> Names<'a> {
     pub fn add(&mut self, name: &'a [u8]) -> Result<bool, NoMemory>
         ensures new { IfOk result (λ new. new ≡ not (has_name self.old name.now)) }
         ensures added { IfOk result (λ new. self.new ≡ self.old ++ (if new then name.now ∷ [] else [])) }
+        ensures kept { OnErr result (self.new ≡ self.old) }
     {
         if let Ok(new) = self.set.insert(name) {
             return Ok(new);

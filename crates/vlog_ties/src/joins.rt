@@ -121,7 +121,7 @@ pub fn joins_of(
     ensures { IfOk result (λ joins. joins.items ≡ module_joins (modules_in scopes.now) scope.now.module.now) }
 {
     let ties = ties_of(alloc, names, scopes, scope.module)?;
-    let mut joins = Vec::new(alloc);
+    let mut joins = Vec::with_capacity(alloc, ties.len())?;
     push_ties(alloc, &scope.table, &ties, &mut joins)?;
     Ok(joins)
 }

@@ -143,7 +143,7 @@ pub fn ties_of<'a>(
     ensures pairings { IfOk result (λ ties. flat_map (tie_pairings (signals m.now)) ties.items ≡ pairings (modules_in scopes.now) m.now) }
     ensures joins { IfOk result (λ ties. flat_map (tie_joins (signals m.now)) ties.items ≡ module_joins (modules_in scopes.now) m.now) }
 {
-    let mut ties = Vec::new(alloc);
+    let mut ties = Vec::with_capacity(alloc, m.items.len())?;
     push_items(names, scopes, m.items.items(), &mut ties)?;
     Ok(ties)
 }

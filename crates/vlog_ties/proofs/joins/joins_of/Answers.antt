@@ -9,4 +9,4 @@ push_ties-requires-clause-digits c =
     ties_spelled (modules_in c.args.scopes.now) c.args.scope.now.module.now _ (ap all_tied c.deref.ensures.value ∙ c.in_ok-ties.ensures.value) c.requires.valid c.requires.small
 
 pub returns : goal.returns
-returns c = joins_made (modules_in c.args.scopes.now) c.args.scope.now.module.now c.args.scope.now.table _ _ _ _ c.args.scope.now.is_whole c.deref.ensures.value c.new-joins.ensures.items c.in_ok-ties.ensures.joins c.in_ok-push_ties.ensures.added
+returns c = joins_made (modules_in c.args.scopes.now) c.args.scope.now.module.now c.args.scope.now.table _ _ _ _ c.args.scope.now.is_whole c.deref.ensures.value c.in_ok-joins.ensures.items c.in_ok-ties.ensures.joins c.in_ok-push_ties.ensures.added

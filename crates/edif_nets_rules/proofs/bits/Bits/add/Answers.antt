@@ -5,5 +5,5 @@ use Rattle.edif_nets_rules.specs.Spots.{node_at}
 use Rattle.edif_nets_rules.proofs.BitLaws.{one_more_bit}
 use Rattle.edif_nets_rules.proofs.bits.Bits.add.Goals as goal
 
-pub returns-in-Ok : goal.returns-in-Ok
-returns-in-Ok c other = one_more_bit c.self.inside.set.keys c.insert.new.self.keys c.args.spot c.in-Ok.ensures.keys other ∙ ap (λ bits. same_node other (node_at c.args.spot) || list_any (same_node other) bits) c.self.view_is
+pub returns-in-Ok-clause-added : goal.returns-in-Ok-clause-added
+returns-in-Ok-clause-added c other = one_more_bit c.self.inside.set.keys c.insert.new.self.keys c.args.spot c.in-Ok.ensures.keys other ∙ ap (λ bits. same_node other (node_at c.args.spot) || list_any (same_node other) bits) c.self.view_is
