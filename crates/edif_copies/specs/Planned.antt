@@ -12,6 +12,7 @@ use Rattle.net_hier.specs.declared.cells.HCell.{HCell}
 use Rattle.edif_meanings.specs.Apart.{AreApart}
 use Rattle.edif_spaces.specs.Spaces.{AreIdents}
 use Rattle.edif_written.specs.Written.{file_of}
+use Rattle.edif_plans.specs.AddedNames.{AreNamedFor}
 use Rattle.edif_plans.specs.Made.{IsMadeCell, new_cell_for}
 use Rattle.edif_plans.specs.Plans.{constant_number, head_at, head_of, number_of}
 use Rattle.edif_plans.specs.declared.plan.Plan.{Plan}
@@ -37,19 +38,20 @@ pub record IsPlan (names : ConstantNames) (design : Design) (values : List Bool)
   pub numbers : (place number : ℕ) → slice_get design.order place ≡ Some number → number_of plan number ≡ length values + place
   pub constants : (value : Bool) → IsNeeded design value → (slice_get values (constant_number plan value) ≡ Some value) ⊎ IsOldAt names design (length values) value (constant_number plan value)
 
--- what is made of the cell of this number in the design
-pub record IsMadeOf (design : Design) (plan : Plan) (number : ℕ) (made : Cell) : Type 0 where
+-- what is made of the cell of this number in the design, under these names of the constants' cells
+pub record IsMadeOf (names : ConstantNames) (design : Design) (plan : Plan) (number : ℕ) (made : Cell) : Type 0 where
   pub cell : HCell
   pub is_there : IsCell design.cells number cell
   pub classes : ClassTable
   pub are_classes : AreClasses cell classes
   pub is_made : IsMadeCell design.cells plan (head_of plan number) cell (cell_props design number cell) classes made
+  pub are_named : AreNamedFor names cell.instances is_made.instances.added
 
 -- the new cells of these constants, and then what is made of the cells of these numbers, each in order
 pub record AreCells (names : ConstantNames) (design : Design) (plan : Plan) (values : List Bool) (numbers : List ℕ) (cells : List Cell) : Type 0 where
   pub as_many : length cells ≡ length values + length numbers
   pub new : (place : ℕ) (value : Bool) (made : Cell) → slice_get values place ≡ Some value → slice_get cells place ≡ Some made → made ≡ new_cell_for (head_at plan place) (name_of_constant names value)
-  pub old : (place number : ℕ) (made : Cell) → slice_get numbers place ≡ Some number → slice_get cells (length values + place) ≡ Some made → IsMadeOf design plan number made
+  pub old : (place number : ℕ) (made : Cell) → slice_get numbers place ≡ Some number → slice_get cells (length values + place) ≡ Some made → IsMadeOf names design plan number made
 
 -- The file has a new cell for each constant that is missing, the zero first, and then what is made of each cell of the design, in its order, as a plan says; its design is of what is made
 -- of the top.

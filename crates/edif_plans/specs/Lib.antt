@@ -1,3 +1,4 @@
+pub mod AddedNames
 pub mod Faces
 pub mod Made
 pub mod NetNames

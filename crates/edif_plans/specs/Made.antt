@@ -10,6 +10,7 @@ use Rattle.edif_values.specs.declared.net.Net.{Net}
 use Rattle.edif_values.specs.declared.port.Port.{Port}
 use Rattle.edif_values.specs.declared.port.PortItem.TheVariants.{Direction}
 use Rattle.edif_values.specs.declared.cell.Cell.{Cell}
+use Rattle.net_hier.specs.Constants.{ConstantNames}
 use Rattle.net_hier.specs.declared.cells.HCell.{HCell}
 use Rattle.net_hier.specs.declared.cells.HInst.{HInst}
 use Rattle.net_hier.specs.declared.cells.HNet.{HNet}
@@ -27,6 +28,7 @@ use Rattle.edif_written.specs.Written.{cell_of}
 use Rattle.edif_naming.specs.Naming.{name_for}
 use Rattle.edif_naming.specs.Sound.{AreSoundProps, IsShort}
 use Rattle.edif_spaces.specs.Spaces.{AreIdents}
+use Rattle.edif_plans.specs.AddedNames.{AreNamedFor}
 use Rattle.edif_plans.specs.Faces.{face_for, face_of, instance_face, instance_faces, instance_ident, instance_names}
 use Rattle.edif_plans.specs.NetNames.{HasNoSpareText, net_names}
 use Rattle.edif_plans.specs.References.{Scene, refs_for}
@@ -96,6 +98,11 @@ pub record IsMadeCell (cells : List HCell) (plan : Plan) (head : Head) (cell : H
   pub are_properties : map property_value properties ≡ last_of props
   pub sound : AreSoundProps props → AllByRecursion IsProperty properties
   pub word : IsWord head.cell
+
+-- and its added instances are named after these cells of the constants
+pub record IsMadeUnder (names : ConstantNames) (cells : List HCell) (plan : Plan) (head : Head) (cell : HCell) (props : List HProp) (classes : ClassTable) (made : Cell) : Type 0 where
+  pub is_made : IsMadeCell cells plan head cell props classes made
+  pub are_named : AreNamedFor names cell.instances is_made.instances.added
 
 -- a scalar output without properties
 abbrev pub output_for : List ℕ → List ℕ → Port
