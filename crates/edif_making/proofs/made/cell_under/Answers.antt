@@ -52,12 +52,14 @@ returns c =
         are_ports = record {
           idents = c.in_ok-ports.ensures.idents ∙ c.items-idents.ensures;
           faces = c.in_ok-ports.ensures.faces ∙ ap (map face_for) c.items-shown.ensures;
+          texts = c.in_ok-ports.ensures.texts;
           sound = λ h. c.in_ok-ports.ensures.sound (subst (AllByRecursion IsSoundPort) (sym c.items-shown.ensures) h);
         };
         are_added = added;
         are_instances = record {
           idents = c.in_ok-made.ensures.idents;
           faces = c.in_ok-made.ensures.faces ∙ ap (λ l. map (own_face c.args.plan.now) l ++ map (added_face c.args.plan.now) c.in_ok-instances.instances.added) c.items-own.ensures;
+          no_spare_text = c.in_ok-made.ensures.no_spare_text;
           sound = λ h. c.in_ok-made.ensures.sound (subst (AllByRecursion IsSoundInstance) (sym c.items-own.ensures) h) added.short;
         };
         are_nets = c.in_ok-nets.ensures;
