@@ -25,6 +25,13 @@ returns-clause-same c =
     (planned_file c.args.constants.now c.args.hier.now c.args.planned.now c.in_ok-cells.cells.items c.in_ok-name.name c.in_ok-design_name.design_name c.head-head.result.now.cell c.in_ok-file.file c.requires.planned (c.in_ok-cells.ensures c.args.planned.now.missing.items new)
     (ap (λ h. h.cell) c.head-head.ensures ∙ ap (λ n. (head_of c.args.planned.now.plan n).cell) c.top-2.ensures.top) c.in_ok-file.ensures)
 
+pub returns-clause-planned : goal.returns-clause-planned
+returns-clause-planned c =
+    let new : AreNewCells c.args.constants.now c.args.planned.now.plan c.args.planned.now.missing.items c.in_ok-first.first.items =
+    subst (λ (l : List Bool). AreNewCells c.args.constants.now c.args.planned.now.plan l c.in_ok-first.first.items) c.as_slice.ensures.value c.in_ok-first.ensures in
+    planned_file c.args.constants.now c.args.hier.now c.args.planned.now c.in_ok-cells.cells.items c.in_ok-name.name c.in_ok-design_name.design_name c.head-head.result.now.cell c.in_ok-file.file c.requires.planned (c.in_ok-cells.ensures c.args.planned.now.missing.items new)
+    (ap (λ h. h.cell) c.head-head.ensures ∙ ap (λ n. (head_of c.args.planned.now.plan n).cell) c.top-2.ensures.top) c.in_ok-file.ensures
+
 pub returns-clause-value : goal.returns-clause-value
 returns-clause-value c =
     let new : AreNewCells c.args.constants.now c.args.planned.now.plan c.args.planned.now.missing.items c.in_ok-first.first.items =
