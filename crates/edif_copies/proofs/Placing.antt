@@ -148,7 +148,7 @@ module _ (names : ConstantNames) (design : Design) (file : EdifFile) (valid : Is
   ]
 
   idents_apart : AreApart (map (λ (cell : Cell). cell.name.ident) planned.cells)
-  idents_apart = subst AreApart (same_shown (λ (head : Head). head.cell) (λ (cell : Cell). cell.name.ident) planned.plan.heads planned.cells (planned.is_plan.as_many ∙ sym planned.are_cells.as_many) same) planned.is_plan.apart
+  idents_apart = subst AreApart (same_shown (λ (head : Head). head.cell) (λ (cell : Cell). cell.name.ident) planned.plan.heads planned.cells (planned.is_plan.as_many ∙ sym planned.are_cells.as_many) same) planned.is_plan.idents.apart
     where
       same : (i : ℕ) (head : Head) (cell : Cell) → slice_get planned.plan.heads i ≡ Some head → slice_get planned.cells i ≡ Some cell → head.cell ≡ cell.name.ident
       same i head cell is_head there = subst (λ (h : Head). h.cell ≡ cell.name.ident) (at_get planned.plan.heads i head no_head is_head) (head_for i cell there).cell
