@@ -60,7 +60,7 @@ module _ (names : ConstantNames) (design : Design) (file : EdifFile) (valid : Is
     pub is_number : number_of planned.plan number ≡ length planned.values + place
     pub same_number : number_of planned.plan number ≡ i
     pub is_there : slice_get planned.cells i ≡ Some made
-    pub is_made : IsMadeOf design planned.plan number made
+    pub is_made : IsMadeOf names design planned.plan number made
 
   -- each is one or the other
   pub kind_of : (i : ℕ) (made : Cell) → slice_get planned.cells i ≡ Some made → IsNew i made ⊎ ((number : ℕ) × IsCopy number i made)
@@ -128,7 +128,7 @@ module _ (names : ConstantNames) (design : Design) (file : EdifFile) (valid : Is
     ports_named = only_item head.ports [] one ∙ sym (ap (map port_ident) (ports_are (name_for head.cell constant.cell) (output_for (get_or head.ports 0 []) constant.port ∷ []) [] [] []));
   }
 
-  old_head : (number : ℕ) (made : Cell) → IsMadeOf design planned.plan number made → IsHeadFor (head_of planned.plan number) made
+  old_head : (number : ℕ) (made : Cell) → IsMadeOf names design planned.plan number made → IsHeadFor (head_of planned.plan number) made
   old_head number made is =
       let c = is.is_made in
       let cell_name : NameDef = name_for (head_of planned.plan number).cell is.cell.name in
@@ -148,7 +148,7 @@ module _ (names : ConstantNames) (design : Design) (file : EdifFile) (valid : Is
   ]
 
   idents_apart : AreApart (map (λ (cell : Cell). cell.name.ident) planned.cells)
-  idents_apart = subst AreApart (same_shown (λ (head : Head). head.cell) (λ (cell : Cell). cell.name.ident) planned.plan.heads planned.cells (planned.is_plan.as_many ∙ sym planned.are_cells.as_many) same) planned.is_plan.apart
+  idents_apart = subst AreApart (same_shown (λ (head : Head). head.cell) (λ (cell : Cell). cell.name.ident) planned.plan.heads planned.cells (planned.is_plan.as_many ∙ sym planned.are_cells.as_many) same) planned.is_plan.idents.apart
     where
       same : (i : ℕ) (head : Head) (cell : Cell) → slice_get planned.plan.heads i ≡ Some head → slice_get planned.cells i ≡ Some cell → head.cell ≡ cell.name.ident
       same i head cell is_head there = subst (λ (h : Head). h.cell ≡ cell.name.ident) (at_get planned.plan.heads i head no_head is_head) (head_for i cell there).cell
@@ -173,7 +173,7 @@ module _ (names : ConstantNames) (design : Design) (file : EdifFile) (valid : Is
   ports_apart : (i : ℕ) (cell : Cell) → slice_get planned.cells i ≡ Some cell → AreApart (map port_ident (ports cell))
   ports_apart i cell there = subst AreApart (head_for i cell there).ports_named (heads_apart i cell there)
 
-  made_faces : (number : ℕ) (made : Cell) (is : IsMadeOf design planned.plan number made) → map face_of (ports made) ≡ map face_for is.cell.ports
+  made_faces : (number : ℕ) (made : Cell) (is : IsMadeOf names design planned.plan number made) → map face_of (ports made) ≡ map face_for is.cell.ports
   made_faces number made is =
       let c = is.is_made in
       subst (λ (d : Cell). map face_of (ports d) ≡ map face_for is.cell.ports) (sym c.is_cell)

@@ -91,7 +91,7 @@ module _ (names : ConstantNames) (design : Design) (file : EdifFile) (valid : Is
       (inner_there whole clean start is_top outer (place_in 0 made) i named.instance (inner, place_in 0 below) (place_there outer made there) reached named.is_there link).0
 
   -- the instance at a place of what is made of a cell
-  shown_instance : (number : ℕ) (made : Cell) (is : IsMadeOf design planned.plan number made) (i : ℕ) (face : InstanceFace) → slice_get (map instance_face is.is_made.made_instances) i ≡ Some face → face.library ≡ Some work → NamesCell made i face.cell
+  shown_instance : (number : ℕ) (made : Cell) (is : IsMadeOf names design planned.plan number made) (i : ℕ) (face : InstanceFace) → slice_get (map instance_face is.is_made.made_instances) i ≡ Some face → face.library ≡ Some work → NamesCell made i face.cell
   shown_instance number made is i face at library =
       let c = is.is_made in
       let found = shown_at instance_face c.made_instances i face at in
@@ -103,13 +103,13 @@ module _ (names : ConstantNames) (design : Design) (file : EdifFile) (valid : Is
         of_cell = ap (λ (f : InstanceFace). f.cell) found.shows;
       }
 
-  own_instance : (number : ℕ) (made : Cell) (is : IsMadeOf design planned.plan number made) (i : ℕ) (instance : HInst) → slice_get is.cell.instances i ≡ Some instance → NamesCell made i (head_of planned.plan instance.cell).cell
+  own_instance : (number : ℕ) (made : Cell) (is : IsMadeOf names design planned.plan number made) (i : ℕ) (instance : HInst) → slice_get is.cell.instances i ≡ Some instance → NamesCell made i (head_of planned.plan instance.cell).cell
   own_instance number made is i instance there =
       let c = is.is_made in
       shown_instance number made is i (own_face planned.plan instance) (ap (λ (l : List InstanceFace). slice_get l i) c.are_instances.faces
       ∙ get_left (map (own_face planned.plan) is.cell.instances) (map (added_face planned.plan) c.instances.added) i (own_face planned.plan instance) (slice_get-map (own_face planned.plan) is.cell.instances i ∙ ap (option_map (own_face planned.plan)) there)) refl
 
-  added_instance : (number : ℕ) (made : Cell) (is : IsMadeOf design planned.plan number made) (value : Bool) → needs_constant is.classes value ≡ true → NamesCell made (added_place is.is_made.instances value) (constant_head planned.plan value).cell
+  added_instance : (number : ℕ) (made : Cell) (is : IsMadeOf names design planned.plan number made) (value : Bool) → needs_constant is.classes value ≡ true → NamesCell made (added_place is.is_made.instances value) (constant_head planned.plan value).cell
   added_instance number made is value needed =
       let c = is.is_made in
       let scene : Scene = record { cells = design.cells; plan = planned.plan; cell = is.cell; head = head_of planned.plan number; instances = c.instances } in

@@ -6,7 +6,7 @@ ghost use Rattle.net_hier.specs.Facts.{cell_props as props_of_cell};
 ghost use Rattle.net_hier.specs.Valid.{IsGoodCell};
 ghost use Rattle.net_hier.specs.declared.cells.HCell.{HCell as CellValue};
 ghost use Rattle.net_live.specs.Live.{needs_constant};
-ghost use Rattle.edif_plans.specs.Made.{IsMadeCell};
+ghost use Rattle.edif_plans.specs.Made.{IsMadeUnder};
 ghost use Rattle.edif_plans.specs.Plans.{FitsCells, HasConstant, HasPorts, head_of};
 ghost use Rattle.edif_plans.specs.Sound.{AreStems};
 
@@ -38,7 +38,7 @@ fn cell_under(
     requires classes { AreClasses cell.now classes.now }
     requires constants { (value : Bool) → needs_constant classes.now value ≡ true → HasConstant plan.now value }
     requires stems { AreStems constants.now }
-    ensures { IfOk result (IsMadeCell hier.now.cells plan.now head.now cell.now (props_of_cell hier.now number cell.now) classes.now) }
+    ensures { IfOk result (IsMadeUnder constants.now hier.now.cells plan.now head.now cell.now (props_of_cell hier.now number cell.now) classes.now) }
 {
     let own = cell.instances.items();
     let instances = instances_with(alloc, constants, own, classes)?;
@@ -75,7 +75,7 @@ pub fn cell_of(
     requires classes { AreClassesAt hier.now.cells number classes.now }
     requires constants { (value : Bool) → needs_constant classes.now value ≡ true → HasConstant plan.now value }
     requires stems { AreStems constants.now }
-    ensures { (cell : CellValue) → IsCell hier.now.cells number cell → IfOk result (IsMadeCell hier.now.cells plan.now (head_of plan.now number) cell (props_of_cell hier.now number cell) classes.now) }
+    ensures { (cell : CellValue) → IsCell hier.now.cells number cell → IfOk result (IsMadeUnder constants.now hier.now.cells plan.now (head_of plan.now number) cell (props_of_cell hier.now number cell) classes.now) }
 {
     let cells = hier.cells();
     let place = number as usize;

@@ -2,19 +2,22 @@
 use Rattle.std.proofs.Common.{arith, ◌≡◌, ◌≤◌, ◌<◌, ◌^◌, ℕ, zero, suc, ◌+◌, Bool, true, false, cond, ◌||◌, List, [], ◌∷◌, ◌++◌, add-one, append-nil, append_assoc, drop, drop-cons, get_or, length, length-append, map, refl, sym, ap, ◌∙◌, subst}
 use Rattle.std.specs.Borrow.{Bor}
 use Rattle.std.specs.Fmt.{decimal}
+use Rattle.std.specs.Prelude.{IsTrue}
 use Rattle.std.proofs.lemmas.Bool.{false≢true}
 use Rattle.std.proofs.lemmas.Fmt.{IsAscii-decimal, length-decimal-le}
 use Rattle.std.proofs.lemmas.List.{map-append}
 use Rattle.std.proofs.lemmas.List.Folds.{list_any-append}
 use Rattle.nl_base.specs.Case.{same_bytes}
 use Rattle.edif_lookup.specs.Refusals.{is_in}
-use Rattle.net_bits.specs.Names.{IsFresh, NameSet, alike, has_name, with_name}
+use Rattle.net_bits.specs.Names.{IsFresh, NameSet, alike, has_name, numbered, with_name}
 use Rattle.net_bits.proofs.CallerLaws.{has-with_name}
+use Rattle.net_hier.specs.Constants.{ConstantNames, name_of_constant}
 use Rattle.net_hier.specs.declared.cells.HInst.{HInst}
 use Rattle.edif_naming.specs.Sound.{IsShort}
 use Rattle.edif_naming.proofs.SoundLaws.{all_append, all_push, ascii_bytes}
 use Rattle.edif_naming.specs.Naming.{seen}
 use Rattle.edif_plans.proofs.Lists.{map_turn}
+use Rattle.edif_plans.specs.AddedNames.{AreNamedBehind, AreNamedFor, IsFirstFree, told_by_bytes}
 use Rattle.edif_plans.specs.Faces.{instance_names}
 use Rattle.edif_plans.specs.Made.{AreFree}
 use Rattle.edif_plans.specs.Sound.{IsStem}
@@ -79,6 +82,49 @@ none_added own added is = subst (AreAdded own) (sym is) (record { free = tt; sho
 
 pub none_named : (own : List HInst) (set : NameSet) (added : List Added) → added ≡ [] → HasNames set (instance_names own []) → HasNames set (instance_names own added)
 none_named own set added is has = subst (λ a. HasNames set (instance_names own a)) (sym is) has
+
+-- ---- the first free name
+
+-- the stem itself, which is free
+pub own_first : (used : NameSet) (stem name : List ℕ) → has_name used stem ≡ false → name ≡ stem → IsFirstFree used stem name
+own_first used stem name new is = record { own = λ _. is; taken = λ t. absurd (false≢true (sym new ∙ t)) }
+
+-- the stem and the least number that is free, where the stem is not
+pub made_first : (used : NameSet) (stem name : List ℕ) (number : ℕ) → has_name used stem ≡ true → IsFresh used stem name number → IsFirstFree used stem name
+made_first used stem name number taken fresh = record { own = λ new. absurd (false≢true (sym new ∙ taken)); taken = λ _. (number, fresh) }
+
+-- what is free in a set is so behind the names that it has
+first_behind : (set : NameSet) (names : List (List ℕ)) (stem name : List ℕ) → HasNames set names → IsFirstFree set stem name → IsFirstFree (told_by_bytes names) stem name
+first_behind set names stem name has is = record {
+  own = λ new. is.own (has.has stem ∙ new);
+  taken = λ taken.
+      let found = is.taken (has.has stem ∙ taken) in (
+        found.0,
+        record {
+          is_name = found.1.is_name;
+          is_new = sym (has.has name) ∙ found.1.is_new;
+          is_least = λ lesser lt. subst IsTrue (has.has (numbered stem lesser)) (found.1.is_least lesser lt);
+        },
+      );
+}
+
+-- one more that is added
+behind_more : (names : ConstantNames) (before : List (List ℕ)) (added : List Added) (one : Added) → AreNamedBehind names before added → IsFirstFree (told_by_bytes (before ++ map name_of added)) (name_of_constant names one.value).cell one.name → AreNamedBehind names before (added ++ one ∷ [])
+unfolding AreNamedBehind
+behind_more names before [] one are is = (subst (λ (l : List (List ℕ)). IsFirstFree (told_by_bytes l) (name_of_constant names one.value).cell one.name) (append-nil before) is, tt)
+behind_more names before (first ∷ added) one are is =
+    (are.0, behind_more names (before ++ first.name ∷ []) added one are.1 (subst (λ (l : List (List ℕ)). IsFirstFree (told_by_bytes l) (name_of_constant names one.value).cell one.name) (sym (append_assoc before (first.name ∷ []) (map name_of added))) is))
+
+pub first_pushed : (own : List HInst) (set : NameSet) (added new : List Added) (one : Added) (stem : List ℕ) → HasNames set (instance_names own added) → IsFirstFree set stem one.name → new ≡ added ++ one ∷ []
+    → (names : ConstantNames) → (name_of_constant names one.value).cell ≡ stem → AreNamedFor names own added → AreNamedFor names own new
+first_pushed own set added new one stem has first is names same are =
+    subst (AreNamedFor names own) (sym is)
+    (behind_more names (map (λ (instance : HInst). instance.name) own) added one are
+    (subst (λ (s : List ℕ). IsFirstFree (told_by_bytes (instance_names own added)) s one.name) (sym same) (first_behind set (instance_names own added) stem one.name has first)))
+
+pub none_first : (names : ConstantNames) (own : List HInst) (added : List Added) → added ≡ [] → AreNamedFor names own added
+unfolding AreNamedBehind
+none_first names own added is = subst (AreNamedFor names own) (sym is) tt
 
 -- ---- the constants for which instances are added
 

@@ -7,6 +7,7 @@ use Rattle.nl_base.specs.declared.value.Dir.{Dir}
 use Rattle.edif_values.specs.Values.{IsPortName, IsProperty, ArePortItems, IsPort, IsPortItem}
 use Rattle.edif_values.specs.declared.property.Property.{Property}
 use Rattle.edif_values.specs.Directions.{direction_of, directions, told}
+use Rattle.edif_values.specs.declared.name.PortName.{PortName}
 use Rattle.edif_values.specs.declared.port.Port.{Port}
 use Rattle.edif_values.specs.declared.port.PortItem.{PortItem}
 use Rattle.edif_values.specs.declared.port.PortItem.TheVariants as port_items
@@ -16,9 +17,10 @@ use Rattle.net_live.specs.Last.{is_named, last_of}
 use Rattle.edif_naming.specs.Naming.{IsSmallRange, port_name_for, seen, value_of}
 use Rattle.edif_naming.specs.Sound.{AreSoundProps}
 use Rattle.edif_naming.proofs.NamingLaws.{port_original_for}
-use Rattle.edif_design.specs.CellRules.{port_ident, size_of}
+use Rattle.edif_design.specs.CellRules.{ident_of, port_ident, size_of}
 use Rattle.edif_design.specs.Design.{port_property, property_value}
 use Rattle.edif_plans.specs.Faces.{face_for, face_of, size_for}
+use Rattle.edif_plans.specs.PortNames.{HasPlainText}
 
 props_read : (ps : List Property) → filter_map port_property (map port_items.Property ps) ≡ map property_value ps
 props_read [] = refl
@@ -53,6 +55,14 @@ port_read ident port made properties is_name small is_items values =
       };
       size = size_read ident port.name port.range j;
     })
+
+-- and its name has no other text
+named_ident : (ident name : List ℕ) (range : Option Bounds) → ident_of (port_name_for ident name range) ≡ ident
+named_ident ident name None = refl
+named_ident ident name (Some range) = refl
+
+pub plain_text : (ident : List ℕ) (port : HPort) (made : PortName) → made ≡ port_name_for ident port.name port.range → IsSmallRange port.range → HasPlainText made
+plain_text ident port made is small = subst HasPlainText (sym is) (sym (λ j. port_name_for (named_ident ident port.name port.range j) (port_original_for ident port.name port.range small j).0 (port_original_for ident port.name port.range small j).1))
 
 -- ---- what can be written
 

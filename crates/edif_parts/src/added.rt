@@ -1,11 +1,13 @@
 // The instances that are added for the constants.
 ghost use Rattle.std.specs.Prelude.{◌≡◌, ◌++◌, ◌∷◌, ◌||◌, [], true, false, cond, map, IfOk, OnOk};
+ghost use Rattle.net_hier.specs.Constants.{ConstantNames, name_of_constant};
 ghost use Rattle.std.specs.List.{AllByRecursion};
 ghost use Rattle.net_live.specs.Live.{AreCounted, needs_constant as needs_constant_of};
 ghost use Rattle.net_bits.specs.Names.{has_name};
 ghost use Rattle.edif_naming.specs.Naming.{seen};
 ghost use Rattle.edif_naming.specs.Sound.{IsShort};
 ghost use Rattle.edif_spaces.specs.Spaces.{AreIdents};
+ghost use Rattle.edif_plans.specs.AddedNames.{AreNamedFor, IsFirstFree};
 ghost use Rattle.edif_plans.specs.Faces.{instance_names};
 ghost use Rattle.edif_plans.specs.Made.{AreAddedTo};
 ghost use Rattle.edif_plans.specs.Sound.{AreStems, IsStem};
@@ -20,10 +22,11 @@ use nl_base::{Ident, NoMemory, Seq, Text};
 use std::alloc::Global;
 
 /// The stem itself where it is not used, else the stem and the least number that is free.
-#[tactic(auto, using(crate::proofs::AddedLaws::stem_short, crate::proofs::AddedLaws::fresh_short))]
+#[tactic(auto, using(crate::proofs::AddedLaws::stem_short, crate::proofs::AddedLaws::fresh_short, crate::proofs::AddedLaws::own_first, crate::proofs::AddedLaws::made_first))]
 fn free_name(alloc: Global, used: &Names, stem: &[u8]) -> Result<Text, NoMemory>
     ensures free { IfOk result (λ name. has_name used.now name ≡ false) }
     ensures short { IsStem stem.now → IfOk result IsShort }
+    ensures first { IfOk result (IsFirstFree used.now stem.now) }
 {
     if !used.has(stem) {
         let name = Text::copy(alloc, stem)?;
@@ -44,7 +47,7 @@ fn used_names(alloc: Global, own: &[HInst]) -> Result<Names, NoMemory>
     Ok(names)
 }
 
-/// Adds the instance of a constant under a free name.
+/// Adds the instance of a constant under the first free name.
 fn add_instance(
     alloc: Global,
     own: &[HInst],
@@ -59,6 +62,8 @@ fn add_instance(
     ensures named { OnOk result (HasNames used.new (instance_names own.now added.new)) }
     ensures after { OnOk result (AreAdded own.now added.new) }
     ensures values { OnOk result (map (λ one. one.value) added.new ≡ map (λ one. one.value) added.old ++ value ∷ []) }
+    ensures first { (names : ConstantNames) → (name_of_constant names value).cell ≡ stem.now
+        → AreNamedFor names own.now added.old → OnOk result (AreNamedFor names own.now added.new) }
 {
     let name = free_name(alloc, used, stem)?;
     let word = name.bytes();
@@ -85,6 +90,8 @@ fn add_constant(
     ensures named { OnOk result (HasNames used.new (instance_names own.now added.new)) }
     ensures after { OnOk result (AreAdded own.now added.new) }
     ensures values { OnOk result (map (λ one. one.value) added.new ≡ map (λ one. one.value) added.old ++ cond (needs_constant_of classes.now value) (value ∷ []) []) }
+    ensures first { (names : ConstantNames) → (name_of_constant names value).cell ≡ constant.now.cell
+        → AreNamedFor names own.now added.old → OnOk result (AreNamedFor names own.now added.new) }
 {
     if !needs_constant(classes, value) {
         return Ok(());
@@ -113,6 +120,7 @@ fn named_apart(
     requires stems { AreStems constants.now }
     ensures after { IfOk result (AreAdded own.now) }
     ensures values { IfOk result (λ added. map (λ one. one.value) added ≡ cond (needs_constant_of classes.now false) (false ∷ []) [] ++ cond (needs_constant_of classes.now true) (true ∷ []) []) }
+    ensures first { IfOk result (AreNamedFor constants.now own.now) }
 {
     let mut used = used_names(alloc, own)?;
     let mut added = Seq::empty(alloc);
@@ -138,7 +146,7 @@ fn named_apart(
 }
 
 /// The instances that are added to a cell, for which no names are gathered where it needs no constant.
-#[tactic(auto, using(crate::proofs::AddedLaws::none_added, crate::proofs::AddedLaws::nothing_needed))]
+#[tactic(auto, using(crate::proofs::AddedLaws::none_added, crate::proofs::AddedLaws::nothing_needed, crate::proofs::AddedLaws::none_first))]
 fn added_to(
     alloc: Global,
     constants: &Constants,
@@ -149,6 +157,7 @@ fn added_to(
     requires stems { AreStems constants.now }
     ensures after { IfOk result (AreAdded own.now) }
     ensures values { IfOk result (λ added. map (λ one. one.value) added ≡ cond (needs_constant_of classes.now false) (false ∷ []) [] ++ cond (needs_constant_of classes.now true) (true ∷ []) []) }
+    ensures first { IfOk result (AreNamedFor constants.now own.now) }
 {
     if !needs_any(classes) {
         return Ok(Seq::empty(alloc));
@@ -183,7 +192,8 @@ fn idents_with(alloc: Global, own: &[HInst], added: &[Added]) -> Result<Seq<Iden
     Ok(idents)
 }
 
-/// The instances that are added to a cell for the constants that it needs, and identifiers for its instances and for these.
+/// The instances that are added to a cell for the constants that it needs, and identifiers for its instances and for these. Each is named
+/// after the cell of its constant: by that name where no instance before it has it, else by that name and the least number that is free.
 pub fn instances_with(
     alloc: Global,
     constants: &Constants,
@@ -192,7 +202,8 @@ pub fn instances_with(
 ) -> Result<Instances, NoMemory>
     requires counted { AreCounted classes.now }
     requires stems { AreStems constants.now }
-    ensures { IfOk result (AreAddedTo own.now classes.now) }
+    ensures added { IfOk result (AreAddedTo own.now classes.now) }
+    ensures named { IfOk result (λ instances. AreNamedFor constants.now own.now instances.added) }
 {
     let added = added_to(alloc, constants, own, classes)?;
     let idents = idents_with(alloc, own, added.items())?;

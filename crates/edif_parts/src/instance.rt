@@ -6,6 +6,7 @@ ghost use Rattle.edif_values.specs.declared.instance.InstanceItem.TheVariants as
 ghost use Rattle.edif_naming.specs.Naming.{value_of};
 ghost use Rattle.edif_written.specs.Written.{netlist, work};
 ghost use Rattle.edif_plans.specs.Faces.{face_with, instance_face, instance_ident};
+ghost use Rattle.edif_plans.specs.NetNames.{HasNoSpareText};
 ghost use Rattle.edif_parts.specs.Instances.{instance_for};
 
 use edif_naming::{copied, named};
@@ -76,6 +77,7 @@ pub fn instance_of(
     ensures ident { IfOk result (λ made. instance_ident made ≡ ident.now) }
     ensures face { IfOk result (λ made. instance_face made ≡ face_with name.now cell.now (map value_of properties.items)) }
     ensures sound { IsString name.now → AllByRecursion IsProperty properties.items → IfOk result IsInstance }
+    ensures no_spare_text { IfOk result (λ made. HasNoSpareText made.name) }
 {
     let made = instance_with(alloc, ident, name, cell, properties)?;
     Ok(made)

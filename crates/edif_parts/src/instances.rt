@@ -8,6 +8,7 @@ ghost use Rattle.edif_naming.specs.Sound.{AreSoundProps, IsShort};
 ghost use Rattle.net_live.specs.Last.{last_of as last_values_of};
 ghost use Rattle.edif_plans.specs.Faces.{added_face, instance_face, instance_ident, own_face};
 ghost use Rattle.edif_plans.specs.Made.{AreInstancesFor};
+ghost use Rattle.edif_plans.specs.NetNames.{HasNoSpareText};
 ghost use Rattle.edif_plans.specs.Plans.{HasHead, constant_number};
 ghost use Rattle.edif_plans.specs.Sound.{IsSoundInstance};
 
@@ -42,6 +43,7 @@ fn own_instance(
     ensures ident { IfOk result (λ made. instance_ident made ≡ ident.now) }
     ensures face { IfOk result (λ made. instance_face made ≡ own_face plan.now instance.now) }
     ensures sound { IsSoundInstance instance.now → IfOk result IsInstance }
+    ensures no_spare_text { IfOk result (λ made. HasNoSpareText made.name) }
 {
     let properties = instance_properties(alloc, instance)?;
     let head = plan.head(instance.cell);
@@ -61,6 +63,8 @@ fn own_instances(
     ensures idents { IfOk result (λ made. map instance_ident made.items ++ drop (length instances.now) idents.now ≡ idents.now) }
     ensures faces { IfOk result (λ made. map instance_face made.items ≡ map (own_face plan.now) instances.now) }
     ensures sound { AllByRecursion IsSoundInstance instances.now → IfOk result (λ made. AllByRecursion IsInstance made.items) }
+    ensures no_spare_text { IfOk result (λ made.
+        AllByRecursion (λ instance. HasNoSpareText instance.name) made.items) }
 {
     let mut made = Vec::with_capacity(alloc, instances.len())?;
     for place in 0..instances.len() {
@@ -81,6 +85,7 @@ fn added_instance(
     ensures ident { IfOk result (λ made. instance_ident made ≡ ident.now) }
     ensures face { IfOk result (λ made. instance_face made ≡ added_face plan.now added.now) }
     ensures sound { IsShort added.now.name → IfOk result IsInstance }
+    ensures no_spare_text { IfOk result (λ made. HasNoSpareText made.name) }
 {
     let head = plan.constant(added.value);
     let made = instance_of(
@@ -107,6 +112,8 @@ fn with_added(
     ensures idents { IfOk result (λ made. map instance_ident made.items ≡ idents.now) }
     ensures faces { IfOk result (λ made. map instance_face made.items ≡ map instance_face own.items ++ map (added_face plan.now) added.now) }
     ensures sound { AllByRecursion IsInstance own.items → AllByRecursion (λ one. IsShort one.name) added.now → IfOk result (λ made. AllByRecursion IsInstance made.items) }
+    ensures no_spare_text { AllByRecursion (λ instance. HasNoSpareText instance.name) own.items
+        → IfOk result (λ made. AllByRecursion (λ instance. HasNoSpareText instance.name) made.items) }
 {
     let mut made = own;
     for one in added {
@@ -130,6 +137,8 @@ pub fn instances_of(
     ensures idents { IfOk result (λ made. map instance_ident made.items ≡ instances.now.idents) }
     ensures faces { IfOk result (λ made. map instance_face made.items ≡ map (own_face plan.now) own.now ++ map (added_face plan.now) instances.now.added) }
     ensures sound { AllByRecursion IsSoundInstance own.now → AllByRecursion (λ one. IsShort one.name) instances.now.added → IfOk result (λ made. AllByRecursion IsInstance made.items) }
+    ensures no_spare_text { IfOk result (λ made.
+        AllByRecursion (λ instance. HasNoSpareText instance.name) made.items) }
 {
     let idents = instances.idents.items();
     let added = instances.added.items();

@@ -10,6 +10,7 @@ ghost use Rattle.net_live.specs.Last.{last_of as last_values_of};
 ghost use Rattle.edif_naming.specs.Naming.{value_of};
 ghost use Rattle.edif_naming.specs.Sound.{AreSoundProps};
 ghost use Rattle.edif_plans.specs.Faces.{face_for, face_of};
+ghost use Rattle.edif_plans.specs.PortNames.{HasPlainText};
 ghost use Rattle.edif_plans.specs.Sound.{IsSoundPort};
 
 use edif_naming::{port_named, properties_of};
@@ -47,6 +48,7 @@ fn port_of(alloc: Global, ident: &Ident, port: &HPort) -> Result<Port, NoMemory>
     ensures ident { IfOk result (λ made. port_ident made ≡ ident.now) }
     ensures face { IfOk result (λ made. face_of made ≡ face_for port.now) }
     ensures sound { IsSoundPort port.now → IfOk result IsPort }
+    ensures text { IfOk result (λ made. HasPlainText made.name) }
 {
     let name = port_named(alloc, ident, port)?;
     let properties = port_properties(alloc, port)?;
@@ -54,12 +56,14 @@ fn port_of(alloc: Global, ident: &Ident, port: &HPort) -> Result<Port, NoMemory>
     Ok(Port { name, items })
 }
 
-/// The ports of a cell, which have these identifiers.
+/// The ports of a cell, which have these identifiers; the text of an array is its name and its range in square brackets.
 pub fn ports_of(alloc: Global, idents: &[Ident], ports: &[HPort]) -> Result<Vec<Port>, NoMemory>
     requires { length idents.now ≡ length ports.now }
     ensures idents { IfOk result (λ made. map port_ident made.items ≡ idents.now) }
     ensures faces { IfOk result (λ made. map face_of made.items ≡ map face_for ports.now) }
     ensures sound { AllByRecursion IsSoundPort ports.now → IfOk result (λ made. AllByRecursion IsPort made.items) }
+    ensures texts { IfOk result (λ made.
+        AllByRecursion (λ port. HasPlainText port.name) made.items) }
 {
     let mut made = Vec::with_capacity(alloc, ports.len())?;
     for place in 0..ports.len() {

@@ -2,7 +2,7 @@
 use Rattle.std.proofs.Common.{arith, ◌≡◌, ◌⊎◌, inl, inr, ℕ, suc, ◌+◌, ◌<◌, ◌&&◌, Bool, true, false, cond, List, [], ◌∷◌, ◌++◌, Option, Some, None, length, length-append, map, refl, sym, ap, ◌∙◌, subst}
 use Rattle.std.specs.Prelude.{is_none, option_map, slice_get}
 use Rattle.std.proofs.lemmas.Bool.{false≢true}
-use Rattle.std.proofs.lemmas.List.{length-map}
+use Rattle.std.proofs.lemmas.List.{length-map, map-append}
 use Rattle.std.proofs.lemmas.Option.{slice_get-map, slice_get_within}
 use Rattle.net_graph.proofs.OrderLaws.{StandsIn, get_front}
 use Rattle.net_hier.specs.Constants.{ConstantNames, name_of_constant}
@@ -10,16 +10,15 @@ use Rattle.net_hier.specs.Design.{Design, IsCell}
 use Rattle.net_hier.specs.Valid.{IsHier}
 use Rattle.net_hier.specs.declared.cells.HCell.{HCell}
 use Rattle.net_hier.specs.declared.cells.HPort.{HPort}
-use Rattle.edif_meanings.specs.Apart.{AreApart}
 use Rattle.edif_spaces.specs.Spaces.{AreIdents}
 use Rattle.edif_plans.specs.Plans.{FitsCells, HasHead, constant_number, head_at, head_of, no_head, number_of}
 use Rattle.edif_plans.specs.declared.head.Head.{Head}
 use Rattle.edif_plans.specs.declared.plan.Plan.{Plan}
 use Rattle.edif_plans.proofs.Lists.{at_get}
 use Rattle.edif_copies.specs.Missing.{IsNeeded}
-use Rattle.edif_copies.specs.Planned.{IsOldAt, IsPlan}
+use Rattle.edif_copies.specs.Planned.{IsOldAt, IsPlan, names_of_cells}
 use Rattle.edif_planning.specs.Constants.{IsFirstPlace, IsKnown, is_missing, missing_of, number_for}
-use Rattle.edif_planning.specs.Numbers.{AreHeads, AreNumbers, new_names, old_names}
+use Rattle.edif_planning.specs.Numbers.{AreHeads, AreNumbers, CellNames, new_names, old_names}
 use Rattle.edif_planning.specs.Plans.{IsPlanned}
 use Rattle.edif_planning.specs.declared.constants.Known.{Known}
 use Rattle.edif_planning.specs.declared.planning.Planned.{Planned}
@@ -32,6 +31,11 @@ use Rattle.edif_planning.proofs.OrderLaws.{order_all}
 behind : {A : Type 0} (xs ys : List A) (place : ℕ) → slice_get (xs ++ ys) (length xs + place) ≡ slice_get ys place
 behind [] ys place = let e : 0 + place ≡ place = omega arith in ap (slice_get ys) e
 behind (x ∷ xs) ys place = let e : suc (length xs) + place ≡ suc (length xs + place) = omega arith in ap (slice_get (x ∷ (xs ++ ys))) e ∙ behind xs ys place
+
+-- the names of cells among those of cells and ports
+shown : {A : Type 0} (f : A → CellNames) (xs : List A) → map (λ (n : CellNames). n.cell) (map f xs) ≡ map (λ (x : A). (f x).cell) xs
+shown f [] = refl
+shown f (x ∷ xs) = ap (λ l. (f x).cell ∷ l) (shown f xs)
 
 -- ---- the new cells
 
@@ -83,10 +87,10 @@ module _ (names : ConstantNames) (design : Design) (hier : IsHier design) (value
     as_many = heads.as_many ∙ (length-append (map (new_names names) values) (map (old_names design.cells) design.order) ∙ (λ j. length-map values (new_names names) j + length-map design.order (old_names design.cells) j))
 
     -- the head at a place has identifiers for the names that are wanted there
-    head_there : (place : ℕ) (wanted : List (List ℕ)) → slice_get (map (new_names names) values ++ map (old_names design.cells) design.order) place ≡ Some wanted → place < length plan.heads → AreIdents wanted (head_at plan place).ports
+    head_there : (place : ℕ) (wanted : CellNames) → slice_get (map (new_names names) values ++ map (old_names design.cells) design.order) place ≡ Some wanted → place < length plan.heads → AreIdents wanted.ports (head_at plan place).ports
     head_there place wanted there lt =
         let head = item_there plan.heads place lt in
-        subst (λ (h : Head). AreIdents wanted h.ports) (sym (at_get plan.heads place head.0 no_head head.1)) (heads.ports place wanted head.0 there head.1)
+        subst (λ (h : Head). AreIdents wanted.ports h.ports) (sym (at_get plan.heads place head.0 no_head head.1)) (heads.ports place wanted head.0 there head.1)
 
     new_heads : (place : ℕ) (value : Bool) → slice_get values place ≡ Some value → AreIdents ((name_of_constant names value).port ∷ []) (head_at plan place).ports
     new_heads place value there =
@@ -106,19 +110,27 @@ module _ (names : ConstantNames) (design : Design) (hier : IsHier design) (value
     old_heads number cell is =
         let listed : StandsIn design.order number = order_all design hier.valid number (slice_get_within design.cells number cell is) in
         let lt : listed.place < length design.order = slice_get_within design.order listed.place number listed.is_there in
-        let at : AreIdents (old_names design.cells number) (head_at plan (length values + listed.place)).ports =
+        let at : AreIdents (old_names design.cells number).ports (head_at plan (length values + listed.place)).ports =
         head_there (length values + listed.place) (old_names design.cells number)
         (old_there listed.place ∙ (slice_get-map (old_names design.cells) design.order listed.place ∙ ap (option_map (old_names design.cells)) listed.is_there))
         (let n = as_many in omega (arith, lt, n)) in
-        subst (λ (l : List (List ℕ)). AreIdents l (head_of plan number).ports) (names_at design.cells number cell is)
-        (subst (λ (n : ℕ). AreIdents (old_names design.cells number) (head_at plan n).ports) (sym (numbered listed.place number listed.is_there)) at)
+        subst (λ (n : CellNames). AreIdents n.ports (head_of plan number).ports) (names_at design.cells number cell is)
+        (subst (λ (n : ℕ). AreIdents (old_names design.cells number).ports (head_at plan n).ports) (sym (numbered listed.place number listed.is_there)) at)
 
     constants : (value : Bool) → IsNeeded design value → (slice_get values (constant_number plan value) ≡ Some value) ⊎ IsOldAt names design (length values) value (constant_number plan value)
     constants false needed = has_number false zeros 0 plan.zero of_zeros zeros_number (λ missing. ap (λ l. slice_get l 0) are_those ∙ zero_first (is_missing zeros) (is_missing ones) missing) needed
     constants true needed = has_number true ones (cond (is_missing zeros) 1 0) plan.one of_ones ones_number (λ missing. ap (λ l. slice_get l (cond (is_missing zeros) 1 0)) are_those ∙ one_last (is_missing zeros) (is_missing ones) missing) needed
 
+    -- the cells have identifiers for their names
+    same_cell_names : map (λ (n : CellNames). n.cell) (map (new_names names) values ++ map (old_names design.cells) design.order) ≡ names_of_cells names design values
+    same_cell_names = map-append (λ (n : CellNames). n.cell) (map (new_names names) values) (map (old_names design.cells) design.order) ∙ (λ j. shown (new_names names) values j ++ shown (old_names design.cells) design.order j)
+
+    cell_idents : AreIdents (names_of_cells names design values) (map (λ (head : Head). head.cell) plan.heads)
+    cell_idents = subst (λ (l : List (List ℕ)). AreIdents l (map (λ (head : Head). head.cell) plan.heads)) same_cell_names
+        (subst (AreIdents (map (λ (n : CellNames). n.cell) (map (new_names names) values ++ map (old_names design.cells) design.order))) heads.is_space heads.idents)
+
     pub is_plan : IsPlan names design values plan
-    is_plan = record { as_many = as_many; apart = subst AreApart heads.is_space heads.apart; new_heads = new_heads; old_heads = old_heads; numbers = numbered; constants = constants }
+    is_plan = record { as_many = as_many; idents = cell_idents; new_heads = new_heads; old_heads = old_heads; numbers = numbered; constants = constants }
 
     has_head : (number : ℕ) → number < length design.cells → HasHead plan number
     has_head number lt =

@@ -1,6 +1,6 @@
 // The identifiers of the cells of a file.
-ghost use Rattle.std.specs.Prelude.{◌≡◌, ◌++◌, ◌∷◌, [], ℕ, List, map, IfOk, OnOk};
-ghost use Rattle.edif_planning.specs.Numbers.{AreHeads, new_names, old_names};
+ghost use Rattle.std.specs.Prelude.{◌≡◌, ◌++◌, ◌∷◌, [], List, map, IfOk, OnOk};
+ghost use Rattle.edif_planning.specs.Numbers.{AreHeads, CellNames, names_with, new_names, old_names};
 
 use crate::constants::name_of;
 use edif_plans::Head;
@@ -19,8 +19,8 @@ pub(crate) struct Heads {
 impl Heads {
     /// Adds that of the new cell of a constant.
     fn add_new(&mut self, alloc: Global, constant: &ConstName) -> Result<(), NoMemory>
-        ensures { (wanted : List (List (List ℕ))) → AreHeads wanted self.old.space self.old.made.items
-            → OnOk result (AreHeads (wanted ++ (constant.now.port ∷ []) ∷ []) self.new.space self.new.made.items) }
+        ensures { (wanted : List CellNames) → AreHeads wanted self.old.space self.old.made.items
+            → OnOk result (AreHeads (wanted ++ names_with constant.now.cell (constant.now.port ∷ []) ∷ []) self.new.space self.new.made.items) }
     {
         let ident = self.space.ident(alloc, constant.cell.bytes())?;
         let head = Head::of_new(alloc, ident, constant.port.bytes())?;
@@ -30,8 +30,8 @@ impl Heads {
 
     /// Adds that of a cell of the design.
     fn add_cell(&mut self, alloc: Global, cell: &HCell) -> Result<(), NoMemory>
-        ensures { (wanted : List (List (List ℕ))) → AreHeads wanted self.old.space self.old.made.items
-            → OnOk result (AreHeads (wanted ++ map (λ port. port.name) cell.now.ports ∷ []) self.new.space self.new.made.items) }
+        ensures { (wanted : List CellNames) → AreHeads wanted self.old.space self.old.made.items
+            → OnOk result (AreHeads (wanted ++ names_with cell.now.name (map (λ port. port.name) cell.now.ports) ∷ []) self.new.space self.new.made.items) }
     {
         let ident = self.space.ident(alloc, cell.name.bytes())?;
         let head = Head::of_ports(alloc, ident, cell.ports.items())?;
@@ -56,7 +56,7 @@ fn new_heads(alloc: Global, constants: &Constants, values: &[bool]) -> Result<He
 
 /// Adds those of the cells of the design, in its order.
 fn add_cells(alloc: Global, hier: &Hier, heads: &mut Heads) -> Result<(), NoMemory>
-    ensures { (wanted : List (List (List ℕ))) → AreHeads wanted heads.old.space heads.old.made.items
+    ensures { (wanted : List CellNames) → AreHeads wanted heads.old.space heads.old.made.items
         → OnOk result (AreHeads (wanted ++ map (old_names hier.now.cells) hier.now.order) heads.new.space heads.new.made.items) }
 {
     let cells = hier.cells();

@@ -10,6 +10,7 @@ use Rattle.edif_values.specs.declared.net.Net.{Net}
 use Rattle.edif_values.specs.declared.port.Port.{Port}
 use Rattle.edif_values.specs.declared.port.PortItem.TheVariants.{Direction}
 use Rattle.edif_values.specs.declared.cell.Cell.{Cell}
+use Rattle.net_hier.specs.Constants.{ConstantNames}
 use Rattle.net_hier.specs.declared.cells.HCell.{HCell}
 use Rattle.net_hier.specs.declared.cells.HInst.{HInst}
 use Rattle.net_hier.specs.declared.cells.HNet.{HNet}
@@ -27,8 +28,10 @@ use Rattle.edif_written.specs.Written.{cell_of}
 use Rattle.edif_naming.specs.Naming.{name_for}
 use Rattle.edif_naming.specs.Sound.{AreSoundProps, IsShort}
 use Rattle.edif_spaces.specs.Spaces.{AreIdents}
+use Rattle.edif_plans.specs.AddedNames.{AreNamedFor}
 use Rattle.edif_plans.specs.Faces.{face_for, face_of, instance_face, instance_faces, instance_ident, instance_names}
 use Rattle.edif_plans.specs.NetNames.{HasNoSpareText, net_names}
+use Rattle.edif_plans.specs.PortNames.{HasPlainText}
 use Rattle.edif_plans.specs.References.{Scene, refs_for}
 use Rattle.edif_plans.specs.Sound.{IsSoundInstance, IsSoundNet, IsSoundPort}
 use Rattle.edif_plans.specs.declared.added.Instances.{Instances}
@@ -44,10 +47,11 @@ unfoldable pub AreFree : List (List ℕ) → List (List ℕ) → Type 0
 AreFree before [] = ⊤
 AreFree before (name ∷ names) = (is_in name before ≡ false) × AreFree (before ++ name ∷ []) names
 
--- the ports of a cell under these identifiers
+-- the ports of a cell under these identifiers, each array with its name and its range as its text
 pub record ArePortsFor (head : Head) (cell : HCell) (ports : List Port) : Type 0 where
   pub idents : map port_ident ports ≡ head.ports
   pub faces : map face_of ports ≡ map face_for cell.ports
+  pub texts : AllByRecursion (λ port. HasPlainText port.name) ports
   pub sound : AllByRecursion IsSoundPort cell.ports → AllByRecursion IsPort ports
 
 -- an instance is added for each constant that the cell needs, under a name that no instance has before it, and all have identifiers that differ up to case
@@ -61,6 +65,7 @@ pub record AreAddedTo (own : List HInst) (classes : ClassTable) (instances : Ins
 pub record AreInstancesFor (plan : Plan) (own : List HInst) (instances : Instances) (made : List Instance) : Type 0 where
   pub idents : map instance_ident made ≡ instances.idents
   pub faces : map instance_face made ≡ instance_faces plan own instances.added
+  pub no_spare_text : AllByRecursion (λ instance. HasNoSpareText instance.name) made
   pub sound : AllByRecursion IsSoundInstance own → AllByRecursion IsInstance made
 
 -- the live classes below a number, in order
@@ -96,6 +101,11 @@ pub record IsMadeCell (cells : List HCell) (plan : Plan) (head : Head) (cell : H
   pub are_properties : map property_value properties ≡ last_of props
   pub sound : AreSoundProps props → AllByRecursion IsProperty properties
   pub word : IsWord head.cell
+
+-- and its added instances are named after these cells of the constants
+pub record IsMadeUnder (names : ConstantNames) (cells : List HCell) (plan : Plan) (head : Head) (cell : HCell) (props : List HProp) (classes : ClassTable) (made : Cell) : Type 0 where
+  pub is_made : IsMadeCell cells plan head cell props classes made
+  pub are_named : AreNamedFor names cell.instances is_made.instances.added
 
 -- a scalar output without properties
 abbrev pub output_for : List ℕ → List ℕ → Port

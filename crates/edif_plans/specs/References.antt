@@ -25,6 +25,10 @@ member_for (Some range) bit = Some (pos bit)
 abbrev pub range_at : List HPort → ℕ → Option Bounds
 range_at ports port = option_and_then (λ found. found.range) (slice_get ports port)
 
+-- the name of the cell of this number
+abbrev pub name_at : List HCell → ℕ → List ℕ
+name_at cells number = option_map_or (λ cell. cell.name) (slice_get cells number) []
+
 -- the ports of the cell of this number
 abbrev pub ports_at : List HCell → ℕ → List HPort
 ports_at cells number = option_map_or (λ cell. cell.ports) (slice_get cells number) []

@@ -11,7 +11,7 @@ use Rattle.net_hier.specs.declared.cells.HCell.{HCell}
 use Rattle.net_bits.specs.Classes.{AreClasses, ClassTable}
 use Rattle.edif_values.specs.declared.cell.Cell.{Cell}
 use Rattle.edif_copies.specs.Planned.{AreCells, IsMadeOf}
-use Rattle.edif_plans.specs.Made.{IsMadeCell, new_cell_for}
+use Rattle.edif_plans.specs.Made.{IsMadeUnder, new_cell_for}
 use Rattle.edif_plans.specs.Plans.{head_at, head_of, no_head}
 use Rattle.edif_plans.specs.declared.head.Head.{Head}
 use Rattle.edif_plans.proofs.Lists.{get_within}
@@ -80,27 +80,27 @@ module _ (names : ConstantNames) (design : Design) (plan : Plan) (values : List 
     old = λ place number made there at. absurd (nothing_there place number there);
   }
 
-  cell_more : (numbers : List ℕ) (number : ℕ) (cells : List Cell) (cell : Cell) → AreCells names design plan values numbers cells → IsMadeOf design plan number cell → AreCells names design plan values (numbers ++ number ∷ []) (cells ++ cell ∷ [])
+  cell_more : (numbers : List ℕ) (number : ℕ) (cells : List Cell) (cell : Cell) → AreCells names design plan values numbers cells → IsMadeOf names design plan number cell → AreCells names design plan values (numbers ++ number ∷ []) (cells ++ cell ∷ [])
   cell_more numbers number cells cell are is = record {
     as_many = let n = are.as_many in let a = length-append cells (cell ∷ []) in let b = length-append numbers (number ∷ []) in omega (arith, n, a, b);
     new = λ place value made there at. elim (front_or_last cells cell place made at) as (λ _. made ≡ new_cell_for (head_at plan place) (name_of_constant names value)) [
       | inl earlier ↦ are.new place value made there earlier
       | inr last ↦ absurd (let lt = slice_get_within values place value there in let n = are.as_many in let p = last.0 in omega (arith, lt, n, p))
     ];
-    old = λ place other made there at. elim (front_or_last numbers number place other there) as (λ _. IsMadeOf design plan other made) [
-      | inl before ↦ elim (front_or_last cells cell (length values + place) made at) as (λ _. IsMadeOf design plan other made) [
+    old = λ place other made there at. elim (front_or_last numbers number place other there) as (λ _. IsMadeOf names design plan other made) [
+      | inl before ↦ elim (front_or_last cells cell (length values + place) made at) as (λ _. IsMadeOf names design plan other made) [
         | inl earlier ↦ are.old place other made before earlier
         | inr last ↦ absurd (let lt = slice_get_within numbers place other before in let n = are.as_many in let p = last.0 in omega (arith, lt, n, p))
       ]
-      | inr here ↦ elim (front_or_last cells cell (length values + place) made at) as (λ _. IsMadeOf design plan other made) [
+      | inr here ↦ elim (front_or_last cells cell (length values + place) made at) as (λ _. IsMadeOf names design plan other made) [
         | inl earlier ↦ absurd (let lt = slice_get_within cells (length values + place) made earlier in let n = are.as_many in let p = here.0 in omega (arith, lt, n, p))
-        | inr last ↦ subst (λ (c : Cell). IsMadeOf design plan other c) last.1 (subst (λ (m : ℕ). IsMadeOf design plan m cell) here.1 is)
+        | inr last ↦ subst (λ (c : Cell). IsMadeOf names design plan other c) last.1 (subst (λ (m : ℕ). IsMadeOf names design plan m cell) here.1 is)
       ]
     ];
   }
 
   -- what is made of one cell more
-  pub one_cell : (numbers : List ℕ) (place d : ℕ) (cells new : List Cell) (cell : Cell) → place < length numbers → new ≡ cells ++ cell ∷ [] → IsMadeOf design plan (get_or numbers place d) cell → AreCells names design plan values (take place numbers) cells
+  pub one_cell : (numbers : List ℕ) (place d : ℕ) (cells new : List Cell) (cell : Cell) → place < length numbers → new ≡ cells ++ cell ∷ [] → IsMadeOf names design plan (get_or numbers place d) cell → AreCells names design plan values (take place numbers) cells
       → AreCells names design plan values (take (place + 1) numbers) new
   one_cell numbers place d cells new cell lt e is are =
       subst (AreCells names design plan values (take (place + 1) numbers)) (sym e) (subst (λ (l : List ℕ). AreCells names design plan values l (cells ++ cell ∷ [])) (sym (take_more numbers place d lt))
@@ -116,5 +116,5 @@ pub head_here : (plan : Plan) (heads : List Head) (place : ℕ) (head d : Head) 
 head_here plan heads place head d e lt is = is ∙ (get_within heads place d no_head lt ∙ ap (λ l. get_or l place no_head) e)
 
 -- what is made of a cell of the design, where it is the cell of this number
-pub made_of : (design : Design) (plan : Plan) (number : ℕ) (classes : ClassTable) (made : Cell) → (cell : HCell) → IsCell design.cells number cell → AreClasses cell classes → IsMadeCell design.cells plan (head_of plan number) cell (cell_props design number cell) classes made → IsMadeOf design plan number made
-made_of design plan number classes made cell there are is = record { cell = cell; is_there = there; classes = classes; are_classes = are; is_made = is }
+pub made_of : (names : ConstantNames) (design : Design) (plan : Plan) (number : ℕ) (classes : ClassTable) (made : Cell) → (cell : HCell) → IsCell design.cells number cell → AreClasses cell classes → IsMadeUnder names design.cells plan (head_of plan number) cell (cell_props design number cell) classes made → IsMadeOf names design plan number made
+made_of names design plan number classes made cell there are is = record { cell = cell; is_there = there; classes = classes; are_classes = are; is_made = is.is_made; are_named = is.are_named }

@@ -21,7 +21,7 @@ use Rattle.edif_plans.specs.Plans.{HasConstant, constant_number, head_at, head_o
 use Rattle.edif_plans.specs.Sound.{AreStems, IsSoundCell, IsSoundDesign}
 use Rattle.edif_plans.specs.declared.plan.Plan.{Plan}
 use Rattle.edif_copies.specs.Answers.{IsEdifFor}
-use Rattle.edif_copies.specs.Planned.{AreCells, IsOldAt, IsPlan, IsPlannedFile}
+use Rattle.edif_copies.specs.Planned.{AreCells, IsAlone, IsOldAt, IsPlan, IsPlannedFile}
 use Rattle.edif_copies.proofs.Whole.{planned_is_edif}
 use Rattle.edif_planning.specs.Plans.{IsPlanned}
 use Rattle.edif_planning.specs.declared.planning.Planned.{Planned}
@@ -69,10 +69,16 @@ module _ (names : ConstantNames) (design : Design) (valid : IsValid design) (val
         | inr old ↦ old_head value (constant_number plan value) old
       ])
 
+-- the name of the top, written alone
+top_alone : (design : Design) (cell : HCell) (word : List ℕ) (made : NameDef) → IsCell design.cells design.top cell → word ≡ cell.name → IsLoneName word made → IsAlone (top_name design.cells design.top) made
+top_alone design cell word made there is_word is =
+    let named : word ≡ top_name design.cells design.top = is_word ∙ sym (ap (λ o. option_map_or (λ (c : HCell). c.name) o []) there) in
+    subst (λ (n : List ℕ). IsAlone n made) named is.alone
+
 -- the file that is planned
-pub planned_file : (names : ConstantNames) (design : Design) (planned : Planned) (cells : List Cell) (name design_name : NameDef) (top : List ℕ) (file : EdifFile) → IsPlanned names design planned → AreCells names design planned.plan planned.missing.items design.order cells
-    → top ≡ (head_of planned.plan design.top).cell → file ≡ file_of name design_name cells top → IsPlannedFile names design file
-planned_file names design planned cells name design_name top file is are is_top is_file = record {
+pub planned_file : (names : ConstantNames) (design : Design) (planned : Planned) (cells : List Cell) (name design_name : NameDef) (top : List ℕ) (file : EdifFile) (cell : HCell) (word : List ℕ) → IsPlanned names design planned → AreCells names design planned.plan planned.missing.items design.order cells
+    → IsCell design.cells design.top cell → word ≡ cell.name → IsLoneName word name → IsLoneName word design_name → top ≡ (head_of planned.plan design.top).cell → file ≡ file_of name design_name cells top → IsPlannedFile names design file
+planned_file names design planned cells name design_name top file cell word is are there is_word is_name is_design_name is_top is_file = record {
   values = planned.missing.items;
   are_missing = is.are_missing;
   plan = planned.plan;
@@ -81,6 +87,8 @@ planned_file names design planned cells name design_name top file is are is_top 
   are_cells = are;
   name = name;
   design_name = design_name;
+  is_name = top_alone design cell word name there is_word is_name;
+  is_design_name = top_alone design cell word design_name there is_word is_design_name;
   is_file = is_file ∙ ap (file_of name design_name cells) is_top;
 }
 

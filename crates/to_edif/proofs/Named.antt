@@ -23,7 +23,7 @@ some_item (x ∷ xs) (suc i) within = some_item xs i (omega arith)
 
 module _ (names : ConstantNames) (design : Design) (values : List Bool) (plan : Plan) (cells : List Cell) (is_plan : IsPlan names design values plan) (are : AreCells names design plan values design.order cells)
     (words : (place : ℕ) → place < length values → HasWords (head_at plan place)) where
-  old_cell : (number : ℕ) (made : Cell) → IsMadeOf design plan number made → IsOldCell design plan made
+  old_cell : (number : ℕ) (made : Cell) → IsMadeOf names design plan number made → IsOldCell design plan made
   old_cell number made h = record { number = number; cell = h.cell; is_there = h.is_there; classes = h.classes; are_classes = h.are_classes; is_made = h.is_made }
 
   new_cell : (number : ℕ) (value : Bool) (made : Cell) → slice_get values number ≡ Some value → slice_get cells number ≡ Some made → IsNamedCell names plan number made

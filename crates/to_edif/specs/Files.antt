@@ -5,11 +5,13 @@ use Rattle.edif_values.specs.Names.{original}
 use Rattle.edif_values.specs.declared.name.NameDef.{NameDef}
 use Rattle.edif_values.specs.declared.file.EdifFile.{EdifFile}
 use Rattle.edif_design.specs.Parts.{designs}
+use Rattle.edif_copies.specs.Planned.{IsAlone}
 use Rattle.net_hier.specs.Design.{Design, top_name}
 
--- the name is written with an identifier, and can be written where it is a string
+-- the name is written alone in its name space, and can be written where it is a string
 pub record IsLoneName (name : List ℕ) (made : NameDef) : Type 0 where
   pub is_name : original made ≡ name
+  pub alone : IsAlone name made
   pub sound : IsString name → IsNameDef made
 
 -- the file has one design, and both are named after the top

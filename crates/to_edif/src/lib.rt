@@ -3,7 +3,8 @@
 // The public contract in plain words: `to_edif` answers a file, or that memory ran out. The file breaks no rule. Each design that says what
 // the file says is the same as the design under the chosen cells of the constants, cell by cell, and so as a whole: it begins with exactly
 // one cell for each constant that some cell needs and no cell stands for, the zero first. The file and its design are named after the top. The
-// file can be written where the names of the design have at most 1,048,000 bytes and its strings at most 1,048,576.
+// file is a planned one: the order of its cells and of their ports, instances and nets follows, and so do the names, the identifiers and the
+// texts of all of these. It can be written where the names of the design have at most 1,048,000 bytes and its strings at most 1,048,576.
 #![tactic(auto)]
 
 pub mod cells;

@@ -1,6 +1,7 @@
 // The translation.
 ghost use Rattle.std.specs.Prelude.{IfOk};
 ghost use Rattle.edif_copies.specs.Answers.{IsEdifFor};
+ghost use Rattle.edif_copies.specs.Planned.{IsPlannedFile};
 ghost use Rattle.edif_planning.specs.Classes.{AreAllClasses};
 ghost use Rattle.edif_planning.specs.Plans.{IsPlanned};
 ghost use Rattle.edif_plans.specs.Sound.{IsSoundDesign};
@@ -30,6 +31,7 @@ fn file_of(
     ensures same { IfOk result (IsEdifFor constants.now hier.now) }
     ensures named { IfOk result (IsNamedAfterTop hier.now) }
     ensures value { IfOk result (λ file. IsSoundDesign hier.now → IsEdifValue file) }
+    ensures planned { IfOk result (IsPlannedFile constants.now hier.now) }
 {
     // What `Constants` keeps is known of one whose names are read.
     let _zero = constants.zero();
@@ -54,6 +56,7 @@ pub fn to_edif(alloc: Global, hier: &Hier, constants: &Constants) -> Result<Edif
     ensures same { IfOk result (IsEdifFor constants.now hier.now) }
     ensures named { IfOk result (IsNamedAfterTop hier.now) }
     ensures value { IfOk result (λ file. IsSoundDesign hier.now → IsEdifValue file) }
+    ensures planned { IfOk result (IsPlannedFile constants.now hier.now) }
 {
     let all = all_classes(alloc, hier)?;
     let planned = plan_of(alloc, hier, constants, all.as_slice())?;

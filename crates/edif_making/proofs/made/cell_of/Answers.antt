@@ -2,7 +2,7 @@ use Rattle.std.proofs.Common.{◌≡◌, Some, ap, get_or, subst, sym, ◌∙◌
 use Rattle.std.specs.Prelude.{slice_get}
 use Rattle.net_hier.specs.Facts.{cell_props}
 use Rattle.net_hier.specs.declared.cells.HCell.{HCell}
-use Rattle.edif_plans.specs.Made.{IsMadeCell}
+use Rattle.edif_plans.specs.Made.{IsMadeUnder}
 use Rattle.edif_plans.specs.Plans.{HasPorts, head_of}
 use Rattle.edif_plans.proofs.Lists.{is_at}
 use Rattle.edif_making.proofs.CellLaws.{same_item}
@@ -29,5 +29,5 @@ cell_under-requires-clause-classes c =
 pub returns : goal.returns
 returns c =
     let there : slice_get c.args.hier.now.cells c.args.number ≡ Some c.index-cells-place.result = is_at c.args.hier.now.cells c.args.number c.index-cells-place.result c.index-cells-place.result c.requires.cell (c.index-cells-place.is ∙ ap (λ l. get_or l c.args.number c.index-cells-place.result) c.cells-cells.ensures.cells) in
-    λ cell is. subst (λ (d : HCell). IsMadeCell c.args.hier.now.cells c.args.plan.now (head_of c.args.plan.now c.args.number) d (cell_props c.args.hier.now c.args.number d) c.args.classes.now c.in_ok-made.made) (same_item (slice_get c.args.hier.now.cells c.args.number) c.index-cells-place.result cell there is)
-    (subst (λ h. IsMadeCell c.args.hier.now.cells c.args.plan.now h c.index-cells-place.result (cell_props c.args.hier.now c.args.number c.index-cells-place.result) c.args.classes.now c.in_ok-made.made) c.head-head.ensures c.in_ok-made.ensures)
+    λ cell is. subst (λ (d : HCell). IsMadeUnder c.args.constants.now c.args.hier.now.cells c.args.plan.now (head_of c.args.plan.now c.args.number) d (cell_props c.args.hier.now c.args.number d) c.args.classes.now c.in_ok-made.made) (same_item (slice_get c.args.hier.now.cells c.args.number) c.index-cells-place.result cell there is)
+    (subst (λ h. IsMadeUnder c.args.constants.now c.args.hier.now.cells c.args.plan.now h c.index-cells-place.result (cell_props c.args.hier.now c.args.number c.index-cells-place.result) c.args.classes.now c.in_ok-made.made) c.head-head.ensures c.in_ok-made.ensures)

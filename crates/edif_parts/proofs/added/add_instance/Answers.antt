@@ -1,6 +1,6 @@
 use Rattle.std.proofs.Common.{ap, ◌∙◌}
 use Rattle.net_bits.specs.Names.{with_name}
-use Rattle.edif_parts.proofs.AddedLaws.{added_pushed, named_pushed, values_pushed}
+use Rattle.edif_parts.proofs.AddedLaws.{added_pushed, first_pushed, named_pushed, values_pushed}
 use Rattle.edif_parts.proofs.added.add_instance.Goals as goal
 
 pub returns-clause-named : goal.returns-clause-named
@@ -11,3 +11,6 @@ returns-clause-after c = added_pushed c.args.own.now c.args.used.now c.args.adde
 
 pub returns-clause-values : goal.returns-clause-values
 returns-clause-values c = values_pushed c.args.added.now _ (record { value = c.args.value; name = c.in_ok-name.name }) c.in_ok-push.ensures.added
+
+pub returns-clause-first : goal.returns-clause-first
+returns-clause-first c = first_pushed c.args.own.now c.args.used.now c.args.added.now _ (record { value = c.args.value; name = c.in_ok-name.name }) c.args.stem.now c.requires.named c.in_ok-name.ensures.first c.in_ok-push.ensures.added

@@ -29,3 +29,6 @@ returns-clause-faces c = c.in_ok-made.ensures.faces ∙ (λ j. c.in_ok-first.ens
 
 pub returns-clause-sound : goal.returns-clause-sound
 returns-clause-sound c = λ h k. c.in_ok-made.ensures.sound (c.in_ok-first.ensures.sound h) (subst (AllByRecursion (λ (one : Added). IsShort one.name)) (sym c.items-added.ensures) k)
+
+pub returns-clause-no_spare_text : goal.returns-clause-no_spare_text
+returns-clause-no_spare_text c = c.in_ok-made.ensures.no_spare_text c.in_ok-first.ensures.no_spare_text

@@ -1,7 +1,9 @@
 use Rattle.std.proofs.Common.{◌≡◌, ◌++◌, drop, map}
 use Rattle.std.specs.List.{AllByRecursion}
 use Rattle.edif_values.specs.Values.{IsInstance}
+use Rattle.edif_values.specs.declared.instance.Instance.{Instance}
 use Rattle.edif_plans.specs.Faces.{instance_face, instance_ident, own_face}
+use Rattle.edif_plans.specs.NetNames.{HasNoSpareText}
 use Rattle.edif_plans.specs.Sound.{IsSoundInstance}
 use Rattle.edif_parts.proofs.instances.own_instances.Given as goal
 
@@ -10,4 +12,5 @@ invariant-loop-place l = record {
   idents : map instance_ident l.made.items ++ drop l.place l.idents ≡ l.idents;
   faces : map instance_face l.made.items ++ map (own_face l.plan) (drop l.place l.instances) ≡ map (own_face l.plan) l.instances;
   sound : AllByRecursion IsSoundInstance l.instances → AllByRecursion IsInstance l.made.items;
+  no_spare_text : AllByRecursion (λ (i : Instance). HasNoSpareText i.name) l.made.items;
 }

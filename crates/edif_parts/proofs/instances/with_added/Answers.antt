@@ -1,7 +1,10 @@
 use Rattle.std.proofs.Common.{arith, length, rules}
 use Rattle.edif_values.specs.Values.{IsInstance}
+use Rattle.edif_values.specs.declared.instance.Instance.{Instance}
+use Rattle.edif_naming.proofs.SoundLaws.{all_push}
 use Rattle.edif_naming.specs.Sound.{IsShort}
 use Rattle.edif_plans.specs.Faces.{added_face, instance_face, instance_ident}
+use Rattle.edif_plans.specs.NetNames.{HasNoSpareText}
 use Rattle.edif_plans.specs.declared.added.Added.{Added}
 use Rattle.edif_plans.proofs.Lists.{all_turn, is_at, item_turn, map_turn}
 use Rattle.edif_parts.proofs.InstanceLaws.{longer}
@@ -17,4 +20,5 @@ loop-one-preserved c = record {
   count = let e = longer c.loop-one.made.items _ c.in_ok-instance.instance c.in_ok-push.ensures.items in omega (arith, e, c.loop-one.invariant.count);
   faces = map_turn instance_face (added_face c.args.plan.now) c.args.added.now c.loop-one.one-index c.one-item.result c.one-item.result c.loop-one.made.items _ c.in_ok-instance.instance _ c.loop-one-test.true c.one-item.is c.loop-one.invariant.faces c.in_ok-push.ensures.items c.in_ok-instance.ensures.face;
   sound = λ own. all_turn (λ (one : Added). IsShort one.name) IsInstance c.args.added.now c.loop-one.one-index c.one-item.result c.one-item.result c.loop-one.made.items _ c.in_ok-instance.instance c.loop-one-test.true c.one-item.is (c.loop-one.invariant.sound own) c.in_ok-push.ensures.items c.in_ok-instance.ensures.sound;
+  no_spare_text = λ own. all_push (λ (i : Instance). HasNoSpareText i.name) c.loop-one.made.items _ c.in_ok-instance.instance (c.loop-one.invariant.no_spare_text own) c.in_ok-instance.ensures.no_spare_text c.in_ok-push.ensures.items;
 }

@@ -1,8 +1,10 @@
 use Rattle.std.proofs.Common.{◌≡◌, ◌+◌, ◌++◌, drop, length, map}
 use Rattle.std.specs.List.{AllByRecursion}
 use Rattle.edif_values.specs.Values.{IsInstance}
+use Rattle.edif_values.specs.declared.instance.Instance.{Instance}
 use Rattle.edif_naming.specs.Sound.{IsShort}
 use Rattle.edif_plans.specs.Faces.{added_face, instance_face, instance_ident}
+use Rattle.edif_plans.specs.NetNames.{HasNoSpareText}
 use Rattle.edif_plans.specs.declared.added.Added.{Added}
 use Rattle.edif_parts.proofs.instances.with_added.Given as goal
 
@@ -12,4 +14,5 @@ invariant-loop-one l = record {
   count : length l.made.items + length l.added ≡ length l.idents + l.one-index;
   faces : map instance_face l.made.items ++ map (added_face l.plan) (drop l.one-index l.added) ≡ map instance_face l.fn.own.items ++ map (added_face l.plan) l.added;
   sound : AllByRecursion IsInstance l.fn.own.items → AllByRecursion (λ (one : Added). IsShort one.name) l.added → AllByRecursion IsInstance l.made.items;
+  no_spare_text : AllByRecursion (λ (i : Instance). HasNoSpareText i.name) l.fn.own.items → AllByRecursion (λ (i : Instance). HasNoSpareText i.name) l.made.items;
 }

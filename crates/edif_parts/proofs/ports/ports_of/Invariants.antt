@@ -3,6 +3,8 @@ use Rattle.std.specs.List.{AllByRecursion}
 use Rattle.edif_design.specs.CellRules.{port_ident}
 use Rattle.edif_values.specs.Values.{IsPort}
 use Rattle.edif_plans.specs.Faces.{face_for, face_of}
+use Rattle.edif_values.specs.declared.port.Port.{Port}
+use Rattle.edif_plans.specs.PortNames.{HasPlainText}
 use Rattle.edif_plans.specs.Sound.{IsSoundPort}
 use Rattle.edif_parts.proofs.ports.ports_of.Given as goal
 
@@ -11,4 +13,5 @@ invariant-loop-place l = record {
   idents : map port_ident l.made.items ++ drop l.place l.idents ≡ l.idents;
   faces : map face_of l.made.items ++ map face_for (drop l.place l.ports) ≡ map face_for l.ports;
   sound : AllByRecursion IsSoundPort l.ports → AllByRecursion IsPort l.made.items;
+  texts : AllByRecursion (λ (port : Port). HasPlainText port.name) l.made.items;
 }

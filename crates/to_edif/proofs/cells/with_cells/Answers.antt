@@ -37,7 +37,7 @@ loop-number-preserved c =
     let are = classes_at c.args.hier.now.cells c.args.all.now c.requires.classes (get_or c.order-order.result.now c.loop-number.number-index 0) c.index-all-number.result
     (classes_here c.args.all.now (get_or c.order-order.result.now c.loop-number.number-index 0) c.index-all-number.result c.index-all-number.result (omega (arith, within, c.requires.classes.as_many)) c.index-all-number.is) in
     λ values first. one_cell c.args.constants.now c.args.hier.now c.args.plan.now values c.order-order.result.now c.loop-number.number-index 0 c.loop-number.made.items _ c.in_ok-cell.cell c.loop-number-test.true c.in_ok-push.ensures.items
-    (made_of c.args.hier.now c.args.plan.now _ c.index-all-number.result c.in_ok-cell.cell cell.0 cell.1 (are cell.0 cell.1) (c.in_ok-cell.ensures cell.0 cell.1)) (c.loop-number.invariant values first)
+    (made_of c.args.constants.now c.args.hier.now c.args.plan.now _ c.index-all-number.result c.in_ok-cell.cell cell.0 cell.1 (are cell.0 cell.1) (c.in_ok-cell.ensures cell.0 cell.1)) (c.loop-number.invariant values first)
 
 pub returns : goal.returns
 returns c = λ values first. all_cells c.args.constants.now c.args.hier.now c.args.plan.now values c.order-order.result.now c.args.hier.now.order c.loop-number.number-index c.loop-number.made.items c.order-order.ensures.order (omega (arith, c.loop-number-test.false)) (c.loop-number.invariant values first)

@@ -21,9 +21,26 @@ pub returns-clause-same : goal.returns-clause-same
 returns-clause-same c =
     let new : AreNewCells c.args.constants.now c.args.planned.now.plan c.args.planned.now.missing.items c.in_ok-first.first.items =
     subst (λ (l : List Bool). AreNewCells c.args.constants.now c.args.planned.now.plan l c.in_ok-first.first.items) c.as_slice.ensures.value c.in_ok-first.ensures in
+    let same = ap length c.cells.ensures.cells in
+    let has_top = c.cells.ensures.valid.valid.has_top in
+    let here : IsCell c.args.hier.now.cells c.top.result c.index-cells-top.result =
+    cell_here c.args.hier.now.cells c.cells.result.now c.top.result c.index-cells-top.result c.index-cells-top.result c.cells.ensures.cells (omega (arith, same, has_top, c.top.ensures.top)) c.index-cells-top.is in
     edif_for c.args.constants.now c.args.hier.now c.in_ok-file.file c.zero-zero.ensures.checked c.cells.ensures.valid.valid
-    (planned_file c.args.constants.now c.args.hier.now c.args.planned.now c.in_ok-cells.cells.items c.in_ok-name.name c.in_ok-design_name.design_name c.head-head.result.now.cell c.in_ok-file.file c.requires.planned (c.in_ok-cells.ensures c.args.planned.now.missing.items new)
+    (planned_file c.args.constants.now c.args.hier.now c.args.planned.now c.in_ok-cells.cells.items c.in_ok-name.name c.in_ok-design_name.design_name c.head-head.result.now.cell c.in_ok-file.file c.index-cells-top.result c.bytes-word.result.now c.requires.planned (c.in_ok-cells.ensures c.args.planned.now.missing.items new)
+    (subst (λ n. IsCell c.args.hier.now.cells n c.index-cells-top.result) c.top.ensures.top here) c.bytes-word.ensures c.in_ok-name.ensures c.in_ok-design_name.ensures
     (ap (λ h. h.cell) c.head-head.ensures ∙ ap (λ n. (head_of c.args.planned.now.plan n).cell) c.top-2.ensures.top) c.in_ok-file.ensures)
+
+pub returns-clause-planned : goal.returns-clause-planned
+returns-clause-planned c =
+    let new : AreNewCells c.args.constants.now c.args.planned.now.plan c.args.planned.now.missing.items c.in_ok-first.first.items =
+    subst (λ (l : List Bool). AreNewCells c.args.constants.now c.args.planned.now.plan l c.in_ok-first.first.items) c.as_slice.ensures.value c.in_ok-first.ensures in
+    let same = ap length c.cells.ensures.cells in
+    let has_top = c.cells.ensures.valid.valid.has_top in
+    let here : IsCell c.args.hier.now.cells c.top.result c.index-cells-top.result =
+    cell_here c.args.hier.now.cells c.cells.result.now c.top.result c.index-cells-top.result c.index-cells-top.result c.cells.ensures.cells (omega (arith, same, has_top, c.top.ensures.top)) c.index-cells-top.is in
+    planned_file c.args.constants.now c.args.hier.now c.args.planned.now c.in_ok-cells.cells.items c.in_ok-name.name c.in_ok-design_name.design_name c.head-head.result.now.cell c.in_ok-file.file c.index-cells-top.result c.bytes-word.result.now c.requires.planned (c.in_ok-cells.ensures c.args.planned.now.missing.items new)
+    (subst (λ n. IsCell c.args.hier.now.cells n c.index-cells-top.result) c.top.ensures.top here) c.bytes-word.ensures c.in_ok-name.ensures c.in_ok-design_name.ensures
+    (ap (λ h. h.cell) c.head-head.ensures ∙ ap (λ n. (head_of c.args.planned.now.plan n).cell) c.top-2.ensures.top) c.in_ok-file.ensures
 
 pub returns-clause-value : goal.returns-clause-value
 returns-clause-value c =
