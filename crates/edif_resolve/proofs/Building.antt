@@ -55,7 +55,7 @@ cells_more file numbers places are i x within is old new is_old is_new =
     one true = refl
     one false = refl
 
-all_taken : {A : Type 0} (xs : List A) (i : ℕ) → length xs ≤ i → take i xs ≡ xs
+pub all_taken : {A : Type 0} (xs : List A) (i : ℕ) → length xs ≤ i → take i xs ≡ xs
 all_taken [] zero h = refl
 all_taken [] (suc i) h = refl
 all_taken (x ∷ xs) zero h = absurd (omega arith)

@@ -36,7 +36,7 @@ few_kept {A = A} p (x ∷ xs) = by (p x) (few_kept p xs)
     by true h = omega (arith, h)
     by false h = omega (arith, h)
 
-few_some : {X Y : Type 0} (f : X → Option Y) (xs : List X) → length (filter_map f xs) ≤ length xs
+pub few_some : {X Y : Type 0} (f : X → Option Y) (xs : List X) → length (filter_map f xs) ≤ length xs
 few_some f [] = omega arith
 few_some {Y = Y} f (x ∷ xs) = by (f x) (few_some f xs)
   where

@@ -1,4 +1,5 @@
 pub mod Answering
+pub mod Bounding
 pub mod Building
 pub mod Clean
 pub mod FewParts
@@ -6,8 +7,10 @@ pub mod Fitting
 pub mod Linking
 pub mod Low
 pub mod Numbers
+pub mod OtherNumbers
 pub mod Recursion
 pub mod Renumbering
+pub mod Showing
 pub mod Sizes
 pub mod Views
 pub mod Walking

@@ -74,7 +74,7 @@ module _ (file : EdifFile) where
       by None e = absurd (cc)
       by (Some number) e = the_only_is (StandsAt (all_cells file)) (cell_candidates file number spelling) place (candidates_stand number spelling) e
 
-map_twice : {A B C : Type 0} (f : B → C) (g : A → B) (xs : List A) → map f (map g xs) ≡ map (λ x. f (g x)) xs
+pub map_twice : {A B C : Type 0} (f : B → C) (g : A → B) (xs : List A) → map f (map g xs) ≡ map (λ x. f (g x)) xs
 map_twice f g [] = refl
 map_twice f g (x ∷ xs) = ap (λ ys. f (g x) ∷ ys) (map_twice f g xs)
 

@@ -6,14 +6,14 @@ use Rattle.std.proofs.lemmas.List.{length-map}
 use Rattle.std.proofs.lemmas.Option.{slice_get-map, slice_get_within}
 use Rattle.net_graph.specs.Graph.{IsAbove}
 use Rattle.net_graph.specs.Marks.{IsReachable, itself, below, has_below, is_marked, marks_of}
-use Rattle.net_graph.proofs.MarkLaws.{marked-reachable, reachable-marked}
+use Rattle.net_graph.proofs.ListLaws.{element_there, same_element}
+use Rattle.net_graph.proofs.MarkLaws.{length_marks, marked-reachable, marked_within, reachable-marked}
 use Rattle.net_graph.proofs.WorkLaws.{above_has, has_above}
 use Rattle.net_hier.specs.declared.cells.HCell.{HCell}
 use Rattle.edif_values.specs.declared.file.EdifFile.{EdifFile}
 use Rattle.edif_design.specs.Design.{cell_value, counts_from, edif_cells, numbers_in_design}
 use Rattle.edif_design.specs.Reach.{cells_below, is_reached, marks_below, reached_cells, reached_marks, those_meant}
 use Rattle.edif_design.specs.References.{CellPlace, all_cells, linked_cell, numbers_meant, top}
-use Rattle.net_graph.proofs.MarkLaws.{marked_within}
 use Rattle.edif_resolve.proofs.Clean.{map_get}
 use Rattle.edif_resolve.proofs.Numbers.{below_in_range, top_stands}
 
@@ -113,6 +113,26 @@ module _ (file : EdifFile) where
     marks_are : reached_marks file ≡ marks_of (cells_below file) start.0
     unfolding reached_marks
     marks_are = ap (marks_below file) is_top
+
+    -- a reached cell stands in the file
+    place_there : (n : ℕ) → is_reached file n ≡ true → (place : CellPlace) × (slice_get (all_cells file) n ≡ Some place)
+    place_there n h =
+        let within : n < length (reached_marks file) = marked_within (reached_marks file) n h in
+        let long : length (reached_marks file) ≡ length (cells_below file) = ap length marks_are ∙ length_marks (cells_below file) start.0 in
+        let same : length (cells_below file) ≡ length (all_cells file) = length-map (all_cells file) (λ place. those_meant (numbers_meant file place)) in
+        element_there (all_cells file) n (omega (arith, within, long, same))
+
+    -- two reached cells have two numbers in the design
+    pub numbers_apart : (n m : ℕ) → is_reached file n ≡ true → is_reached file m ≡ true → get_or (numbers_in_design file) n 0 ≡ get_or (numbers_in_design file) m 0 → n ≡ m
+    numbers_apart n m h g same =
+        let first = place_there n h in
+        let second = place_there m g in
+        let zero_more : (k : ℕ) → 0 + k ≡ k = λ k. (let e : 0 + k ≡ k = omega arith in e) in
+        let a : slice_get (reached_cells file) (passing (is_reached file) 0 n) ≡ Some (0 + n, first.0) = chosen_at (is_reached file) 0 (all_cells file) n first.0 first.1 (ap (is_reached file) (zero_more n) ∙ h) in
+        let b : slice_get (reached_cells file) (passing (is_reached file) 0 m) ≡ Some (0 + m, second.0) = chosen_at (is_reached file) 0 (all_cells file) m second.0 second.1 (ap (is_reached file) (zero_more m) ∙ g) in
+        let e : passing (is_reached file) 0 n ≡ passing (is_reached file) 0 m = sym (number_is n h) ∙ (same ∙ number_is m g) in
+        let one : ◌≡◌ {A = ℕ × CellPlace} (0 + n, first.0) (0 + m, second.0) = same_element (reached_cells file) (passing (is_reached file) 0 m) (0 + n, first.0) (0 + m, second.0) (ap (slice_get (reached_cells file)) (sym e) ∙ a) b in
+        sym (zero_more n) ∙ (ap (λ item. item.0) one ∙ zero_more m)
 
     start_within : start.0 < length (cells_below file)
     start_within = subst (λ m. start.0 < m) (sym (length-map (all_cells file) (λ place. those_meant (numbers_meant file place)))) (slice_get_within (all_cells file) start.0 start.1 (top_stands file start is_top))

@@ -19,6 +19,11 @@ pub record IsDesignOf (file : EdifFile) (design : Design) : Type 0 where
   pub same_props : design.props ≡ (edif_design file).props
   pub is_hier : IsHier design
 
+-- the file has a design
+pub record HasDesign (file : EdifFile) : Type 0 where
+  pub design : Design
+  pub is_design : IsDesignOf file design
+
 -- the file breaks no rule, and its design has this many units, which pass the limit
 pub record IsTooBigFor (file : EdifFile) (count : ℕ) : Type 0 where
   pub no_refusal : first_E file ≡ None

@@ -1,3 +1,4 @@
 pub mod Answers
+pub mod Most
 pub mod Scene
 pub mod Walk

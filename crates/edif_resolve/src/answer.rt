@@ -115,8 +115,12 @@ fn built(
     }
 }
 
-// The design of a file that breaks none of the rules E1 to E12.
-fn design_of(alloc: Global, scene: &Scene<'_>, found: &[&Design]) -> Result<Hier, ResolveError>
+/// The design of a file that breaks none of the rules E1 to E12.
+pub(crate) fn design_of(
+    alloc: Global,
+    scene: &Scene<'_>,
+    found: &[&Design],
+) -> Result<Hier, ResolveError>
     requires clean { refusals scene.now ≡ [] }
     requires small { edif_size scene.now ≤ count_limit }
     requires designs { seen found.now ≡ designs scene.now }

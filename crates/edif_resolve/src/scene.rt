@@ -1,17 +1,18 @@
-// A file with its tables, the ports of its cells, and the marks of the cells that are reached from its top.
+// A file with its tables, the ports of its cells, the graph of its cells, and the marks of those that are reached from its top.
 ghost use Rattle.std.specs.Prelude.{◌≡◌, ◌≤◌, map, IfOk};
 ghost use Rattle.net_hier.specs.Valid.{count_limit};
 ghost use Rattle.edif_values.specs.Sizes.{edif_size};
 ghost use Rattle.edif_design.specs.Parts.{designs, ports};
-ghost use Rattle.edif_design.specs.Reach.{is_reached, reached_marks};
+ghost use Rattle.edif_design.specs.Reach.{cells_below, is_reached, reached_marks};
 ghost use Rattle.edif_design.specs.References.{file_cells, number_meant, top};
 ghost use Rattle.edif_design.specs.Tables.{seen};
 
+use crate::below::graph_of;
 use crate::top::{marks_of, top_of};
 use edif_design::tables::FileTables;
 use edif_nets_rules::PortTable;
 use edif_values::{Design, EdifFile};
-use nl_base::NoMemory;
+use nl_base::{NoMemory, Seq};
 use std::alloc::Global;
 use std::marker::Model;
 
@@ -20,6 +21,7 @@ use std::marker::Model;
 pub(crate) struct Scene<'a> {
     tables: FileTables<'a>,
     faces: Vec<PortTable<'a>>,
+    graph: Vec<Seq<u32>>,
     marks: Vec<bool>,
     top: Option<u32>,
 }
@@ -38,7 +40,7 @@ impl<'a> Model for Scene<'a> {
 
     ghost view = { λ s. s.tables };
 
-    ghost invariant = { λ s. HasScene s.tables s.faces.items s.marks.items × (s.top ≡ number_meant (file_top s.tables)) };
+    ghost invariant = { λ s. HasScene s.tables s.faces.items s.graph.items s.marks.items × (s.top ≡ number_meant (file_top s.tables)) };
 }
 
 // The ports of each cell.
@@ -67,10 +69,12 @@ impl<'a> Scene<'a> {
         let tables = FileTables::build(alloc, file)?;
         let faces = faces_of(alloc, &tables)?;
         let top = top_of(alloc, &tables, found)?;
-        let marks = marks_of(alloc, &tables, top)?;
+        let graph = graph_of(alloc, &tables)?;
+        let marks = marks_of(alloc, &tables, graph.as_slice(), top)?;
         Ok(Scene {
             tables,
             faces,
+            graph,
             marks,
             top,
         })
@@ -88,6 +92,13 @@ impl<'a> Scene<'a> {
         ensures { result.now ≡ map ports (file_cells self.now) }
     {
         self.faces.as_slice()
+    }
+
+    /// For each cell the numbers of the cells that its instances are of.
+    pub(crate) fn graph(&self) -> &[Seq<u32>]
+        ensures { result.now ≡ cells_below self.now }
+    {
+        self.graph.as_slice()
     }
 
     /// A mark for each cell that is reached from the top.

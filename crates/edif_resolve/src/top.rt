@@ -3,11 +3,10 @@ ghost use Rattle.std.specs.Prelude.{◌≡◌, ◌++◌, option_to_list, map, If
 ghost use Rattle.edif_lookup.specs.Refusals.{lowest};
 ghost use Rattle.edif_design.specs.FileRules.{design_count_refusals};
 ghost use Rattle.edif_design.specs.Parts.{design_in, designs};
-ghost use Rattle.edif_design.specs.Reach.{reached_marks};
+ghost use Rattle.edif_design.specs.Reach.{cells_below, reached_marks};
 ghost use Rattle.edif_design.specs.References.{first_meant, number_meant, top, top_meant};
 ghost use Rattle.edif_design.specs.Tables.{seen};
 
-use crate::below::graph_of;
 use edif_design::links::linked_number;
 use edif_design::tables::FileTables;
 use edif_lookup::{one_name, refusal};
@@ -85,20 +84,21 @@ pub(crate) fn top_of(
     }
 }
 
-/// A mark for each cell that is reached from the top.
+/// A mark for each cell that is reached from the top, by the graph of all cells.
 pub(crate) fn marks_of(
     alloc: Global,
     tables: &FileTables<'_>,
+    graph: &[Seq<u32>],
     start: Option<u32>,
 ) -> Result<Vec<bool>, NoMemory>
-    requires { start ≡ number_meant (top tables.now) }
+    requires graph { graph.now ≡ cells_below tables.now }
+    requires start { start ≡ number_meant (top tables.now) }
     ensures { IfOk result (λ marks. marks.items ≡ reached_marks tables.now) }
 {
     match start {
         None => Ok(Vec::new(alloc)),
         Some(number) => {
-            let graph = graph_of(alloc, tables)?;
-            let marks = reached_from(alloc, graph.as_slice(), number)?;
+            let marks = reached_from(alloc, graph, number)?;
             Ok(marks)
         }
     }

@@ -74,6 +74,12 @@ design_under_is_sound top file value (Ok design) h =
     sound_design design (short_names file top value design said) (sound file top value design said)
 design_under_is_sound top file value (Err f) h = tt
 
+-- whether an EDIF file that was read has a design
+pub file_is_judged : (i j : Supply) (file : EdifFile) → IfSome i.left (λ bytes. EdifReads bytes file) → IsAtEnd j.left → (judged : Result (Unit {0}) Failure)
+    → MatchResult judged (λ done. edif_answers.HasDesign file) (IsFailureOf (λ verdict. edif_first file ≡ Some verdict)) → MatchResult judged (λ done. ReadsDesign None i j) (IsNoDesign None i j)
+file_is_judged i j file reads ended (Ok done) h = record { design = h.design; is_read = record { file = file; reads_as = reads; ended = ended; is_design = h.is_design } }
+file_is_judged i j file reads ended (Err f) h = edif_design_is_read i j file reads ended (Err f) h
+
 -- whether a Verilog file that was read has a design
 pub file_is_judged_under : (top : Name) (i j : Supply) (file : VlogFile) → IfSome i.left (λ bytes. VlogReads bytes file) → IsAtEnd j.left → (judged : Result (Unit {0}) Failure)
     → MatchResult judged (λ done. verilog_answers.HasDesign file top) (IsFailureOf (λ verdict. verilog_first top file ≡ Some verdict)) → MatchResult judged (λ done. ReadsDesign (Some top) i j) (IsNoDesign (Some top) i j)

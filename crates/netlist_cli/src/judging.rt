@@ -1,22 +1,43 @@
-// Whether an input has a design, for the command that asks nothing more of one. No design of a Verilog file is made.
+// Whether an input has a design, for the command that asks nothing more of one. No design of a Verilog file is made, and none of an EDIF
+// file that shows one without its cells.
 ghost use Rattle.std.specs.Prelude.{◌≡◌, ◌≤◌, MatchResult, None, Some};
 ghost use Rattle.net_hier.specs.Valid.{count_limit};
+ghost use Rattle.edif_resolve.specs.Answers.{HasDesign as HasEdifDesign};
+ghost use Rattle.edif_values.specs.Sizes.{edif_size};
 ghost use Rattle.readers.specs.Sources.{supply};
 ghost use Rattle.vlog_elab.specs.Answers.{HasDesign as HasVlogDesign};
 ghost use Rattle.vlog_values.specs.Sizes.{vlog_size};
 ghost use Rattle.vlog_values.specs.Values.{IsVlogValue};
 ghost use Rattle.netlist_cli.specs.Designs.{IsNoDesign, ReadsDesign};
-ghost use Rattle.netlist_cli.specs.Meanings.{verilog_first};
+ghost use Rattle.netlist_cli.specs.Meanings.{edif_first, verilog_first};
 ghost use Rattle.netlist_cli.specs.Runs.{IsFailureOf, TakesFrom};
 
-use crate::designs::read_edif_design;
 use crate::failure::Failure;
+use edif_library::EdifFile;
+use edif_resolve::ResolveError as EdifError;
+use edif_sizes::read_sized_edif;
 use nl_base::Text;
 use nl_io::Source;
 use std::alloc::Global;
 use vlog_elab::ResolveError as VlogError;
 use vlog_sound::read_sound_vlog;
 use vlog_values::VlogFile;
+
+/// Whether an EDIF file has a design, or why it has none.
+fn judge_edif(alloc: Global, file: &EdifFile) -> Result<(), Failure>
+    requires { edif_size file.now ≤ count_limit }
+    ensures { MatchResult result (λ done. HasEdifDesign file.now)
+        (IsFailureOf (λ verdict. edif_first file.now ≡ Some verdict)) }
+{
+    match edif_resolve::check(alloc, file) {
+        Ok(()) => Ok(()),
+        Err(error) => match error {
+            EdifError::Refused(refusal) => Err(Failure::Refused(refusal)),
+            EdifError::TooBig(units) => Err(Failure::DesignLimit(units)),
+            EdifError::NoMemory => Err(Failure::NoMemory),
+        },
+    }
+}
 
 /// Whether a Verilog file has a design under the module of this name, or why it has none.
 fn judge_under(alloc: Global, file: &VlogFile, top: &Text) -> Result<(), Failure>
@@ -54,7 +75,7 @@ fn judge_text_under<S: Source>(alloc: Global, top: &Text, input: &mut S) -> Resu
     }
 }
 
-/// Reads an EDIF file and tells whether it has a design, which is made.
+/// Reads an EDIF file and tells whether it has a design.
 fn judge_edif_text<S: Source>(alloc: Global, input: &mut S) -> Result<(), Failure>
     ensures reads { MatchResult result
         (λ done. ReadsDesign None
@@ -63,9 +84,12 @@ fn judge_edif_text<S: Source>(alloc: Global, input: &mut S) -> Result<(), Failur
     ensures taken { TakesFrom
         (supply S.left S.faults input.old) (supply S.left S.faults input.new) }
 {
-    match read_edif_design(alloc, input) {
-        Ok(_design) => Ok(()),
-        Err(failure) => Err(failure),
+    match read_sized_edif(alloc, input) {
+        Ok(file) => {
+            let judged = judge_edif(alloc, &file);
+            judged
+        }
+        Err(error) => Err(Failure::of_read_error(error)),
     }
 }
 
