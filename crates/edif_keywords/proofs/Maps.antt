@@ -11,6 +11,7 @@ use Rattle.readers.specs.Parts.{one, any}
 use Rattle.std.proofs.lemmas.Result.{err_from_is_err_and}
 use Rattle.nl_io.specs.Causes.{Rose}
 use Rattle.nl_bytes.specs.Bytes.{Window, given}
+use Rattle.nl_bytes.proofs.Uses.{takes_then}
 use Rattle.readers.specs.Sources.{Ahead, Supply, Moves, skip}
 use Rattle.readers.specs.Readers.{Reader, ReadsContext, LooksAt, stream, reading, on, on_result, result_of, IsToken, IsCause}
 use Rattle.readers.proofs.Choices.{due_one, due_then}
@@ -85,6 +86,7 @@ moves_then a b c i j m h n = record {
   left = n.left ∙ ap (skip (given c) (given b)) h.left ∙ skip_skip (given a) (given b) (given c) i.left h.taken n.taken;
   faults = omega (arith, h.faults, n.faults);
   within = omega (arith, h.within, n.within);
+  lazy = takes_then a b c n.place h.lazy n.lazy;
 }
 
 rose_since : (a b c : ℕ) → a ≤ b → Rose b c → Rose a c

@@ -6,7 +6,7 @@ use Rattle.nl_bytes.specs.Bytes.{Window, input}
 use Rattle.edif_tokens.specs.declared.token.Found.{Found}
 use Rattle.edif_tokens.specs.Streams as streams
 use Rattle.edif_tokens.specs.Stream.{stream_from, stop_of}
-use Rattle.readers.specs.Sources.{Supply, ReadsToken, TellsKnown, NearError, NearToken, EndsInput, Shortens, excess, skip, tokens_ahead}
+use Rattle.readers.specs.Sources.{Supply, ReadsToken, TellsKnown, NearError, NearToken, EndsInput, Shortens, TakesUnseen, excess, skip, tokens_ahead}
 use Rattle.edif_keywords.specs.Language.{edif, ahead_of}
 
 ahead_known : (w : Window) (i : Supply) → tokens_ahead edif w i ≡ option_map ahead_of (streams.stream_ahead stream_from w i.left)
@@ -55,11 +55,20 @@ ends_input (Ok (Some x)) left faults h = tt
 ends_input (Ok None) left faults h = h
 ends_input (Err e) left faults h = tt
 
+unseen : (r : Result (Option Found) ReadError) (v w : Window) → streams.TakesUnseen stop_of r v w → TakesUnseen edif r v w
+unseen (Ok (Some x)) v w h = h
+unseen (Ok None) v w h = tt
+unseen (Err (errors.Text f)) v w h = h
+unseen (Err errors.ReadFault) v w h = h
+unseen (Err errors.TooLong) v w h = tt
+unseen (Err errors.NoMemory) v w h = tt
+unseen (Err errors.Spent) v w h = tt
+
 pub reads_token : (r : Result (Option Found) ReadError) (old new : streams.State) (left left' : Option (List ℕ)) (faults faults' : ℕ) → streams.Reads stream_from stop_of r old new left left' faults faults'
     → ReadsToken edif r old.window old.spent new.window new.spent (record { left = left; faults = faults }) (record { left = left'; faults = faults' })
 unfolding skip excess
 reads_token r old new left left' faults faults' h = record {
-  moves = record { place = h.moves.place; taken = h.moves.taken; left = h.moves.suffix; faults = h.moves.count; within = h.moves.within };
+  moves = record { place = h.moves.place; taken = h.moves.taken; left = h.moves.suffix; faults = h.moves.count; within = h.moves.within; lazy = h.moves.lazy };
   told = λ fresh. rw (ahead_known old.window (record { left = left; faults = faults }), ahead_known new.window (record { left = left'; faults = faults' }))
       (tells_known (streams.stream_ahead stream_from old.window left) r new.window (streams.stream_ahead stream_from new.window left') (h.told fresh));
   unspent = h.unspent;
@@ -70,4 +79,5 @@ reads_token r old new left left' faults faults' h = record {
   shorter = shorter r old.window new.window h.shorter;
   after_token = near_token r new.window h.after_token;
   ended = ends_input r left' faults' h.ended;
+  unseen = unseen r old.window new.window h.unseen;
 }

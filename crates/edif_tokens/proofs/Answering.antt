@@ -1,13 +1,14 @@
 -- What a call answers, from what the calls in it answer.
-use Rattle.std.proofs.Common.{◌≡◌, ℕ, ◌+◌, ◌<◌, ◌≤◌, Bool, true, false, List, ◌∷◌, ◌++◌, length, Option, Some, Result, Ok, Err, refl, sym, ap, ◌∙◌, subst, arith, length-append}
+use Rattle.std.proofs.Common.{◌≡◌, ℕ, ◌+◌, ◌<◌, ◌≤◌, Bool, true, false, List, [], ◌∷◌, ◌++◌, length, Option, Some, Result, Ok, Err, refl, sym, ap, ◌∙◌, subst, arith, get_or, drop, length-append}
 use Rattle.std.specs.List.{prefix_len}
 use Rattle.nl_base.specs.declared.place.Place.{Place}
 use Rattle.nl_base.specs.declared.fault.ReadError.{ReadError}
 use Rattle.nl_base.specs.declared.fault.ReadError.TheVariants.{Text, ReadFault, TooLong, NoMemory, Spent}
 use Rattle.nl_bytes.specs.declared.class.Class.{Class}
 use Rattle.nl_bytes.specs.Classes.{AreIn, in_class}
-use Rattle.nl_bytes.specs.Bytes.{Window, input}
-use Rattle.nl_bytes.proofs.Uses.{Uses-trans}
+use Rattle.nl_base.specs.Place.{place_after}
+use Rattle.nl_bytes.specs.Bytes.{Window, Uses, input}
+use Rattle.nl_bytes.proofs.Uses.{Uses-trans, Uses-next}
 use Rattle.nl_bytes.proofs.Known.{Uses-known}
 use Rattle.edif_tokens.specs.declared.lexeme.Spanned.{Spanned}
 use Rattle.edif_tokens.specs.declared.token.Found.{Found}
@@ -15,7 +16,7 @@ use Rattle.edif_values.specs.declared.token.Token.{Token}
 use Rattle.edif_tokens.specs.Spelling.{Piece, Flaw, ◌>>=◌, span_at, text_of, text_at}
 use Rattle.edif_tokens.specs.Stream.{found_at}
 use Rattle.edif_tokens.specs.Scan.{Answers, seen_of, IsLed, Leads, Spans, Begins, ReadsText}
-use Rattle.edif_tokens.proofs.Spans.{GivesText, seen-text_of}
+use Rattle.edif_tokens.proofs.Spans.{GivesText, seen-text_of, text_unseen, of_error}
 
 -- an error answers, whatever would have been given
 pub Answers-err : {A B C : Type 0} (p : Place) (bs : List ℕ) (G : Piece A → B → Type 0) (H : Piece A → C → Type 0) (x : Result (Piece A) Flaw) (e : ReadError)
@@ -71,6 +72,20 @@ seen-span_at : (class : ℕ → Bool) (bs : List ℕ) → 1 ≤ seen_of (span_at
 unfolding span_at
 seen-span_at class bs = seen-text_of 1 _ bs (omega arith) (omega arith)
 
+-- the byte that leads a text and the one behind it are used
+pub begin_led : {class : Class} {byte b : ℕ} {p : Place} {old mid ahead new : Window} {l m : Option (List ℕ)} {t rest : List ℕ}
+    → Uses old mid l l (byte ∷ []) → Uses mid ahead l m [] → ahead.held ≡ b ∷ rest → new.held ≡ drop 1 ahead.held → new.place ≡ place_after ahead.place (get_or ahead.held 0 0)
+    → in_class class b ≡ true → t ≡ byte ∷ b ∷ [] → Begins class true byte p old new l m t (Ok tt)
+begin_led {class} {byte} {b} {p} {old} {mid} {ahead} {new} {l} {m} {t} {rest} first_used look front held place inside text =
+    let uses : Uses old new l m (byte ∷ b ∷ []) = Uses-next old mid ahead new l l m (byte ∷ []) b rest first_used look front held place in
+    record {
+      used = byte ∷ b ∷ [];
+      uses = uses;
+      ok = (sym text, (b, text, inside));
+      used_up = λ h. absurd cc;
+      answer = λ bs known piece some. let k = Uses-known old new l m (byte ∷ b ∷ []) bs uses known in rw (k.2, inside) refl;
+    }
+
 -- the byte that begins a text is refused
 pub led_refused : {class : Class} {lead : Bool} {byte : ℕ} {p : Place} {old new : Window} {l l' : Option (List ℕ)} {after : List ℕ} {e : ReadError}
     → Begins class lead byte p old new l l' after (Err e) → ReadsText class lead p old new l l' (Err e)
@@ -79,6 +94,8 @@ led_refused {class} {lead} {byte} {p} {old} {new} {l} {l'} {after} {e} b = recor
   uses = b.uses;
   some = tt;
   shape = tt;
+  unseen = tt;
+  used_up = of_error e ReadFault b.used_up;
   answer = λ bs known. Answers-err {B = ℕ} p bs (λ _ _. ⊥) (GivesSpanned p b.used) (text_at (in_class class) lead bs) e (b.answer bs known (span_at (in_class class) 1 bs) (seen-span_at (in_class class) bs));
 }
 
@@ -117,16 +134,20 @@ gives_spanned p after used y stop text stop-is same piece g = (text ∙ sym g.0,
 pub led_given : {class : Class} {lead : Bool} {byte : ℕ} {p : Place} {old mid new : Window} {l m l' : Option (List ℕ)} {t after : List ℕ} {stop : ℕ} {u : Unit {0}}
     → (b : Begins class lead byte p old mid l m t (Ok u)) → (s : Spans class p mid new m l' t after (Ok stop)) → {tail : List ℕ} → old.held ≡ byte ∷ tail → (y : Spanned) → y.text ≡ after → y.stop ≡ stop
     → ReadsText class lead p old new l l' (Ok y)
-led_given {class} {lead} {byte} {p} {old} {mid} {new} {l} {m} {l'} {t} {after} {stop} b s {tail} ahead y text stop-is = record {
-  used = b.used ++ s.used;
-  uses = Uses-trans old mid new l m l' b.used s.used b.uses s.uses;
-  some = omega (arith, length-append b.used s.used, ap length b.ok.0, leads_some class lead byte t b.ok.1);
-  shape = λ c rest held.
-      let same : byte ≡ c = cc in
-      subst (λ (first : ℕ). IsLed class lead first y.text) same (subst (λ (xs : List ℕ). IsLed class lead byte xs) (sym text) (led_shape class lead byte t s.used after b.ok.1 s.each s.added s.short));
-  answer = λ bs known. Answers-ok p bs (GivesText p after) (GivesSpanned p (b.used ++ s.used)) (text_at (in_class class) lead bs) stop y
-      (gives_spanned p after (b.used ++ s.used) y stop text stop-is (ap length (s.added ∙ ap (λ (x : List ℕ). x ++ s.used) (sym b.ok.0)))) (led_spells b s bs known);
-}
+led_given {class} {lead} {byte} {p} {old} {mid} {new} {l} {m} {l'} {t} {after} {stop} b s {tail} ahead y text stop-is =
+    let uses = Uses-trans old mid new l m l' b.used s.used b.uses s.uses in
+    record {
+      used = b.used ++ s.used;
+      uses = uses;
+      some = omega (arith, length-append b.used s.used, ap length b.ok.0, leads_some class lead byte t b.ok.1);
+      shape = λ c rest held.
+          let same : byte ≡ c = cc in
+          subst (λ (first : ℕ). IsLed class lead first y.text) same (subst (λ (xs : List ℕ). IsLed class lead byte xs) (sym text) (led_shape class lead byte t s.used after b.ok.1 s.each s.added s.short));
+      unseen = λ le. text_unseen old new stop uses.lazy uses.taken s.last (omega (arith, le, stop-is));
+      used_up = λ h. absurd cc;
+      answer = λ bs known. Answers-ok p bs (GivesText p after) (GivesSpanned p (b.used ++ s.used)) (text_at (in_class class) lead bs) stop y
+          (gives_spanned p after (b.used ++ s.used) y stop text stop-is (ap length (s.added ∙ ap (λ (x : List ℕ). x ++ s.used) (sym b.ok.0)))) (led_spells b s bs known);
+    }
 
 pub led_halted : {class : Class} {lead : Bool} {byte : ℕ} {p : Place} {old mid new : Window} {l m l' : Option (List ℕ)} {t after : List ℕ} {e : ReadError} {u : Unit {0}}
     → (b : Begins class lead byte p old mid l m t (Ok u)) → (s : Spans class p mid new m l' t after (Err e)) → ReadsText class lead p old new l l' (Err e)
@@ -135,6 +156,8 @@ led_halted {class} {lead} {byte} {p} {old} {mid} {new} {l} {m} {l'} {t} {after} 
   uses = Uses-trans old mid new l m l' b.used s.used b.uses s.uses;
   some = tt;
   shape = tt;
+  unseen = tt;
+  used_up = of_error e ReadFault s.used_up;
   answer = λ bs known. Answers-err p bs (GivesText p after) (GivesSpanned p (b.used ++ s.used)) (text_at (in_class class) lead bs) e (led_spells b s bs known);
 }
 
@@ -151,6 +174,8 @@ led_no_memory {class} {lead} {byte} {p} {old} {mid} {new} {l} {m} {l'} {t} {afte
   uses = Uses-trans old mid new l m l' b.used s.used b.uses s.uses;
   some = tt;
   shape = tt;
+  unseen = tt;
+  used_up = λ h. absurd cc;
   answer = λ bs known. no_memory p bs (GivesSpanned p (b.used ++ s.used)) (text_at (in_class class) lead bs);
 }
 

@@ -16,10 +16,10 @@ use Rattle.nl_bytes.proofs.Known.{Uses-known}
 use Rattle.nl_bytes.proofs.Uses.{Uses-none}
 use Rattle.nl_bytes.proofs.Fronts.{front-all, held_run}
 use Rattle.std.specs.Char.{is_ascii_digit}
-use Rattle.std.specs.Prelude.{OnOk, IfOk, ℤ}
+use Rattle.std.specs.Prelude.{OnOk, IfOk, IsErrOf, ℤ}
 use Rattle.nl_base.specs.Faults.{OnText}
-use Rattle.nl_base.specs.declared.fault.Reason.TheVariants.{NumberRange}
-use Rattle.nl_base.specs.declared.fault.ReadError.TheVariants.{NoMemory, TooLong}
+use Rattle.nl_base.specs.declared.fault.Reason.TheVariants.{BadByte, NumberRange}
+use Rattle.nl_base.specs.declared.fault.ReadError.TheVariants.{ReadFault, NoMemory, TooLong}
 use Rattle.nl_base.specs.Place.{place_after}
 use Rattle.edif_tokens.specs.declared.token.Found.{Found}
 use Rattle.edif_values.specs.declared.token.Token.{Token}
@@ -28,9 +28,10 @@ use Rattle.edif_tokens.proofs.Quoted.{Steps, string_given}
 use Rattle.edif_tokens.proofs.Strings.{plain_part}
 use Rattle.edif_tokens.specs.declared.lexeme.Spanned.{Spanned}
 use Rattle.edif_tokens.specs.Flaws.{Piece, Flaw}
-use Rattle.edif_tokens.specs.Scan.{Answers, IsLed, IsWhole, IsQuoted, ReadsText, Reads, ending, number_or_refusal, number_found}
-use Rattle.edif_tokens.specs.Spelling.{span_at, text_of, text_at, may_follow, word_of, number_of, number_or_range, integer_of, word_spelled, number_spelled, string_spelled}
-use Rattle.edif_tokens.proofs.Spans.{AllPass, GivesText, Spans-ending, refusal_answers, bounded_refusal}
+use Rattle.edif_tokens.specs.Scan.{Answers, IsLed, IsUnseen, IsWhole, IsQuoted, ReadsText, Reads, refusal, ending, number_or_refusal, number_found}
+use Rattle.edif_tokens.specs.declared.scan.Start.TheVariants.{Other}
+use Rattle.edif_tokens.specs.Spelling.{span_at, text_of, text_at, token_by, may_follow, word_of, number_of, number_or_range, integer_of, word_spelled, number_spelled, string_spelled}
+use Rattle.edif_tokens.proofs.Spans.{AllPass, GivesText, Spans-ending, refusal_answers, refusal_reads, text_unseen, bounded_refusal}
 use Rattle.edif_tokens.proofs.Answering.{GivesSpanned, GivesFound, gives_spanned, Answers-ok, Answers-ok-then}
 
 one_more : (n : ℕ) → 1 + n ≡ suc n
@@ -65,6 +66,8 @@ held_reads {class} {old} {new} {l} {text} {next} runs p begins follows {n} front
       uses = runs.uses;
       some = omega (arith, same);
       shape = λ b rest is. subst (λ (xs : List ℕ). IsLed class false b xs) (sym text-is) (held_shape class old.held text n front (subst (λ (xs : List ℕ). AreIn class xs) (sym runs.added) runs.each) some_n most b rest is);
+      unseen = λ le. text_unseen old new y.stop runs.uses.lazy runs.uses.taken (λ past. absurd (omega (arith, past, stop-is, offset, same))) le;
+      used_up = λ h. absurd cc;
       answer = λ bs known.
           let k = Uses-known old new l l runs.used bs runs.uses known in
           let one : span_at (in_class class) 0 bs ≡ span_at (in_class class) 1 bs = rw k.2 (span-first (in_class class) runs.used k.0 (omega (arith, same)) runs.each) in
@@ -98,6 +101,8 @@ word_whole {old} {new} {n} {text} l whole some held place text-is f f-is =
       used = t.used;
       uses = t.uses;
       some = t.some;
+      unseen = λ le. t.unseen (omega (arith, le, ap (λ (g : Found). g.stop) f-is));
+      used_up = λ h. absurd cc;
       answer = λ bs known. Answers-ok-then old.place bs (GivesSpanned old.place t.used) (GivesFound old.place t.used) word_of (text_at is_word_byte false bs) _ (Ok f)
           (λ piece g. (f-is ∙ ap (λ (x : List ℕ). word_at x (old.place.offset + n + 1)) (text-is ∙ g.0) ∙ ap (λ (x : ℕ). word_at piece.value x) g.1, g.2)) (t.answer bs known);
     }
@@ -114,6 +119,8 @@ number_whole {old} {new} {n} l whole some held place =
       used = t.used;
       uses = t.uses;
       some = on_ok (integer_of (take n old.held)) (length t.used) t.some;
+      unseen = unseen_if (integer_of (take n old.held)) t.unseen;
+      used_up = λ h. absurd (no_fault (integer_of (take n old.held)) h);
       answer = λ bs known. Answers-ok-then old.place bs (GivesSpanned old.place t.used) (GivesFound old.place t.used) number_of (text_at is_ascii_digit false bs) _ (number_found old.place (old.place.offset + n + 1) (take n old.held))
           (λ piece g. subst (λ (x : Option ℤ). Answers old.place bs (GivesFound old.place t.used) (number_or_range piece x) (number_found old.place (old.place.offset + n + 1) (take n old.held))) (ap integer_of g.0)
           (go bs piece (integer_of (take n old.held)) t.used g.1 g.2)) (t.answer bs known);
@@ -125,6 +132,14 @@ number_whole {old} {new} {n} l whole some held place =
     on_ok : (o : Option ℤ) (k : ℕ) → 0 < k → OnOk (number_or_refusal old.place (old.place.offset + n + 1) o) (0 < k)
     on_ok (Some z) k h = h
     on_ok None k h = tt
+
+    unseen_if : (o : Option ℤ) → IsUnseen (old.place.offset + n + 1) old new → IfOk (number_or_refusal old.place (old.place.offset + n + 1) o) (λ f. IsUnseen f.stop old new)
+    unseen_if (Some z) h = h
+    unseen_if None h = tt
+
+    no_fault : (o : Option ℤ) → IsErrOf (number_or_refusal old.place (old.place.offset + n + 1) o) ReadFault → ⊥
+    no_fault (Some z) h = cc
+    no_fault None h = refusal_reads Found old.place (old.place.offset + n + 1) NumberRange h
 
     go : (bs : List ℕ) (piece : Piece (List ℕ)) (o : Option ℤ) (used : List ℕ) → old.place.offset + n + 1 ≡ old.place.offset + piece.seen → piece.count ≡ length used
         → Answers old.place bs (GivesFound old.place used) (number_or_range piece o) (number_or_refusal old.place (old.place.offset + n + 1) o)
@@ -179,15 +194,26 @@ string_whole {old} {a} {b} {new} {n} {text} l s q small held place held2 place2 
 
 -- nothing was used where memory ran out
 pub reads_nothing : (spelled : List ℕ → Result (Piece Token) Flaw) (p : Place) (w : Window) (l : Option (List ℕ)) → Reads spelled p w w l l (Err NoMemory)
-reads_nothing spelled p w l = record { used = []; uses = Uses-none w l; some = tt; answer = λ bs known. free (spelled bs) p bs }
+reads_nothing spelled p w l = record { used = []; uses = Uses-none w l; some = tt; unseen = tt; used_up = λ h. absurd cc; answer = λ bs known. free (spelled bs) p bs }
   where
     free : (x : Result (Piece Token) Flaw) (p : Place) (bs : List ℕ) → Answers {B = Found} p bs (GivesFound p []) x (Err NoMemory)
     free (Ok x) p bs = tt
     free (Err x) p bs = tt
 
+-- no token begins with the byte ahead
+pub reads_other : (w : Window) (l : Option (List ℕ)) (p : Place) → p ≡ w.place → Reads (token_by Other) w.place w w l l (Err (refusal p (p.offset + 1) BadByte))
+reads_other w l p is = rw is (record {
+  used = [];
+  uses = Uses-none w l;
+  some = tt;
+  unseen = tt;
+  used_up = λ h. absurd (refusal_reads Found w.place (w.place.offset + 1) BadByte h);
+  answer = λ bs known. refusal_answers {A = Token} {B = Found} w.place bs (GivesFound w.place []) BadByte 0 1 w.place (w.place.offset + 1) refl refl;
+})
+
 -- a token whose stop is past the limit
 pub reads_over : {spelled : List ℕ → Result (Piece Token) Flaw} {p : Place} {old new : Window} {l l' : Option (List ℕ)} {f : Found} → Reads spelled p old new l l' (Ok f) → LIMIT < f.stop → Reads spelled p old new l l' (Err TooLong)
-reads_over {spelled} {p} {old} {new} {l} {l'} {f} t over = record { used = t.used; uses = t.uses; some = tt; answer = λ bs known. late bs (spelled bs) (t.answer bs known) }
+reads_over {spelled} {p} {old} {new} {l} {l'} {f} t over = record { used = t.used; uses = t.uses; some = tt; unseen = tt; used_up = λ h. absurd cc; answer = λ bs known. late bs (spelled bs) (t.answer bs known) }
   where
     late : (bs : List ℕ) (x : Result (Piece Token) Flaw) → Answers p bs (GivesFound p t.used) x (Ok f) → Answers {B = Found} p bs (GivesFound p t.used) x (Err TooLong)
     late bs (Ok piece) h = omega (arith, over, ap (λ (y : Found). y.stop) h.0)

@@ -42,6 +42,9 @@ past_offset n w enough = omega (arith, place_past-offset w.place (take n w.held)
 pub past_given : (n : ℕ) (w : Window) → n ≤ length w.held → given (past n w) ≡ given w
 past_given n w enough = omega (arith, past_offset n w enough, length-drop n w.held, enough)
 
+byte_given : (w : Window) (b : ℕ) (tail : List ℕ) → w.held ≡ b ∷ tail → given (past 1 w) ≡ given w
+byte_given w b tail ahead = past_given 1 w (omega (arith, ap (λ (xs : List ℕ). length xs) ahead))
+
 pub space_given : (w : Window) → given (past_space w) ≡ given w
 space_given w = past_given (space_length w.held) w (prefix_len-le-length is_space w.held)
 
@@ -70,6 +73,7 @@ space_skipped w b tail near ahead l =
       longest = sym (ap is_space next) ∙ prefix_len_stops is_space w.held 0 more;
       within = omega (arith, past_offset n w enough, held_within w near, enough);
       too_long = λ h. absurd cc;
+      used_up = λ h. absurd cc;
     }
 
 -- a token of the held bytes that is read behind white space is the next token of a reader that is not spent
@@ -119,10 +123,24 @@ abbrev ReadsMark : Window → Option (List ℕ) → ℕ → Type 0
 ReadsMark a l b = Reads (token_by (start_of b)) a.place a (past 1 a) l l (Ok (record { place = a.place; stop = a.place.offset + 1; token = mark_token b }))
 
 open_read : (a : Window) (tail : List ℕ) → a.held ≡ 40 ∷ tail → (l : Option (List ℕ)) → ReadsMark a l 40
-open_read a tail ahead l = record { used = 40 ∷ []; uses = Uses-byte a (past 1 a) l 40 tail ahead refl (rw ahead refl); some = omega arith; answer = λ bs known. (refl, refl) }
+open_read a tail ahead l = record {
+  used = 40 ∷ [];
+  uses = Uses-byte a (past 1 a) l 40 tail ahead refl (rw ahead refl);
+  some = omega arith;
+  unseen = λ le. byte_given a 40 tail ahead;
+  used_up = λ h. absurd cc;
+  answer = λ bs known. (refl, refl);
+}
 
 close_read : (a : Window) (tail : List ℕ) → a.held ≡ 41 ∷ tail → (l : Option (List ℕ)) → ReadsMark a l 41
-close_read a tail ahead l = record { used = 41 ∷ []; uses = Uses-byte a (past 1 a) l 41 tail ahead refl (rw ahead refl); some = omega arith; answer = λ bs known. (refl, refl) }
+close_read a tail ahead l = record {
+  used = 41 ∷ [];
+  uses = Uses-byte a (past 1 a) l 41 tail ahead refl (rw ahead refl);
+  some = omega arith;
+  unseen = λ le. byte_given a 41 tail ahead;
+  used_up = λ h. absurd cc;
+  answer = λ bs known. (refl, refl);
+}
 
 mark_read : (a : Window) (b : ℕ) (tail : List ℕ) → a.held ≡ b ∷ tail → is_parenthesis b ≡ true → (l : Option (List ℕ)) → ReadsMark a l b
 mark_read a b tail ahead is l = go (eqb b 40) refl (eqb b 41) refl is

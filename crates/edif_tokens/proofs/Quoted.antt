@@ -1,10 +1,10 @@
 -- A whole string: its quotes, and the parts between them.
-use Rattle.std.proofs.Common.{◌≡◌, ℕ, ◌+◌, List, [], ◌∷◌, ◌++◌, length, get_or, drop, Option, Result, Ok, Err, refl, sym, ap, ◌∙◌, subst, arith, length-append}
+use Rattle.std.proofs.Common.{◌≡◌, ℕ, ◌+◌, ◌<◌, List, [], ◌∷◌, ◌++◌, length, get_or, drop, Option, Result, Ok, Err, refl, sym, ap, ◌∙◌, subst, inl, inr, arith, length-append, length-drop}
 use Rattle.nl_base.specs.declared.place.Place.{Place}
 use Rattle.nl_base.specs.declared.fault.ReadError.{ReadError}
-use Rattle.nl_base.specs.declared.fault.ReadError.TheVariants.{NoMemory}
+use Rattle.nl_base.specs.declared.fault.ReadError.TheVariants.{ReadFault, NoMemory}
 use Rattle.nl_base.specs.Place.{place_after, place_past}
-use Rattle.nl_bytes.specs.Bytes.{Window, Uses}
+use Rattle.nl_bytes.specs.Bytes.{Window, Uses, TakesWhenUsed, given}
 use Rattle.nl_bytes.proofs.Uses.{Uses-byte, Uses-trans}
 use Rattle.nl_bytes.proofs.Known.{Uses-known}
 use Rattle.edif_tokens.specs.declared.token.Found.{Found}
@@ -14,9 +14,9 @@ use Rattle.edif_tokens.specs.Flaws.{Piece, Flaw, ◌>>=◌}
 use Rattle.edif_tokens.specs.Strings.{Parts, string_at}
 use Rattle.edif_tokens.specs.Spelling.{string_spelled, str_of}
 use Rattle.edif_tokens.specs.Stream.{found_at}
-use Rattle.edif_tokens.specs.Scan.{Answers, ReadsPart, Reads}
+use Rattle.edif_tokens.specs.Scan.{Answers, IsUnseen, ReadsPart, Reads}
 use Rattle.edif_tokens.proofs.Answering.{Answers-err-then, no_memory}
-use Rattle.edif_tokens.proofs.Spans.{offset_grows}
+use Rattle.edif_tokens.proofs.Spans.{offset_grows, of_error}
 
 -- the byte at which a reader stands was used
 pub record Steps (a b : Window) (byte : ℕ) : Type 0 where
@@ -27,6 +27,16 @@ pub record Steps (a b : Window) (byte : ℕ) : Type 0 where
 
 steps_use : {a b : Window} {byte : ℕ} → Steps a b byte → (l : Option (List ℕ)) → Uses a b l l (byte ∷ [])
 steps_use {a} {b} {byte} s l = Uses-byte a b l byte s.tail s.ahead s.held s.place
+
+-- it was taken before
+steps_given : {a b : Window} {byte : ℕ} → Steps a b byte → (l : Option (List ℕ)) → given b ≡ given a
+steps_given {a} {b} {byte} s l =
+    omega (arith, offset_grows (steps_use s l), ap (λ (xs : List ℕ). length xs) s.held, length-drop 1 a.held, ap (λ (xs : List ℕ). length xs) s.ahead)
+
+-- nothing was taken for a token whose last byte is ahead, where its stop lies within the bytes that were taken before
+last_unseen : (a c d : Window) (stop : ℕ) → TakesWhenUsed a c → given d ≡ given c → c.place.offset < stop → IsUnseen stop a d
+last_unseen a c d stop (inl same) kept ahead le = kept ∙ same
+last_unseen a c d stop (inr used) kept ahead le = absurd (omega (arith, used, ahead, le))
 
 closing : (w rest : List ℕ) (n : ℕ) → string_at Parts w n (34 ∷ rest) ≡ Ok (record { value = w; count = n + 1; seen = n + 1 })
 unfolding string_at
@@ -43,6 +53,8 @@ string_refused {a} {b} {c} {m} {n} {v} {w} {e} p s empty begins t = record {
   used = 34 ∷ [] ++ t.used;
   uses = Uses-trans a b c m m n (34 ∷ []) t.used (steps_use s m) t.uses;
   some = tt;
+  unseen = tt;
+  used_up = of_error e ReadFault t.used_up;
   answer = λ bs known.
       let k = Uses-known a b m m (34 ∷ []) bs (steps_use s m) known in
       let j = Uses-known b c m n t.used k.0 t.uses k.1 in
@@ -59,6 +71,8 @@ string_no_memory {a} {b} {c} {d} {m} {n} p s t z = record {
   used = (34 ∷ [] ++ t.used) ++ 34 ∷ [];
   uses = Uses-trans a c d m n n (34 ∷ [] ++ t.used) (34 ∷ []) (Uses-trans a b c m m n (34 ∷ []) t.used (steps_use s m) t.uses) (steps_use z n);
   some = tt;
+  unseen = tt;
+  used_up = λ h. absurd cc;
   answer = λ bs known. no_memory p bs (GivesFound p ((34 ∷ [] ++ t.used) ++ 34 ∷ [])) (string_spelled bs);
 }
 
@@ -68,6 +82,8 @@ string_given {a} {b} {c} {d} {m} {n} {v} {w} p s empty begins t z f f-is = recor
   used = (34 ∷ [] ++ t.used) ++ 34 ∷ [];
   uses = Uses-trans a c d m n n (34 ∷ [] ++ t.used) (34 ∷ []) (Uses-trans a b c m m n (34 ∷ []) t.used (steps_use s m) t.uses) (steps_use z n);
   some = omega arith;
+  unseen = last_unseen a c d f.stop (Uses-trans a b c m m n (34 ∷ []) t.used (steps_use s m) t.uses).lazy (steps_given z n) (omega (arith, ap (λ (g : Found). g.stop) f-is));
+  used_up = λ h. absurd cc;
   answer = λ bs known.
       let k = Uses-known a b m m (34 ∷ []) bs (steps_use s m) known in
       let j = Uses-known b c m n t.used k.0 t.uses k.1 in

@@ -1,21 +1,21 @@
 -- What the reader of tokens answers, from what was found.
-use Rattle.std.proofs.Common.{◌≡◌, ℕ, ◌+◌, ◌-◌, ◌≤◌, Bool, true, false, List, length, Option, Some, None, Result, Ok, Err, IsTrue, refl, ap, arith}
+use Rattle.std.proofs.Common.{◌≡◌, ℕ, ◌+◌, ◌-◌, ◌<◌, ◌≤◌, Bool, true, false, List, [], length, Option, Some, None, Result, Ok, Err, IsTrue, refl, ap, inl, inr, arith}
 use Rattle.std.specs.Prelude.{◌↔◌, IfOk, IfErr, OnOk, IsErrOf, IsFalse, is_err}
 use Rattle.nl_base.specs.declared.fault.ReadError.{ReadError}
 use Rattle.nl_base.specs.declared.fault.ReadError.TheVariants.{Text, ReadFault, TooLong, NoMemory, Spent}
 use Rattle.nl_base.specs.Faults.{OnText}
 use Rattle.nl_io.specs.Causes.{Rose}
-use Rattle.nl_bytes.specs.Bytes.{Window, Uses, given}
+use Rattle.nl_bytes.specs.Bytes.{Window, Uses, TakesWhenUsed, given}
 use Rattle.nl_bytes.specs.declared.bytes.TheConstants.{LIMIT}
 use Rattle.nl_bytes.proofs.Uses.{Uses-none}
 use Rattle.edif_tokens.specs.declared.token.Found.{Found}
-use Rattle.edif_tokens.specs.Streams.{Moves, NearError, NearToken, State}
+use Rattle.edif_tokens.specs.Streams.{Moves, NearError, NearToken, TakesUnseen, State}
 use Rattle.edif_tokens.specs.Stream.{ReadsToken, stop_of}
-use Rattle.edif_tokens.specs.Scan.{Finds, UsesTo}
+use Rattle.edif_tokens.specs.Scan.{Finds, UsesTo, ShownBefore}
 use Rattle.edif_tokens.proofs.Spans.{offset_grows}
 
 uses_moves : {old new : Window} {l l' : Option (List ℕ)} {used : List ℕ} → Uses old new l l' used → (f f' : ℕ) → f ≤ f' → given new - (LIMIT + 4096) ≤ given old - (LIMIT + 4096) → Moves old new l l' f f'
-uses_moves u f f' count within = record { place = omega (arith, offset_grows u); taken = u.taken; suffix = u.suffix; count = count; within = within }
+uses_moves u f f' count within = record { place = omega (arith, offset_grows u); taken = u.taken; suffix = u.suffix; count = count; within = within; lazy = u.lazy }
 
 near_fault : (r : Result (Option Found) ReadError) (w : Window) → OnText r (λ t. w.place.offset ≤ t.stop) → length w.held ≤ 4096 → IfErr r (λ e. NearError e w)
 near_fault (Ok x) w to held = tt
@@ -29,6 +29,21 @@ near_token : (r : Result (Option Found) ReadError) (w : Window) → IfOk r (λ x
 near_token (Ok (Some f)) w to held = omega (arith, to, held)
 near_token (Ok None) w to held = omega (arith, held)
 near_token (Err e) w to held = tt
+
+-- a fault whose stop was taken before stands where what was taken before is not used up
+fault_unseen : (old new : Window) (stop : ℕ) → TakesWhenUsed old new → new.place.offset ≤ stop → stop < given old → given new ≡ given old
+fault_unseen old new stop (inl same) to lt = same
+fault_unseen old new stop (inr used) to lt = absurd (omega (arith, used, to, lt))
+
+takes_unseen : (r : Result (Option Found) ReadError) (old new : Window) → TakesWhenUsed old new → OnText r (λ t. new.place.offset ≤ t.stop) → IfOk r (λ x. ShownBefore x old new) → (IsErrOf r ReadFault → new.held ≡ [])
+    → TakesUnseen stop_of r old new
+takes_unseen (Ok (Some f)) old new lazy to unseen used_up = unseen
+takes_unseen (Ok None) old new lazy to unseen used_up = tt
+takes_unseen (Err (Text t)) old new lazy to unseen used_up = fault_unseen old new t.stop lazy to
+takes_unseen (Err ReadFault) old new lazy to unseen used_up = used_up refl
+takes_unseen (Err TooLong) old new lazy to unseen used_up = tt
+takes_unseen (Err NoMemory) old new lazy to unseen used_up = tt
+takes_unseen (Err Spent) old new lazy to unseen used_up = tt
 
 at_error : (r : Result (Option Found) ReadError) (e : ReadError) (P : Type 0) → (IsErrOf r e → P) → IfErr r (λ x. x ≡ e → P)
 at_error (Ok x) e P f = tt
@@ -65,6 +80,7 @@ reads_found {old} {new} {l} {l'} {r} {f} {f'} finds free to count cause held tak
   shorter = finds.shorter;
   after_token = near_token r new finds.used_to held;
   ended = finds.ended;
+  unseen = takes_unseen r old new finds.uses.lazy to finds.unseen finds.used_up;
 }
 
 -- the reader that was spent
@@ -80,4 +96,5 @@ reads_spent w l f = record {
   shorter = tt;
   after_token = tt;
   ended = tt;
+  unseen = tt;
 }

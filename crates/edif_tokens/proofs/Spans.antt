@@ -1,6 +1,6 @@
 -- Words and integers: a run of a class, and what follows it.
 use Rattle.std.proofs.Common.{◌≡◌, ℕ, ◌+◌, ◌-◌, ◌<◌, ◌≤◌, Bool, true, false, cond, ltb, List, [], ◌∷◌, ◌++◌, length, take, drop, Option, Some, None, Result, Ok, Err, IsTrue, refl, sym, ap, ◌∙◌, subst, inl, inr, arith, length-append, append_assoc}
-use Rattle.std.specs.Prelude.{IfSome, IfOk, OnOk}
+use Rattle.std.specs.Prelude.{IfSome, IfOk, OnOk, IsErrOf}
 use Rattle.nl_base.specs.Faults.{OnText}
 use Rattle.std.specs.List.{AllByRecursion, prefix_len}
 use Rattle.std.proofs.lemmas.Bool.{ltb-true, ltb-false, lt-ltb, cases_lt}
@@ -9,7 +9,7 @@ use Rattle.nl_base.specs.declared.place.Place.{Place}
 use Rattle.nl_base.specs.declared.fault.Reason.{Reason}
 use Rattle.nl_base.specs.declared.fault.Reason.TheVariants.{BadByte, TokenTooLong}
 use Rattle.nl_base.specs.declared.fault.ReadError.{ReadError}
-use Rattle.nl_base.specs.declared.fault.ReadError.TheVariants.{Text, TooLong}
+use Rattle.nl_base.specs.declared.fault.ReadError.TheVariants.{Text, ReadFault, TooLong}
 use Rattle.nl_base.specs.Place.{place_after, place_past}
 use Rattle.nl_bytes.specs.declared.bytes.TheConstants.{LIMIT}
 use Rattle.nl_bytes.specs.declared.class.Class.{Class}
@@ -17,11 +17,11 @@ use Rattle.nl_bytes.specs.declared.halt.Halt.{Halt}
 use Rattle.nl_bytes.specs.declared.halt.Halt.TheVariants as halts
 use Rattle.nl_bytes.specs.Halts.{error_of}
 use Rattle.nl_bytes.specs.Classes.{in_class}
-use Rattle.nl_bytes.specs.Bytes.{first, Window, Uses, Runs}
+use Rattle.nl_bytes.specs.Bytes.{first, Window, Uses, Runs, IsAhead, TakesWhenUsed, given}
 use Rattle.nl_base.proofs.Places.{place_past-append}
 use Rattle.nl_bytes.proofs.Known.{Uses-known, IsAhead-known}
 use Rattle.edif_tokens.specs.Spelling.{Piece, Flaw, flaw, span_at, text_of, ended, may_follow}
-use Rattle.edif_tokens.specs.Scan.{refusal, ending, ended_here, Answers, Spans, seen_of}
+use Rattle.edif_tokens.specs.Scan.{refusal, ending, ended_here, Answers, Spans, IsLast, IsUnseen, seen_of}
 
 pub offset_past : (p : Place) (bs : List ℕ) → (place_past p bs).offset ≡ p.offset + length bs
 offset_past p [] = omega arith
@@ -147,6 +147,68 @@ ending_short p here n next = by_length (ltb 1024 n) refl
     by_length true e = tt
     by_length false e = on_end (ended_here here next) (ltb-false _ _ e)
 
+-- ---- what is taken
+
+-- a refusal is no read fault
+pub refusal_reads : (A : Type 0) (here : Place) (stop : ℕ) (reason : Reason) → IsErrOf {T = A} (Err (refusal here stop reason)) ReadFault → ⊥
+refusal_reads A here stop reason = go (ltb LIMIT stop)
+  where
+    go : (t : Bool) → IsErrOf {T = A} (Err (cond t TooLong (Text (record { place = here; stop = stop; reason = reason })))) ReadFault → ⊥
+    go true h = cc
+    go false h = cc
+
+ending_reads : (p here : Place) (n : ℕ) (next : Option ℕ) → IsErrOf (ending p here n next) ReadFault → ⊥
+ending_reads p here n next = by_length (ltb 1024 n)
+  where
+    by_byte : (t : Bool) → IsErrOf (cond t (Ok (here.offset + 1)) (Err (refusal here (here.offset + 1) BadByte))) ReadFault → ⊥
+    by_byte true h = cc
+    by_byte false h = refusal_reads ℕ here (here.offset + 1) BadByte h
+
+    by_next : (o : Option ℕ) → IsErrOf (ended_here here o) ReadFault → ⊥
+    by_next None h = cc
+    by_next (Some b) h = by_byte (may_follow b) h
+
+    by_length : (t : Bool) → IsErrOf (cond t (Err (refusal p (p.offset + 1025) TokenTooLong)) (ended_here here next)) ReadFault → ⊥
+    by_length true h = refusal_reads ℕ p (p.offset + 1025) TokenTooLong h
+    by_length false h = by_next next h
+
+-- where a word or an integer ends, the byte behind it is ahead, or no byte is held
+ending_last : (p here : Place) (w : Window) (l : Option (List ℕ)) (n : ℕ) (next : Option ℕ) → here ≡ w.place → IsAhead w l next → IfOk (ending p here n next) (λ stop. IsLast stop w)
+ending_last p here w l n next at is_ahead = by_length (ltb 1024 n)
+  where
+    offset : here.offset ≡ w.place.offset
+    offset = ap (λ (q : Place). q.offset) at
+
+    by_byte : (t : Bool) → IfOk (cond t (Ok (here.offset + 1)) (Err (refusal here (here.offset + 1) BadByte))) (λ stop. IsLast stop w)
+    by_byte true = λ le. absurd (omega (arith, offset, le))
+    by_byte false = tt
+
+    by_next : (o : Option ℕ) → IsAhead w l o → IfOk (ended_here here o) (λ stop. IsLast stop w)
+    by_next None none = λ le. omega (arith, offset, ap (λ (xs : List ℕ). length xs) none.0)
+    by_next (Some b) some = by_byte (may_follow b)
+
+    by_length : (t : Bool) → IfOk (cond t (Err (refusal p (p.offset + 1025) TokenTooLong)) (ended_here here next)) (λ stop. IsLast stop w)
+    by_length true = tt
+    by_length false = by_next next is_ahead
+
+-- nothing was taken for a text whose stop lies within the bytes that were taken before
+pub text_unseen : (old new : Window) (stop : ℕ) → TakesWhenUsed old new → given old ≤ given new → IsLast stop new → IsUnseen stop old new
+text_unseen old new stop (inl same) taken last le = same
+text_unseen old new stop (inr used) taken last le = let all : given new ≤ stop = last (omega (arith, used, le)) in omega (arith, all, taken, le)
+
+-- a read that failed was asked for with no byte at hand
+pub halted_used_up : (A : Type 0) (w : Window) (h : Halt) → (h ≡ halts.Failed → w.held ≡ []) → IsErrOf {T = A} (Err (error_of h)) ReadFault → w.held ≡ []
+halted_used_up A w halts.Failed none e = none refl
+halted_used_up A w halts.TooLong none e = absurd cc
+halted_used_up A w halts.NoMemory none e = absurd cc
+
+-- an error of one type of results is that of another
+pub of_error : {A B P : Type 0} (e d : ReadError) → (IsErrOf {T = A} (Err e) d → P) → IsErrOf {T = B} (Err e) d → P
+of_error {A} {B} {P} e d f h = let same : e ≡ d = cc in f (ap at same)
+  where
+    at : ReadError → Result A ReadError
+    at x = Err x
+
 -- ---- what a run leaves
 
 pub at_place : (p : Place) (old new : Window) (l l' : Option (List ℕ)) (before used : List ℕ) → Uses old new l l' used → old.place ≡ place_past p before → new.place ≡ place_past p (before ++ used)
@@ -162,6 +224,8 @@ Spans-ending {class} {m} {old} {new} {l} {l'} {before} {after} {next} runs p lea
   each = runs.each;
   added = runs.added;
   short = subst (λ (r : Result ℕ ReadError). OnOk r (length after ≤ 1024)) (sym result-is) (subst (λ (k : ℕ). OnOk (ending p here n next) (k ≤ 1024)) n-is (ending_short p here n next));
+  last = subst (λ (r : Result ℕ ReadError). IfOk r (λ stop. IsLast stop new)) (sym result-is) (ending_last p here new l' n next here-is runs.ahead);
+  used_up = λ h. absurd (ending_reads p here n next (sym result-is ∙ h));
   answer = λ rest known.
       let t = before ++ runs.used in
       let k = Uses-known old new l l' runs.used rest runs.uses known in
@@ -195,6 +259,8 @@ Spans-halted {class} {m} {old} {new} {l} {l'} {before} {after} {h} runs p lead b
   each = runs.each;
   added = runs.added;
   short = tt;
+  last = tt;
+  used_up = halted_used_up ℕ new h (λ is. runs.used_up (ap at_err is));
   answer = λ rest known.
       let k = Uses-known old new l l' runs.used rest runs.uses known in
       let seen = span_seen (in_class class) before runs.used k.0 runs.each (omega (arith, runs.bounded)) in

@@ -1,5 +1,5 @@
 -- The stream of tokens, one token after another.
-use Rattle.std.proofs.Common.{◌≡◌, ℕ, suc, ◌+◌, ◌-◌, ◌<◌, ◌≤◌, Bool, true, false, cond, ltb, List, [], ◌∷◌, ◌++◌, length, Option, Some, None, Result, Ok, Err, refl, sym, ap, ◌∙◌, subst, arith}
+use Rattle.std.proofs.Common.{◌≡◌, ℕ, suc, ◌+◌, ◌-◌, ◌<◌, ◌≤◌, Bool, true, false, cond, ltb, List, [], ◌∷◌, ◌++◌, length, Option, Some, None, Result, Ok, Err, refl, sym, ap, ◌∙◌, subst, inl, inr, arith}
 use Rattle.std.specs.Prelude.{option_map, OnOk}
 use Rattle.std.proofs.lemmas.Bool.{lt-ltb, le-ltb}
 use Rattle.nl_base.specs.declared.place.Place.{Place}
@@ -12,7 +12,7 @@ use Rattle.nl_bytes.specs.declared.halt.Halt.TheVariants as halts
 use Rattle.nl_bytes.specs.declared.bytes.TheConstants.{LIMIT}
 use Rattle.nl_bytes.specs.Halts.{error_of}
 use Rattle.nl_bytes.specs.Classes.{AreIn, is_space}
-use Rattle.nl_bytes.specs.Bytes.{Window, Uses, Skips, input, first, given}
+use Rattle.nl_bytes.specs.Bytes.{Window, Uses, Skips, TakesWhenUsed, input, first, given}
 use Rattle.nl_io.specs.Sources.{left_past}
 use Rattle.nl_bytes.proofs.Uses.{Uses-trans}
 use Rattle.nl_bytes.proofs.Known.{Uses-known, IsAhead-known}
@@ -22,8 +22,8 @@ use Rattle.edif_tokens.specs.Spelling.{Piece, Flaw, token_at, token_by, start_of
 use Rattle.edif_tokens.specs.Streams.{Tells, TellsKnown}
 use Rattle.edif_tokens.specs.Streams.{Stream, End, Over, ends, follow, limited}
 use Rattle.edif_tokens.specs.Stream.{stop_of, tokens_ahead, stream_from, tokens_from, then_tokens, found_at}
-use Rattle.edif_tokens.specs.Scan.{Answers, Reads, Finds}
-use Rattle.edif_tokens.proofs.Spans.{offset_grows}
+use Rattle.edif_tokens.specs.Scan.{Answers, IsUnseen, Reads, Finds}
+use Rattle.edif_tokens.proofs.Spans.{offset_grows, halted_used_up, of_error}
 
 -- white space is passed over
 tokens-space : (p : Place) (used rest : List ℕ) → AreIn Space used → tokens_from 0 p (used ++ rest) ≡ tokens_from 0 (place_past p used) rest
@@ -147,13 +147,15 @@ told_token {old} {mid} {new} {l} {m} {l'} {b} {r} s t =
 -- white space, and then what is no token
 pub finds_refused : {old mid new : Window} {l m l' : Option (List ℕ)} {b : ℕ} {e : ReadError}
     → Skips Space old mid l m (Ok (Some b)) → Reads (token_by (start_of b)) mid.place mid new m l' (Err e) → Finds old new l l' (Err e)
-finds_refused {old} {mid} {new} {l} {m} {l'} s t = record {
+finds_refused {old} {mid} {new} {l} {m} {l'} {b} {e} s t = record {
   used = s.used ++ t.used;
   uses = Uses-trans old mid new l m l' s.used t.used s.uses t.uses;
   told = told_token s t;
   shorter = tt;
   used_to = tt;
   ended = tt;
+  unseen = tt;
+  used_up = of_error e ReadFault t.used_up;
 }
 
 -- white space, and then the end
@@ -172,7 +174,14 @@ finds_end {old} {new} {l} {l'} s = record {
   shorter = tt;
   used_to = tt;
   ended = s.ahead.1;
+  unseen = tt;
+  used_up = λ h. absurd cc;
 }
+
+-- nothing was taken for a token behind white space whose stop lies within the bytes that were taken before that
+behind_space : (old mid new : Window) (stop : ℕ) → TakesWhenUsed old mid → mid.place.offset < stop → IsUnseen stop mid new → IsUnseen stop old new
+behind_space old mid new stop (inl same) behind unseen le = unseen (omega (arith, same, le)) ∙ same
+behind_space old mid new stop (inr used) behind unseen le = absurd (omega (arith, used, behind, le))
 
 pub finds_found : {old mid new : Window} {l m l' : Option (List ℕ)} {b : ℕ} {f : Found}
     → Skips Space old mid l m (Ok (Some b)) → Reads (token_by (start_of b)) mid.place mid new m l' (Ok f) → f.stop ≤ LIMIT → new.place.offset ≤ f.stop → Finds old new l l' (Ok (Some f))
@@ -183,6 +192,8 @@ finds_found {old} {mid} {new} {l} {m} {l'} {b} {f} s t le to = record {
   shorter = (omega (arith, offset_grows s.uses, offset_grows t.uses, t.some), omega (arith, to, le));
   used_to = to;
   ended = tt;
+  unseen = behind_space old mid new f.stop s.uses.lazy (omega (arith, offset_grows t.uses, t.some, to)) t.unseen;
+  used_up = λ h. absurd cc;
 }
 
 -- past the limit nothing has its stop within it
@@ -220,6 +231,8 @@ finds_halted {old} {new} {l} {l'} {h} s = record {
   shorter = tt;
   used_to = tt;
   ended = tt;
+  unseen = tt;
+  used_up = halted_used_up (Option Found) new h (λ is. s.used_up (ap at_err is));
 }
 
 -- the same window

@@ -20,7 +20,7 @@ use Rattle.nl_bytes.proofs.Uses.{Uses-byte, Uses-none, Uses-trans}
 use Rattle.nl_bytes.proofs.Known.{Uses-known, IsAhead-known}
 use Rattle.edif_tokens.specs.Scan.{refusal, Answers, seen_of, Continues, ReadsPart}
 use Rattle.edif_tokens.specs.Strings.{is_full, Codes, EndsCode}
-use Rattle.edif_tokens.proofs.Spans.{offset_past, refusal_answers, at_place, halted}
+use Rattle.edif_tokens.proofs.Spans.{offset_past, refusal_answers, refusal_reads, at_place, halted, halted_used_up}
 use Rattle.edif_tokens.specs.Flaws.{Piece, Flaw, flaw}
 use Rattle.edif_tokens.specs.Strings.{Within, Parts, Escape, Code, string_at, Digits}
 
@@ -51,6 +51,7 @@ pub part_trans : {from mid to : ℕ → Within} {p start : Place} {a b c : Windo
 part_trans {from} {mid} {to} {p} {start} {a} {b} {c} {l} {m} {n} {v} {w} {x} {u} {r} f t = record {
   used = f.used ++ t.used;
   uses = Uses-trans a b c l m n f.used t.used f.uses t.uses;
+  used_up = t.used_up;
   spelled = λ front bs rest s le st place known new_known parts.
       let k = Uses-known a b l m f.used bs f.uses known in
       let j = Uses-known b c m n t.used k.0 t.uses k.1 in
@@ -104,11 +105,12 @@ string_seen (Code s code) value n (b ∷ bs) =
     search (rules, cond_seen)
 
 pub part_halted : {from mid : ℕ → Within} {p start : Place} {old new : Window} {l l' : Option (List ℕ)} {v w : List ℕ} {u : Unit {0}}
-    → ReadsPart from mid p start old new l l' v w (Ok u) → (to : ℕ → Within) (x : List ℕ) (h : Halt) → (h ≡ halts.TooLong → LIMIT < new.place.offset)
+    → ReadsPart from mid p start old new l l' v w (Ok u) → (to : ℕ → Within) (x : List ℕ) (h : Halt) → (h ≡ halts.TooLong → LIMIT < new.place.offset) → (h ≡ halts.Failed → new.held ≡ [])
     → ReadsPart from to p start old new l l' v x (Err (error_of h))
-part_halted {from} {mid} {p} {start} {old} {new} {l} {l'} {v} {w} f to x h late = record {
+part_halted {from} {mid} {p} {start} {old} {new} {l} {l'} {v} {w} f to x h late none = record {
   used = f.used;
   uses = f.uses;
+  used_up = halted_used_up (Unit {0}) new h none;
   spelled = λ front bs rest s le st place known new_known parts.
       let one = f.spelled front bs rest s le st place known new_known parts in
       let far = string_seen (mid s) w (length front + length f.used) rest in
@@ -124,6 +126,7 @@ pub part_refused : {from mid : ℕ → Within} {p start : Place} {old new : Wind
 part_refused {from} {mid} {p} {start} {old} {new} {l} {l'} {v} {w} f to x here stop reason why = record {
   used = f.used;
   uses = f.uses;
+  used_up = λ h. absurd (refusal_reads (Unit {0}) here stop reason h);
   spelled = λ front bs rest s le st place known new_known parts.
       let one = f.spelled front bs rest s le st place known new_known parts in
       let at = here_at p old new l l' front f.used f.uses place in
@@ -142,6 +145,7 @@ pub code_part : {begun : ℕ} {old new : Window} {l l' : Option (List ℕ)} {r :
 code_part {begun} {old} {new} {l} {l'} c p start v = record {
   used = c.used;
   uses = c.uses;
+  used_up = λ h. absurd cc;
   spelled = λ front bs rest s le st place known new_known parts. ap (string_at (Code s begun) v (length front)) parts ∙ c.digits s (length front) v rest;
 }
 
@@ -193,6 +197,7 @@ unfolding code_part
 code_added {begun} {old} {new} {l} {l'} {a} c p start v x room added = record {
   used = c.used;
   uses = c.uses;
+  used_up = λ h. absurd cc;
   spelled = λ front bs rest s le st place known new_known parts.
       let e = c.ends in
       let one = (code_part c p start v).spelled front bs rest s le st place known new_known parts in
@@ -206,6 +211,7 @@ pub part_none : (from : ℕ → Within) (p start : Place) (w : Window) (l : Opti
 part_none from p start w l v = record {
   used = [];
   uses = Uses-none w l;
+  used_up = λ h. absurd cc;
   spelled = λ front bs rest s le st place known new_known parts. ap (string_at (from s) v (length front)) parts ∙ ap (λ (k : ℕ). string_at (from s) v k rest) (sym (add-zero (length front)));
 }
 
@@ -217,6 +223,7 @@ pub part_byte : (from to : ℕ → Within) (p start : Place) (a b : Window) (l :
 part_byte from to p start a b l v byte tail ahead held place step = record {
   used = byte ∷ [];
   uses = Uses-byte a b l byte tail ahead held place;
+  used_up = λ h. absurd cc;
   spelled = λ front bs rest s le st at known new_known parts. ap (string_at (from s) v (length front)) parts ∙ step s (length front) rest;
 }
 
@@ -230,6 +237,7 @@ pub part_space : {old new : Window} {l l' : Option (List ℕ)} {r : Result (Opti
 part_space {old} {new} {l} {l'} {r} k coded p start v = record {
   used = k.used;
   uses = k.uses;
+  used_up = λ h. absurd cc;
   spelled = λ front bs rest s le st place known new_known parts. ap (string_at (Escape s coded) v (length front)) parts ∙ escape_space s (length front) coded v k.used rest k.each;
 }
 
@@ -285,6 +293,7 @@ pub part_err : {from to : ℕ → Within} {p start : Place} {old new : Window} {
 part_err f other y = record {
   used = f.used;
   uses = f.uses;
+  used_up = f.used_up;
   spelled = λ front bs rest s le st place known new_known parts. f.spelled front bs rest s le st place known new_known parts;
 }
 
@@ -313,6 +322,7 @@ pub plain_part : {m : ℕ} {old new : Window} {l l' : Option (List ℕ)} {v w : 
 plain_part {m} {old} {new} {l} {l'} {v} {w} {r} k m-is p start = record {
   used = k.used;
   uses = k.uses;
+  used_up = λ h. absurd cc;
   spelled = λ front bs rest s le st place known new_known parts. ap (string_at Parts v (length front)) parts
       ∙ plain_run v k.used rest (length front) k.each (omega (arith, k.bounded)) ∙ ap (λ (xs : List ℕ). string_at Parts xs (length front + length k.used) rest) (sym k.added);
 }
@@ -363,6 +373,7 @@ parts_escape {p} {a} {b} {c} {m} {n} {v} {w} {r} {tail} ahead held place t start
     record {
       used = 37 ∷ [] ++ t.used;
       uses = Uses-trans a b c m m n (37 ∷ []) t.used byte t.uses;
+      used_up = t.used_up;
       spelled = λ front bs rest s le st at known new_known parts.
           let k = Uses-known a b m m (37 ∷ []) bs byte known in
           let j = Uses-known b c m n t.used k.0 t.uses k.1 in

@@ -1,5 +1,5 @@
 -- What the parts of the reader answer.
-use Rattle.std.specs.Prelude.{◌≡◌, ℕ, ◌+◌, ◌<◌, ◌≤◌, ◌++◌, nat_lt, if◌then◌else◌, Bool, true, false, List, [], ◌∷◌, take, drop, length, slice_index, IsTrue, IfOk, OnOk, MatchResult, ℤ, Option, Some, None, Result, Ok, Err, ⊤}
+use Rattle.std.specs.Prelude.{◌≡◌, ℕ, ◌+◌, ◌<◌, ◌≤◌, ◌++◌, nat_lt, if◌then◌else◌, Bool, true, false, List, [], ◌∷◌, take, drop, length, slice_index, IsTrue, IfOk, OnOk, IsErrOf, MatchResult, ℤ, Option, Some, None, Result, Ok, Err, ⊤}
 use Rattle.std.specs.List.{prefix_len}
 use Rattle.nl_base.specs.declared.place.Place.{Place}
 use Rattle.nl_base.specs.declared.fault.Reason.{Reason}
@@ -8,7 +8,7 @@ use Rattle.nl_base.specs.declared.fault.ReadError.TheVariants.{Text, ReadFault, 
 use Rattle.nl_bytes.specs.declared.class.Class.{Class}
 use Rattle.nl_bytes.specs.declared.bytes.TheConstants.{LIMIT}
 use Rattle.nl_bytes.specs.Classes.{AreIn, in_class, is_string_byte}
-use Rattle.nl_bytes.specs.Bytes.{Window, Uses, input, first}
+use Rattle.nl_bytes.specs.Bytes.{Window, Uses, input, first, given}
 use Rattle.nl_base.specs.declared.fault.Reason.TheVariants.{BadByte, TokenTooLong, NumberRange}
 use Rattle.nl_base.specs.Place.{place_past}
 use Rattle.edif_tokens.specs.Strings.{Within, string_at}
@@ -61,6 +61,14 @@ abbrev pub Leads : Class → Bool → ℕ → List ℕ → Type 0
 Leads class false byte text = text ≡ byte ∷ []
 Leads class true byte text = (b : ℕ) × (text ≡ byte ∷ b ∷ []) × IsTrue (in_class class b)
 
+-- the byte that shows where a text ends is ahead, or the input ends there and no byte is held
+abbrev pub IsLast : ℕ → Window → Type 0
+IsLast stop w = stop ≤ w.place.offset → given w ≤ stop
+
+-- nothing was taken for what has its stop within the bytes that were taken before
+abbrev pub IsUnseen : ℕ → Window → Window → Type 0
+IsUnseen stop old new = stop ≤ given old → given new ≡ given old
+
 -- the rest of a word or an integer was read
 pub record Spans (class : Class) (p : Place) (old new : Window) (left left' : Option (List ℕ)) (before after : List ℕ) (result : Result ℕ ReadError) : Type 0 where
   pub used : List ℕ
@@ -68,6 +76,9 @@ pub record Spans (class : Class) (p : Place) (old new : Window) (left left' : Op
   pub each : AreIn class used
   pub added : after ≡ before ++ used
   pub short : OnOk result (length after ≤ 1024)
+  pub last : IfOk result (λ stop. IsLast stop new)
+  -- a read that fails was asked for with no byte at hand
+  pub used_up : IsErrOf result ReadFault → new.held ≡ []
   pub answer : (rest : List ℕ) → input old left ≡ Some rest →
       Answers p (before ++ rest) (λ piece stop. (piece.value ≡ after) × (piece.count ≡ length after) × (stop ≡ p.offset + piece.seen)) (span_at (in_class class) (length before) (before ++ rest)) result
 
@@ -76,6 +87,7 @@ pub record Begins (class : Class) (lead : Bool) (byte : ℕ) (p : Place) (old ne
   pub used : List ℕ
   pub uses : Uses old new left left' used
   pub ok : OnOk result ((used ≡ after) × Leads class lead byte after)
+  pub used_up : IsErrOf result ReadFault → new.held ≡ []
   pub answer : (bs : List ℕ) → input old left ≡ Some bs → (text : Result (Piece (List ℕ)) Flaw) → 1 ≤ seen_of text →
       MatchResult result (λ _. led lead (in_class class) (first (drop 1 bs)) text ≡ text)
       (λ e. Answers {B = ℕ} p bs (λ _ _. ⊥) (led lead (in_class class) (first (drop 1 bs)) text) (Err e))
@@ -109,6 +121,8 @@ pub record ReadsText (class : Class) (lead : Bool) (p : Place) (old new : Window
   pub uses : Uses old new left left' used
   pub some : OnOk result (0 < length used)
   pub shape : IfOk result (λ x. (b : ℕ) (rest : List ℕ) → old.held ≡ b ∷ rest → IsLed class lead b x.text)
+  pub unseen : IfOk result (λ x. IsUnseen x.stop old new)
+  pub used_up : IsErrOf result ReadFault → new.held ≡ []
   pub answer : (bs : List ℕ) → input old left ≡ Some bs →
       Answers p bs (λ piece x. (x.text ≡ piece.value) × (x.stop ≡ p.offset + piece.seen) × (piece.count ≡ length used)) (text_at (in_class class) lead bs) result
 
@@ -117,6 +131,8 @@ pub record Reads (spelled : List ℕ → Result (Piece Token) Flaw) (p : Place) 
   pub used : List ℕ
   pub uses : Uses old new left left' used
   pub some : OnOk result (0 < length used)
+  pub unseen : IfOk result (λ f. IsUnseen f.stop old new)
+  pub used_up : IsErrOf result ReadFault → new.held ≡ []
   pub answer : (bs : List ℕ) → input old left ≡ Some bs →
       Answers p bs (λ piece f. (f ≡ found_at p piece) × (piece.count ≡ length used)) (spelled bs) result
 
@@ -137,6 +153,7 @@ Continues p whole spelled (Err e) next = Answers {B = ℕ} p whole (λ _ _. ⊥)
 pub record ReadsPart (from to : ℕ → Within) (p start : Place) (old new : Window) (left left' : Option (List ℕ)) (before after : List ℕ) (result : Result (Unit {0}) ReadError) : Type 0 where
   pub used : List ℕ
   pub uses : Uses old new left left' used
+  pub used_up : IsErrOf result ReadFault → new.held ≡ []
   pub spelled : (front bs rest : List ℕ) (s : ℕ) → s ≤ length front → start ≡ place_past p (take s front) → old.place ≡ place_past p front
       → input old left ≡ Some bs → input new left' ≡ Some rest → bs ≡ used ++ rest
       → Continues p (front ++ bs) (string_at (from s) before (length front) bs) result (string_at (to s) after (length front + length used) rest)
@@ -146,6 +163,11 @@ abbrev pub UsesTo : Option Found → Window → Type 0
 UsesTo (Some f) w = w.place.offset ≤ f.stop
 UsesTo None w = ⊤
 
+-- nothing was taken for a token that the bytes taken before show
+abbrev pub ShownBefore : Option Found → Window → Window → Type 0
+ShownBefore (Some f) old new = IsUnseen f.stop old new
+ShownBefore None old new = ⊤
+
 -- the next token was read
 pub record Finds (old new : Window) (left left' : Option (List ℕ)) (result : Result (Option Found) ReadError) : Type 0 where
   pub used : List ℕ
@@ -154,3 +176,5 @@ pub record Finds (old new : Window) (left left' : Option (List ℕ)) (result : R
   pub shorter : IfOk result (λ x. Shortens x old new)
   pub used_to : IfOk result (λ x. UsesTo x new)
   pub ended : IfOk result (λ x. EndsInput x left')
+  pub unseen : IfOk result (λ x. ShownBefore x old new)
+  pub used_up : IsErrOf result ReadFault → new.held ≡ []

@@ -7,7 +7,7 @@ use Rattle.nl_base.specs.declared.fault.ReadError.{ReadError}
 use Rattle.nl_base.specs.declared.fault.ReadError.TheVariants as errors
 use Rattle.nl_io.specs.Causes.{Rose}
 use Rattle.nl_io.specs.Sources.{left_past}
-use Rattle.nl_bytes.specs.Bytes.{Window, input, given}
+use Rattle.nl_bytes.specs.Bytes.{Window, TakesWhenUsed, input, given}
 use Rattle.nl_bytes.specs.declared.bytes.TheConstants.{LIMIT}
 
 -- how the tokens of a text end: at the end of the bytes, whose place is told; at a fault; or because the next of these has
@@ -80,6 +80,8 @@ pub record Moves (old new : Window) (left left' : Option (List ℕ)) (faults fau
   pub count : faults ≤ faults'
   -- no more than 4,096 bytes past the limit are ever taken
   pub within : given new - (LIMIT + 4096) ≤ given old - (LIMIT + 4096)
+  -- bytes are taken only where all that were taken before are used
+  pub lazy : TakesWhenUsed old new
 
 -- all bytes that were ever taken end at most 4,096 bytes behind an offset
 abbrev pub IsNear : Window → ℕ → Type 0
@@ -108,6 +110,17 @@ abbrev pub EndsInput : {F : Type 0} → Option F → Option (List ℕ) → Type 
 EndsInput (Some x) left = ⊤
 EndsInput None left = IsAtEnd left
 
+-- Nothing is taken for a token whose stop lies within the bytes taken before, nor for a fault whose stop lies before the last of them. A read that
+-- fails was asked for with no byte at hand.
+abbrev pub TakesUnseen : {F : Type 0} → (F → ℕ) → Result (Option F) ReadError → Window → Window → Type 0
+TakesUnseen stop (Ok (Some x)) old new = stop x ≤ given old → given new ≡ given old
+TakesUnseen stop (Ok None) old new = ⊤
+TakesUnseen stop (Err (errors.Text fault)) old new = fault.stop < given old → given new ≡ given old
+TakesUnseen stop (Err errors.ReadFault) old new = new.held ≡ []
+TakesUnseen stop (Err errors.TooLong) old new = ⊤
+TakesUnseen stop (Err errors.NoMemory) old new = ⊤
+TakesUnseen stop (Err errors.Spent) old new = ⊤
+
 -- A reader of tokens was asked for the next one. `stream_from` tells the tokens of known bytes, and `stop` that of a token.
 pub record Reads {F : Type 0} (stream_from : Place → List ℕ → Stream F) (stop : F → ℕ) (result : Result (Option F) ReadError) (old new : State) (left left' : Option (List ℕ)) (faults faults' : ℕ) : Type 0 where
   -- what the source has left is a suffix of what it had, and how much was taken
@@ -130,3 +143,5 @@ pub record Reads {F : Type 0} (stream_from : Place → List ℕ → Stream F) (s
   pub after_token : IfOk result (λ x. NearToken stop x new.window)
   -- at the end nothing is left of the source
   pub ended : IfOk result (λ x. EndsInput x left')
+  -- bytes are taken only where those taken before do not show what is answered
+  pub unseen : TakesUnseen stop result old.window new.window

@@ -5,7 +5,7 @@ use Rattle.nl_base.specs.declared.fault.Reason.TheVariants.{EndOfInput, BadByte,
 use Rattle.nl_bytes.specs.Classes.{is_space, is_string_byte}
 use Rattle.nl_bytes.specs.Bytes.{Window, Uses, IsAhead}
 use Rattle.nl_bytes.specs.declared.halt.Halt.{Halt}
-use Rattle.nl_bytes.specs.declared.halt.Halt.TheVariants.{TooLong}
+use Rattle.nl_bytes.specs.declared.halt.Halt.TheVariants.{TooLong, Failed}
 use Rattle.nl_bytes.specs.declared.bytes.TheConstants.{LIMIT}
 use Rattle.edif_tokens.specs.Flaws.{Piece, Flaw, flaw}
 
@@ -62,3 +62,5 @@ pub record Codes (begun : ℕ) (old new : Window) (left left' : Option (List ℕ
   pub ends : IfOk result (λ c. (next : Option ℕ) × IsAhead new left' next × EndsCode code c next)
   pub within : OnOk result (new.place.offset ≤ LIMIT)
   pub too_long : IsErrOf result TooLong → LIMIT < new.place.offset
+  -- a read that fails was asked for with no byte at hand
+  pub used_up : IsErrOf result Failed → new.held ≡ []

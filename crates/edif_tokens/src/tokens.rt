@@ -162,8 +162,11 @@ impl Tokens {
     /// - a token, with its place and stop; `None` exactly at the end, after the last token;
     /// - `Text` exactly where the bytes spell no token; at most 4,096 bytes behind its stop are taken then;
     /// - `TooLong` exactly where more than 268,435,456 bytes are given and the next token or fault has no stop within them;
-    /// - `ReadFault` only where the source's count of faults rose in this call;
+    /// - `ReadFault` only where the source's count of faults rose in this call; no byte is held then;
     /// - `Spent` exactly where the reader was spent.
+    ///
+    /// Bytes are taken from the source only where all that were taken before are used: none for a token whose stop lies within the bytes
+    /// taken before, nor for a fault whose stop lies before the last of them.
     ///
     /// Any error spends it for good, and an `Ok` does not. Whatever it answers, no more than 268,435,456 + 4,096 bytes were ever
     /// taken from the source.

@@ -1,7 +1,7 @@
 // Tokens that are held whole, with the byte that shows their end.
 ghost use Rattle.std.specs.Prelude.{◌≡◌, ◌↔◌, ◌+◌, ◌<◌, ◌≤◌, ◌∷◌, [], ℕ, true, false, List, length, Some, None, Option, IfOk, IfErr, IfSome, IsNone, IsSome, IsTrue, IsErrOf, Ok, Err};
 ghost use Rattle.nl_base.specs.Faults.{OnText};
-ghost use Rattle.nl_bytes.specs.Bytes.{Uses};
+ghost use Rattle.nl_bytes.specs.Bytes.{Uses, given};
 ghost use Rattle.edif_tokens.specs.Scan.{Reads, IsWhole, IsQuoted, NoneWhole, NoneQuoted};
 ghost use Rattle.edif_tokens.specs.Spelling.{word_spelled, number_spelled, string_spelled, token_by, start_of, begins_word, is_parenthesis};
 ghost use Rattle.edif_tokens.specs.Scan.{number_found};
@@ -23,6 +23,7 @@ pub fn mark<S: Source>(bytes: &mut Bytes, byte: u8, token: Token, source: &S) ->
     requires within { bytes.old.place.offset ≤ LIMIT }
     ensures found { result ≡ record { place = bytes.old.place; stop = bytes.old.place.offset + 1; token = token } }
     ensures uses { Uses bytes.old bytes.new (S.left source.now) (S.left source.now) (byte ∷ []) }
+    ensures kept { given bytes.new ≡ given bytes.old }
 {
     let place = bytes.place();
     bytes.advance();

@@ -94,6 +94,7 @@ held_run {class} {most} {old} {new} {n} {next} {text} l run more enough limit he
       longest = λ inside. absurd (cc (out, inside));
       within = omega (arith, ap (λ (p : Place). p.offset) place, place_past-offset old.place used);
       too_long = λ h. absurd cc;
+      used_up = λ h. absurd cc;
     }
 
 -- a place whose column is told by the line's first byte

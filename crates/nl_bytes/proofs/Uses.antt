@@ -1,5 +1,5 @@
 -- One call after another uses up bytes.
-use Rattle.std.proofs.Common.{◌≡◌, ℕ, ◌+◌, ◌-◌, ◌≤◌, List, [], ◌∷◌, ◌++◌, length, get_or, take, drop, Option, Some, None, refl, sym, ap, ◌∙◌, subst, append_assoc, append-nil, length-take, length-drop, arith}
+use Rattle.std.proofs.Common.{◌≡◌, ℕ, ◌+◌, ◌-◌, ◌≤◌, List, [], ◌∷◌, ◌++◌, length, get_or, take, drop, Option, Some, None, refl, sym, ap, ◌∙◌, subst, inl, inr, append_assoc, append-nil, length-take, length-drop, arith}
 use Rattle.std.proofs.KnownBytes.{Consumes-trans, Consumes-nil}
 use Rattle.std.proofs.lemmas.List.{take-append-drop, drop-drop}
 use Rattle.std.specs.Io.KnownBytes.{Consumes, prepend_known}
@@ -8,7 +8,7 @@ use Rattle.nl_base.specs.declared.place.Place.{Place}
 use Rattle.nl_base.specs.Place.{place_after, place_past}
 use Rattle.nl_base.proofs.Places.{place_past-append, place_past-offset}
 use Rattle.nl_io.specs.Sources.{left_past}
-use Rattle.nl_bytes.specs.Bytes.{Window, Uses, input, given}
+use Rattle.nl_bytes.specs.Bytes.{Window, Uses, TakesWhenUsed, input, given}
 
 -- ---- what a source has left
 
@@ -40,6 +40,7 @@ Uses-none w l = record {
   place = refl;
   taken = omega arith;
   suffix = left_past-same (given w) (given w) l refl;
+  lazy = inl refl;
 }
 
 -- nothing was held, and what was taken is held
@@ -54,6 +55,7 @@ Uses-taken a b l m taken none held place bytes left =
       place = place;
       taken = omega arith;
       suffix = left ∙ ap (λ (n : ℕ). left_past n l) count;
+      lazy = inr (omega arith);
     }
   where
     go : (l m : Option (List ℕ)) → Consumes l m taken → Consumes (prepend_known [] l) (prepend_known taken m) []
@@ -61,13 +63,22 @@ Uses-taken a b l m taken none held place bytes left =
     go (Some x) None h = absurd h
     go (Some x) (Some y) h = h
 
+-- over two calls too bytes are taken only where all that were taken before are used
+pub takes_then : (a b c : Window) → b.place.offset ≤ c.place.offset → TakesWhenUsed a b → TakesWhenUsed b c → TakesWhenUsed a c
+takes_then a b c on (inl e) (inl f) = inl (f ∙ e)
+takes_then a b c on (inl e) (inr f) = inr (omega (arith, e, f))
+takes_then a b c on (inr e) q = inr (omega (arith, on, e))
+
 pub Uses-trans : (a b c : Window) (l m n : Option (List ℕ)) (xs ys : List ℕ) → Uses a b l m xs → Uses b c m n ys → Uses a c l n (xs ++ ys)
-Uses-trans a b c l m n xs ys p q = record {
-  bytes = Consumes-trans (input a l) (input b m) (input c n) xs ys p.bytes q.bytes;
-  place = q.place ∙ ap (λ (p : Place). place_past p ys) p.place ∙ sym (place_past-append a.place xs ys);
-  taken = omega (arith, p.taken, q.taken);
-  suffix = left_past-trans (given a) (given b) (given c) l m n p.taken q.taken p.suffix q.suffix;
-}
+Uses-trans a b c l m n xs ys p q =
+    let offset : c.place.offset ≡ b.place.offset + length ys = ap (λ (p : Place). p.offset) q.place ∙ place_past-offset b.place ys in
+    record {
+      bytes = Consumes-trans (input a l) (input b m) (input c n) xs ys p.bytes q.bytes;
+      place = q.place ∙ ap (λ (p : Place). place_past p ys) p.place ∙ sym (place_past-append a.place xs ys);
+      taken = omega (arith, p.taken, q.taken);
+      suffix = left_past-trans (given a) (given b) (given c) l m n p.taken q.taken p.suffix q.suffix;
+      lazy = takes_then a b c (omega (arith, offset)) p.lazy q.lazy;
+    }
 
 -- bytes that are held are used
 pub Uses-front : (a b : Window) (left : Option (List ℕ)) (n : ℕ) → b.held ≡ drop n a.held → b.place ≡ place_past a.place (take n a.held) → Uses a b left left (take n a.held)
@@ -81,6 +92,7 @@ Uses-front a b left n held place =
       place = place;
       taken = omega (arith, same);
       suffix = left_past-same (given a) (given b) left same;
+      lazy = inl same;
     }
   where
     go : (left : Option (List ℕ)) → Consumes (input a left) (input b left) (take n a.held)

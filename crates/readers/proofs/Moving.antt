@@ -1,5 +1,5 @@
 -- What several calls left of the bytes of a source, and how much may still be read.
-use Rattle.std.proofs.Common.{◌≡◌, ℕ, ◌+◌, ◌-◌, ◌≤◌, ◌<◌, Bool, List, Option, Some, None, drop, length, refl, sym, ap, ◌∙◌, arith}
+use Rattle.std.proofs.Common.{◌≡◌, ℕ, ◌+◌, ◌-◌, ◌≤◌, ◌<◌, Bool, List, Option, Some, None, drop, length, refl, sym, ap, ◌∙◌, inl, arith}
 use Rattle.std.proofs.lemmas.List.{drop-drop}
 use Rattle.nl_base.specs.declared.place.Place.{Place}
 use Rattle.nl_base.proofs.Places.{place_past-offset}
@@ -24,14 +24,14 @@ skip_none n (Some bs) = let e : n - n ≡ 0 = omega arith in rw e refl
 
 -- nothing is taken and nothing is used
 pub still : (w : Window) (i : Supply) → Moves w w i i
-still w i = record { place = omega arith; taken = omega arith; left = sym (skip_none (given w) i.left); faults = omega arith; within = omega arith }
+still w i = record { place = omega arith; taken = omega arith; left = sym (skip_none (given w) i.left); faults = omega arith; within = omega arith; lazy = inl refl }
 
 -- a reader of bytes that used some moved so
 pub uses_move : (old new : Window) (i j : Supply) (used : List ℕ) → Uses old new i.left j.left used → i.faults ≤ j.faults → given new ≤ LIMIT + 4096 → Moves old new i j
 unfolding skip excess
 uses_move old new i j used u f most =
     let p : new.place.offset ≡ old.place.offset + length used = ap (λ (z : Place). z.offset) u.place ∙ place_past-offset old.place used in
-    record { place = omega arith; taken = u.taken; left = u.suffix; faults = f; within = omega (arith, most) }
+    record { place = omega arith; taken = u.taken; left = u.suffix; faults = f; within = omega (arith, most); lazy = u.lazy }
 
 -- ---- how far bytes were taken
 

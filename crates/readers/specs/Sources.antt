@@ -8,7 +8,7 @@ use Rattle.nl_base.specs.declared.fault.ReadError.{ReadError}
 use Rattle.nl_base.specs.declared.fault.ReadError.TheVariants as errors
 use Rattle.nl_io.specs.Causes.{Rose}
 use Rattle.nl_io.specs.Sources.{left_past}
-use Rattle.nl_bytes.specs.Bytes.{Window, input, given}
+use Rattle.nl_bytes.specs.Bytes.{Window, TakesWhenUsed, input, given}
 use Rattle.nl_bytes.specs.declared.bytes.TheConstants.{LIMIT}
 
 -- what is seen of a source: the bytes that are left, where it tells them, and how often it has failed
@@ -46,6 +46,8 @@ pub record Moves (old new : Window) (i j : Supply) : Type 0 where
   pub faults : i.faults ≤ j.faults
   -- no more than 4,096 bytes past the limit are ever taken
   pub within : excess new ≤ excess old
+  -- bytes are taken only where all that were taken before are used
+  pub lazy : TakesWhenUsed old new
 
 -- all bytes that were ever taken end at most 4,096 bytes behind an offset
 abbrev pub IsNear : Window → ℕ → Type 0
@@ -103,6 +105,17 @@ abbrev pub Shortens : {X : Type 0} → Option X → Window → Window → Type 0
 Shortens (Some x) old new = (old.place.offset < new.place.offset) × (new.place.offset ≤ LIMIT + 1)
 Shortens None old new = Unit {0}
 
+-- Nothing is taken for a token whose stop lies within the bytes taken before, nor for a fault whose stop lies before the last of them. A read that
+-- fails was asked for with no byte at hand.
+abbrev pub TakesUnseen : {X : Type 0} → Language X → Result (Option X) ReadError → Window → Window → Type 0
+TakesUnseen L (Ok (Some x)) old new = L.stop x ≤ given old → given new ≡ given old
+TakesUnseen L (Ok None) old new = Unit {0}
+TakesUnseen L (Err (errors.Text f)) old new = f.stop < given old → given new ≡ given old
+TakesUnseen L (Err errors.ReadFault) old new = new.held ≡ []
+TakesUnseen L (Err errors.TooLong) old new = Unit {0}
+TakesUnseen L (Err errors.NoMemory) old new = Unit {0}
+TakesUnseen L (Err errors.Spent) old new = Unit {0}
+
 -- The next token is read, by a reader that is spent where the second of old and new says so.
 pub record ReadsToken {X : Type 0} (L : Language X) (result : Result (Option X) ReadError) (old : Window) (was_spent : Bool) (new : Window) (is_spent : Bool) (i j : Supply) : Type 0 where
   pub moves : Moves old new i j
@@ -115,3 +128,4 @@ pub record ReadsToken {X : Type 0} (L : Language X) (result : Result (Option X) 
   pub shorter : IfOk result (λ x. Shortens x old new)
   pub after_token : IfOk result (λ x. NearToken L x new)
   pub ended : IfOk result (λ x. EndsInput x j)
+  pub unseen : TakesUnseen L result old new

@@ -5,7 +5,8 @@
 //! a reader has still to read are a stream, where the source tells its bytes. `Reads` says of a call: its value is what the part
 //! of the grammar reads as on the stream before, and the stream after it is what the part leaves; an error comes exactly where
 //! the part reads as that error, but for want of memory and a failing source; an error spends the reader for good; and bytes are
-//! taken in their order, at most 4,096 past the stop of a fault, and whatever the answer at most 4,096 past the limit.
+//! taken in their order, only where all that were taken before are used, at most 4,096 past the stop of a fault, and whatever the
+//! answer at most 4,096 past the limit.
 //! `ReadsText` says of a whole text: it spells the value, or has the first fault that is answered, or is longer than what is
 //! looked at.
 //!

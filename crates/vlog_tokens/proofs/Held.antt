@@ -16,7 +16,7 @@ use Rattle.nl_bytes.specs.declared.bytes.TheConstants.{LIMIT}
 use Rattle.nl_bytes.specs.declared.class.Class.{Class}
 use Rattle.nl_bytes.specs.declared.class.Class.TheVariants.{NameByte, NumberByte, Graphic}
 use Rattle.nl_bytes.specs.Classes.{AreIn, in_class, is_verilog_space, is_name_byte, is_number_byte, is_graphic}
-use Rattle.nl_bytes.specs.Bytes.{Window, Uses, IsAhead, input}
+use Rattle.nl_bytes.specs.Bytes.{Window, Uses, TakesWhenUsed, IsAhead, input, given}
 use Rattle.nl_bytes.proofs.Uses.{Uses-front, Uses-none, Uses-trans}
 use Rattle.nl_bytes.proofs.Known.{Uses-known, IsAhead-known}
 use Rattle.nl_bytes.proofs.Fronts.{front-all}
@@ -40,12 +40,12 @@ use Rattle.vlog_tokens.specs.Items.{item_of, finish, finished, word_item, number
 use Rattle.vlog_tokens.specs.Numbers.{number_of}
 use Rattle.vlog_tokens.specs.Spelling.{item_by, start_of, begins_name, lexeme_spelled}
 use Rattle.vlog_tokens.specs.Parts.{Answers, GivesSpot, Reads, spot_of}
-use Rattle.vlog_tokens.specs.Finding.{ahead_of, Passes, Finds}
+use Rattle.vlog_tokens.specs.Finding.{ahead_of, Passes, UsesTo, FoundUnseen, Finds}
 use Rattle.vlog_tokens.specs.Language.{stream_from}
 use Rattle.vlog_tokens.specs.Held.{is_near, name_length, word_length, makes_real, number_by, number_length, escaped_by, escaped_length, is_pair, pair_token, number_at}
-use Rattle.vlog_tokens.proofs.Parts.{offset_grows}
+use Rattle.vlog_tokens.proofs.Parts.{offset_grows, front_given, unseen_after}
 use Rattle.vlog_tokens.proofs.Scanning.{keep_step, scan_stays, front_of}
-use Rattle.vlog_tokens.proofs.Reading.{gives_spot}
+use Rattle.vlog_tokens.proofs.Reading.{gives_spot, spot_unseen, spot_used_up}
 use Rattle.vlog_tokens.proofs.Marks.{reads_told}
 use Rattle.vlog_tokens.proofs.Streams.{Uses-unknown, passes_none, finds_token, finds_err}
 
@@ -66,6 +66,11 @@ shortens_after (Ok (Some x)) a b c le h = (omega (arith, h.0), h.1)
 shortens_after (Ok None) a b c le h = tt
 shortens_after (Err e) a b c le h = tt
 
+space_unseen : (r : Result (Option VFound) ReadError) (a b c : Window) → TakesWhenUsed a b → IfOk r (λ x. Shortens x b c) → IfOk r (λ x. UsesTo x c) → IfOk r (λ x. FoundUnseen x b c) → IfOk r (λ x. FoundUnseen x a c)
+space_unseen (Ok (Some x)) a b c lazy shorter to shown = unseen_after a b c x.stop lazy (omega (arith, shorter.0, to)) shown
+space_unseen (Ok None) a b c lazy shorter to shown = tt
+space_unseen (Err e) a b c lazy shorter to shown = tt
+
 -- the next token behind white space is the next
 pub finds_after : {a b c : Window} {l m n : Option (List ℕ)} {r : Result (Option VFound) ReadError} → Passes a b l m → Finds b c m n r → Finds a c l n r
 finds_after {a} {b} {c} {l} {m} {n} {r} p f = record {
@@ -75,6 +80,8 @@ finds_after {a} {b} {c} {l} {m} {n} {r} p f = record {
   shorter = shortens_after r a b c (omega (arith, offset_grows p.uses)) f.shorter;
   used_to = f.used_to;
   ended = f.ended;
+  unseen = space_unseen r a b c p.uses.lazy f.shorter f.used_to f.unseen;
+  used_up = f.used_up;
 }
 
 -- ---- what is found from what was read
@@ -95,6 +102,7 @@ pub record Front (a b : Window) (n : ℕ) (next : ℕ) : Type 0 where
   pub uses : (l : Option (List ℕ)) → Uses a b l l (take n a.held)
   pub count : length (take n a.held) ≡ n
   pub ahead : (l : Option (List ℕ)) → IsAhead b l (Some next)
+  pub same : given b ≡ given a
 
 pub front_used : {a b : Window} {n : ℕ} → n < length a.held → b.held ≡ drop n a.held → b.place ≡ place_past a.place (take n a.held) → Front a b n (get_or a.held n 0)
 front_used {a} {b} {n} more held place = record {
@@ -102,6 +110,7 @@ front_used {a} {b} {n} more held place = record {
   uses = λ l. Uses-front a b l n held place;
   count = omega (arith, length-take n a.held);
   ahead = λ l. (drop (suc n) a.held, held ∙ drop-cons a.held n 0 more);
+  same = front_given a b n held place;
 }
 
 ends_at : (phase : Phase) (text : List ℕ) (n next : ℕ) (tail : List ℕ) → next_step phase next ≡ Ends → scan_at phase text n (next ∷ tail) ≡ ended phase text n (Some next)
@@ -125,6 +134,8 @@ lexeme_held begins phase byte {a} {b} {n} {next} l text f some law ends item ite
           let spelled : lexeme_spelled begins byte bs ≡ finished piece item = ap (λ (r : Result (Piece scanning.Lexeme) Flaw). r >>= finish) scanned ∙ ap (finished piece) (sym item-is) in
           subst (λ (z : Result (Piece Item) Flaw). Answers a.place bs (GivesSpot a.place (take n a.held)) z (spot_of a.place stop item)) (sym spelled)
           (gives_spot a.place bs (take n a.held) piece item stop (omega (arith, stop-is)) (sym f.count));
+      unseen = spot_unseen a.place stop item a b (λ le. f.same);
+      used_up = spot_used_up a.place stop item b;
     }
   where
     some_used : (r : Result Spot ReadError) → OnOk r (0 < length (take n a.held))
@@ -202,7 +213,7 @@ word_found {a} {b} {byte} {n} l tail front begins near some whole held place tok
 
 -- nothing was used where memory ran out
 pub found_nothing : (w : Window) (l : Option (List ℕ)) → Finds w w l l (Err NoMemory)
-found_nothing w l = record { used = []; uses = Uses-none w l; told = free (ahead_of w l); shorter = tt; used_to = tt; ended = tt }
+found_nothing w l = record { used = []; uses = Uses-none w l; told = free (ahead_of w l); shorter = tt; used_to = tt; ended = tt; unseen = tt; used_up = λ is. absurd cc }
   where
     free : (o : Option (Ahead VFound)) → TellsKnown o (Err NoMemory) w o
     free None = refl
@@ -368,7 +379,7 @@ pair_found {a} {b} {byte} l tail front near pair held place p p-is token token-i
     let taken : take 2 a.held ≡ byte ∷ w.second ∷ [] = ap (take 2) w.front in
     let uses : Uses a b l l (byte ∷ w.second ∷ []) = subst (Uses a b l l) taken (Uses-front a b l 2 held place) in
     let spot : Spot = record { item = Token (pair_token byte); stop = a.place.offset + 2 } in
-    let reads = reads_told (item_by (start_of byte) byte) uses (omega arith) spot (record { value = Token (pair_token byte); count = 2; seen = 2 }) (λ rest known. w.spelled rest) refl refl in
+    let reads = reads_told (item_by (start_of byte) byte) uses (omega arith) spot (record { value = Token (pair_token byte); count = 2; seen = 2 }) (λ rest known. w.spelled rest) refl refl (λ le. front_given a b 2 held place) in
     rw (p-is, token-is) (token_found {a = a} {b = b} {l = l} {byte = byte} (pair_token byte) (a.place.offset + 2) (tail, front) reads (omega (arith, offset_grows uses)) (omega (arith, held_within a near, ap (λ (xs : List ℕ). length xs) w.front)))
 
 -- ---- what a byte begins

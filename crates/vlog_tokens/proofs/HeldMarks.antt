@@ -114,6 +114,7 @@ space_passed w b tail near ahead l =
       longest = sym (ap is_verilog_space next) ∙ prefix_len_stops is_verilog_space w.held 0 more;
       within = omega (arith, place_past-offset w.place (take n w.held), length-take n w.held, near);
       too_long = λ h. absurd cc;
+      used_up = λ h. absurd cc;
     } in
     passes_space skips
   where

@@ -19,7 +19,7 @@ use Rattle.vlog_tokens.specs.Spelling.{str_of, string_spelled}
 use Rattle.vlog_tokens.specs.Strings.{Parts, string_at, closed}
 use Rattle.vlog_tokens.specs.Finding.{Finds}
 use Rattle.vlog_tokens.specs.Held.{is_near, quoted_by, quoted_length}
-use Rattle.vlog_tokens.proofs.Parts.{offset_grows}
+use Rattle.vlog_tokens.proofs.Parts.{offset_grows, front_given}
 use Rattle.vlog_tokens.proofs.Strings.{plain_run, closing}
 use Rattle.vlog_tokens.proofs.Marks.{reads_told}
 use Rattle.vlog_tokens.proofs.Held.{held_within, token_found}
@@ -90,7 +90,7 @@ string_found {a} {b} {n} l tail front near small is held place value value-is p 
     let piece : Piece Item = record { value = Token (Str u); count = 1 + length u + 1; seen = 1 + length u + 1 } in
     let spot : Spot = record { item = Token (Str u); stop = a.place.offset + n + 2 } in
     let stop : a.place.offset + n + 2 ≡ a.place.offset + (1 + length u + 1) = omega (arith, count) in
-    let reads = reads_told string_spelled uses (omega (arith, all)) spot piece (λ rest known. str_is u rest q.each (omega (arith, count, q.more, len, small))) (ap (λ (i : ℕ). at_stop i) stop) (sym all) in
+    let reads = reads_told string_spelled uses (omega (arith, all)) spot piece (λ rest known. str_is u rest q.each (omega (arith, count, q.more, len, small))) (ap (λ (i : ℕ). at_stop i) stop) (sym all) (λ le. front_given a b (n + 2) held place) in
     rw (p-is, value-is) (token_found {a = a} {b = b} {l = l} {byte = 34} (Str u) (a.place.offset + n + 2) (tail, front) reads (omega (arith, offset_grows uses, all, count)) (omega (arith, held_within a near, len, q.more)))
   where
     at_stop : ℕ → Spot

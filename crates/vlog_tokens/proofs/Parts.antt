@@ -1,5 +1,5 @@
 -- One part of a token after another.
-use Rattle.std.proofs.Common.{◌≡◌, ℕ, ◌+◌, ◌<◌, Bool, true, false, cond, ltb, List, [], ◌∷◌, ◌++◌, length, get_or, take, drop, Option, Some, Result, Ok, Err, refl, sym, ap, ◌∙◌, subst, arith, length-append, append_assoc, add-zero}
+use Rattle.std.proofs.Common.{◌≡◌, ℕ, suc, ◌+◌, ◌<◌, ◌≤◌, Bool, true, false, cond, ltb, List, [], ◌∷◌, ◌++◌, length, get_or, take, drop, Option, Some, None, Result, Ok, Err, refl, sym, ap, ◌∙◌, subst, arith, inl, inr, length-append, length-take, length-drop, append_assoc, add-zero}
 use Rattle.std.proofs.lemmas.Bool.{ltb-true, ltb-false}
 use Rattle.nl_base.specs.declared.place.Place.{Place}
 use Rattle.nl_base.specs.declared.fault.Reason.{Reason}
@@ -11,11 +11,12 @@ use Rattle.nl_bytes.specs.declared.bytes.TheConstants.{LIMIT}
 use Rattle.nl_bytes.specs.declared.halt.Halt.{Halt}
 use Rattle.nl_bytes.specs.declared.halt.Halt.TheVariants as halts
 use Rattle.nl_bytes.specs.Halts.{error_of}
-use Rattle.nl_bytes.specs.Bytes.{Window, Uses, IsAhead, input, first}
+use Rattle.nl_bytes.specs.Bytes.{Window, Uses, TakesWhenUsed, IsAhead, input, first, given}
 use Rattle.nl_bytes.proofs.Uses.{Uses-byte, Uses-none, Uses-trans}
 use Rattle.nl_bytes.proofs.Known.{Uses-known, IsAhead-known}
 use Rattle.vlog_tokens.specs.Flaws.{Piece, Flaw, flaw}
 use Rattle.vlog_tokens.specs.Parts.{refusal, Reaches, Answers, Meaning, Continues, Part}
+use Rattle.vlog_tokens.specs.Scanning.{one_if}
 
 -- the bytes that are used take the reader on
 pub offset_grows : {old new : Window} {l l' : Option (List ℕ)} {used : List ℕ} → Uses old new l l' used → new.place.offset ≡ old.place.offset + length used
@@ -43,6 +44,19 @@ halted p bs Gives (Ok x) halts.TooLong late = late refl
 halted p bs Gives (Err x) halts.TooLong late = late refl
 halted p bs Gives (Ok x) halts.NoMemory late = tt
 halted p bs Gives (Err x) halts.NoMemory late = tt
+
+-- only a read that fails is a read fault
+pub failed_of : (h : Halt) → error_of h ≡ ReadFault → h ≡ halts.Failed
+failed_of halts.Failed is = refl
+failed_of halts.TooLong is = absurd cc
+failed_of halts.NoMemory is = absurd cc
+
+pub refusal_reads : (here : Place) (stop : ℕ) (reason : Reason) → refusal here stop reason ≡ ReadFault → ⊥
+refusal_reads here stop reason is = go (ltb LIMIT stop) is
+  where
+    go : (t : Bool) → cond t TooLong (Text (record { place = here; stop = stop; reason = reason })) ≡ ReadFault → ⊥
+    go true e = cc
+    go false e = cc
 
 -- an error answers, whatever would have been given
 pub Answers-err : {A B C : Type 0} (p : Place) (bs : List ℕ) (G : Piece A → B → Type 0) (H : Piece A → C → Type 0) (x : Result (Piece A) Flaw) (e : ReadError)
@@ -86,6 +100,7 @@ part_then {A} {X} {Y} {from} {mid} {to} {p} {a} {b} {c} {l} {m} {n} {x} {r} f t 
       (append_assoc front f.used k.0 ∙ ap (λ (xs : List ℕ). front ++ xs) (sym k.2))
       (ap (λ (i : ℕ). mid x i k.0) (length-append front f.used) ∙ sym one)
       (λ v. ap (λ (i : ℕ). to v i rest) (omega (arith, length-append front f.used, length-append f.used t.used))) two;
+  used_up = t.used_up;
 }
 
 -- bytes were used, and what they mean is known by computing
@@ -95,6 +110,7 @@ part_used {A} {X} {from} to p {a} {b} {l} {m} {used} u x law = record {
   used = used;
   uses = u;
   means = λ front bs rest place known new_known parts. ap (from (length front)) parts ∙ law (length front) rest;
+  used_up = tt;
 }
 
 -- nothing was used
@@ -115,6 +131,44 @@ steps {a} {b} {byte} {tail} ahead held place = record { tail = tail; ahead = ahe
 pub steps_use : {a b : Window} {byte : ℕ} → Steps a b byte → (l : Option (List ℕ)) → Uses a b l l (byte ∷ [])
 steps_use {a} {b} {byte} s l = Uses-byte a b l byte s.tail s.ahead s.held s.place
 
+-- nothing is taken for it
+pub steps_given : {a b : Window} {byte : ℕ} → Steps a b byte → given b ≡ given a
+steps_given {a} {b} {byte} s =
+    let offset : b.place.offset ≡ a.place.offset + 1 = ap (λ (q : Place). q.offset) s.place in
+    let kept : length b.held ≡ length (drop 1 a.held) = ap (λ (xs : List ℕ). length xs) s.held in
+    let some : length a.held ≡ suc (length s.tail) = ap (λ (xs : List ℕ). length xs) s.ahead in
+    omega (arith, offset, kept, some, length-drop 1 a.held)
+
+-- nothing is taken for bytes that are held
+pub front_given : (a b : Window) (n : ℕ) → b.held ≡ drop n a.held → b.place ≡ place_past a.place (take n a.held) → given b ≡ given a
+front_given a b n held place =
+    let offset : b.place.offset ≡ a.place.offset + length (take n a.held) = ap (λ (q : Place). q.offset) place ∙ place_past-offset a.place (take n a.held) in
+    let kept : length b.held ≡ length (drop n a.held) = ap (λ (xs : List ℕ). length xs) held in
+    omega (arith, offset, kept, length-take n a.held, length-drop n a.held)
+
+-- ---- nothing is taken for a stop within the bytes that were taken before
+
+-- the stop is just past the byte ahead, or at the end
+pub ahead_unseen : (a b : Window) (left : Option (List ℕ)) (next : Option ℕ) (stop : ℕ) → TakesWhenUsed a b → IsAhead b left next → stop ≡ b.place.offset + one_if next → stop ≤ given a → given b ≡ given a
+ahead_unseen a b left next stop (inl same) ahead is le = same
+ahead_unseen a b left None stop (inr used) ahead is le = omega (arith, used, is, le, ap (λ (xs : List ℕ). length xs) ahead.0)
+ahead_unseen a b left (Some byte) stop (inr used) ahead is le = absurd (omega (arith, used, is, le))
+
+-- the stop lies past the place at which the last byte was ahead
+pub last_unseen : (a : Window) {b c : Window} {byte : ℕ} (stop : ℕ) → TakesWhenUsed a b → Steps b c byte → b.place.offset < stop → stop ≤ given a → given c ≡ given a
+last_unseen a {b} {c} {byte} stop (inl same) s before le = steps_given s ∙ same
+last_unseen a {b} {c} {byte} stop (inr used) s before le = absurd (omega (arith, used, before, le))
+
+-- the stop lies past the place from which the token was read
+pub unseen_after : (a b c : Window) (stop : ℕ) → TakesWhenUsed a b → b.place.offset < stop → (stop ≤ given b → given c ≡ given b) → stop ≤ given a → given c ≡ given a
+unseen_after a b c stop (inl same) before next le = next (omega (arith, same, le)) ∙ same
+unseen_after a b c stop (inr used) before next le = absurd (omega (arith, used, before, le))
+
+-- of a fault the stop lies before the last byte that was taken
+pub fault_unseen : (a b : Window) (stop : ℕ) → TakesWhenUsed a b → b.place.offset ≤ stop → stop < given a → given b ≡ given a
+fault_unseen a b stop (inl same) after lt = same
+fault_unseen a b stop (inr used) after lt = absurd (omega (arith, used, after, lt))
+
 -- what was told of the part so far is told of the same meaning
 pub part_to : {A X Y : Type 0} {from : Meaning A} {mid : X → Meaning A} (to : Y → Meaning A) {p : Place} {a b : Window} {l m : Option (List ℕ)} {x : X} (y : Y)
     → Part from mid p a b l m (Ok x) → ((n : ℕ) (rest : List ℕ) → mid x n rest ≡ to y n rest) → Part from to p a b l m (Ok y)
@@ -122,6 +176,7 @@ part_to {A} {X} {Y} {from} {mid} to {p} {a} {b} {l} {m} {x} y f law = record {
   used = f.used;
   uses = f.uses;
   means = λ front bs rest place known new_known parts. f.means front bs rest place known new_known parts ∙ law (length front + length f.used) rest;
+  used_up = tt;
 }
 
 -- the same, where the next byte is known
@@ -131,6 +186,7 @@ part_ahead {A} {X} {Y} {from} {mid} to {p} {a} {b} {l} {m} {x} y next f ahead la
   used = f.used;
   uses = f.uses;
   means = λ front bs rest place known new_known parts. f.means front bs rest place known new_known parts ∙ law (length front + length f.used) rest (IsAhead-known b m next rest ahead new_known);
+  used_up = tt;
 }
 
 -- after an error it plays no part where the reader would have been
@@ -139,6 +195,7 @@ part_err f to = record {
   used = f.used;
   uses = f.uses;
   means = λ front bs rest place known new_known parts. f.means front bs rest place known new_known parts;
+  used_up = f.used_up;
 }
 
 pub reaches_late : {A : Type 0} (r : Result (Piece A) Flaw) (offset n : ℕ) → LIMIT < offset + n → Reaches 0 n r → Reaches offset (LIMIT + 1) r
@@ -147,9 +204,9 @@ reaches_late (Err f) offset n late h = omega (arith, h)
 
 -- the reader of bytes halts; what the bytes mean is seen from no fewer bytes than were read
 pub part_halted : {A X Y : Type 0} {from : Meaning A} {mid : X → Meaning A} {p : Place} {old new : Window} {l m : Option (List ℕ)} {x : X}
-    → Part from mid p old new l m (Ok x) → (to : Y → Meaning A) (h : Halt) → (h ≡ halts.TooLong → LIMIT < new.place.offset) → ((n : ℕ) (rest : List ℕ) → Reaches 0 n (mid x n rest))
+    → Part from mid p old new l m (Ok x) → (to : Y → Meaning A) (h : Halt) → (h ≡ halts.TooLong → LIMIT < new.place.offset) → (h ≡ halts.Failed → new.held ≡ []) → ((n : ℕ) (rest : List ℕ) → Reaches 0 n (mid x n rest))
     → Part from to p old new l m (Err (error_of h))
-part_halted {A} {X} {Y} {from} {mid} {p} {old} {new} {l} {m} {x} f to h late far = record {
+part_halted {A} {X} {Y} {from} {mid} {p} {old} {new} {l} {m} {x} f to h late empty far = record {
   used = f.used;
   uses = f.uses;
   means = λ front bs rest place known new_known parts.
@@ -158,6 +215,7 @@ part_halted {A} {X} {Y} {from} {mid} {p} {old} {new} {l} {m} {x} f to h late far
       let at = offset_at new p (front ++ f.used) (here_at f.uses p front place) in
       halted {A = A} {B = ℕ} p (front ++ bs) (λ _ _. ⊥) (from (length front) bs) h
       (λ is. let k = late is in rw one (reaches_late (mid x (length front + length f.used) rest) p.offset (length front + length f.used) (omega (arith, k, at, length-append front f.used)) seen));
+  used_up = λ is. empty (failed_of h is);
 }
 
 -- memory runs out
@@ -167,6 +225,7 @@ part_no_memory {A} {X} {Y} {from} {mid} {p} {old} {new} {l} {m} {x} f to = recor
   used = f.used;
   uses = f.uses;
   means = λ front bs rest place known new_known parts. halted {A = A} {B = ℕ} p (front ++ bs) (λ _ _. ⊥) (from (length front) bs) halts.NoMemory (λ is. absurd cc);
+  used_up = λ is. absurd cc;
 }
 
 -- what is refused: how many bytes stand before its place, how many were seen, and why
@@ -194,4 +253,5 @@ part_refused {A} {X} {Y} {from} {mid} {p} {old} {new} {l} {m} {x} f to here stop
       subst (λ (z : Result (Piece A) Flaw). Answers {A = A} {B = ℕ} p (front ++ bs) (λ _ _. ⊥) z (Err (refusal here stop reason))) meant
       (subst (λ (z : List ℕ). Answers {A = A} {B = ℕ} p z (λ _ _. ⊥) (flaw reason r.before r.seen) (Err (refusal here stop reason))) whole
       (refusal_answers {A = A} {B = ℕ} p ((front ++ f.used) ++ rest) (λ _ _. ⊥) reason r.before r.seen here stop r.here_is r.stop_is));
+  used_up = λ is. absurd (refusal_reads here stop reason is);
 }

@@ -5,14 +5,15 @@ use Rattle.nl_base.specs.declared.fault.ReadError.{ReadError}
 use Rattle.nl_base.specs.declared.fault.ReadError.TheVariants.{Text, ReadFault, TooLong, NoMemory, Spent}
 use Rattle.nl_base.specs.Faults.{OnText}
 use Rattle.nl_io.specs.Causes.{Rose}
-use Rattle.nl_bytes.specs.Bytes.{Window, Uses, given}
+use Rattle.nl_bytes.specs.Bytes.{Window, Uses, TakesWhenUsed, given}
 use Rattle.nl_bytes.specs.declared.bytes.TheConstants.{LIMIT}
 use Rattle.nl_bytes.proofs.Uses.{Uses-none}
-use Rattle.readers.specs.Sources.{Supply, Moves, NearError, NearToken, EndsInput, ReadsToken, excess, skip}
+use Rattle.readers.specs.Sources.{Supply, Moves, NearError, NearToken, EndsInput, TakesUnseen, ReadsToken, excess, skip}
 use Rattle.vlog_tokens.specs.declared.token.VFound.{VFound}
 use Rattle.vlog_tokens.specs.Language.{vlog, State}
-use Rattle.vlog_tokens.specs.Finding.{Finds, UsesTo, EndsAt}
-use Rattle.vlog_tokens.proofs.Parts.{offset_grows}
+use Rattle.vlog_tokens.specs.Parts.{UsedUp}
+use Rattle.vlog_tokens.specs.Finding.{FoundUnseen, Finds, UsesTo, EndsAt}
+use Rattle.vlog_tokens.proofs.Parts.{offset_grows, fault_unseen}
 
 abbrev pub supplied : Option (List ℕ) → ℕ → Supply
 supplied left faults = record { left = left; faults = faults }
@@ -23,7 +24,7 @@ none_past old new taken = omega (arith, taken)
 
 uses_moves : {old new : Window} {l l' : Option (List ℕ)} {used : List ℕ} → Uses old new l l' used → (f f' : ℕ) → f ≤ f' → excess new ≤ excess old → Moves old new (supplied l f) (supplied l' f')
 unfolding skip
-uses_moves u f f' count within = record { place = omega (arith, offset_grows u); taken = u.taken; left = u.suffix; faults = count; within = within }
+uses_moves u f f' count within = record { place = omega (arith, offset_grows u); taken = u.taken; left = u.suffix; faults = count; within = within; lazy = u.lazy }
 
 near_fault : (r : Result (Option VFound) ReadError) (w : Window) → OnText r (λ t. w.place.offset ≤ t.stop) → length w.held ≤ 4096 → IfErr r (λ e. NearError e w)
 unfolding NearError
@@ -43,6 +44,16 @@ ends_input : (r : Result (Option VFound) ReadError) (l : Option (List ℕ)) (f :
 ends_input (Ok (Some x)) l f h = tt
 ends_input (Ok None) l f h = h
 ends_input (Err e) l f h = tt
+
+-- for a fault it follows from how far bytes were used
+takes_unseen : (r : Result (Option VFound) ReadError) (old new : Window) → TakesWhenUsed old new → OnText r (λ t. new.place.offset ≤ t.stop) → IfOk r (λ x. FoundUnseen x old new) → UsedUp r new → TakesUnseen vlog r old new
+takes_unseen (Ok (Some x)) old new lazy to shown empty = shown
+takes_unseen (Ok None) old new lazy to shown empty = tt
+takes_unseen (Err (Text t)) old new lazy to shown empty = fault_unseen old new t.stop lazy to
+takes_unseen (Err ReadFault) old new lazy to shown empty = empty refl
+takes_unseen (Err TooLong) old new lazy to shown empty = tt
+takes_unseen (Err NoMemory) old new lazy to shown empty = tt
+takes_unseen (Err Spent) old new lazy to shown empty = tt
 
 at_error : (r : Result (Option VFound) ReadError) (e : ReadError) (P : Type 0) → (IsErrOf r e → P) → IfErr r (λ x. x ≡ e → P)
 at_error (Ok x) e P f = tt
@@ -83,6 +94,7 @@ reads_found {old} {new} {l} {l'} {r} {f} {f'} finds free to count cause held tak
   shorter = finds.shorter;
   after_token = near_token r new finds.used_to held;
   ended = ends_input r l' f' finds.ended;
+  unseen = takes_unseen r old new finds.uses.lazy to finds.unseen finds.used_up;
 }
 
 -- the reader that was spent
@@ -99,4 +111,5 @@ reads_spent w l f = record {
   shorter = tt;
   after_token = tt;
   ended = tt;
+  unseen = tt;
 }

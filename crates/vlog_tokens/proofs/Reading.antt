@@ -1,11 +1,11 @@
 -- From the parts of a token to what stands at a place.
-use Rattle.std.proofs.Common.{◌≡◌, ℕ, ◌+◌, ◌<◌, List, [], length, Option, Some, None, Result, Ok, Err, refl, sym, ap, ◌∙◌, subst, arith}
-use Rattle.std.specs.Prelude.{OnOk}
+use Rattle.std.proofs.Common.{◌≡◌, ℕ, ◌+◌, ◌<◌, ◌≤◌, List, [], length, Option, Some, None, Result, Ok, Err, refl, sym, ap, ◌∙◌, subst, arith}
+use Rattle.std.specs.Prelude.{IfOk, OnOk}
 use Rattle.nl_base.specs.declared.place.Place.{Place}
 use Rattle.nl_base.specs.declared.fault.Reason.TheVariants.{NumberRange}
 use Rattle.nl_base.specs.declared.fault.ReadError.{ReadError}
 use Rattle.nl_base.specs.declared.fault.ReadError.TheVariants.{Text, ReadFault, TooLong, NoMemory, Spent}
-use Rattle.nl_bytes.specs.Bytes.{Window, input, first}
+use Rattle.nl_bytes.specs.Bytes.{Window, input, first, given}
 use Rattle.nl_bytes.specs.declared.bytes.TheConstants.{LIMIT}
 use Rattle.nl_bytes.proofs.Known.{Uses-known, IsAhead-known}
 use Rattle.vlog_tokens.specs.declared.item.Item.{Item}
@@ -16,8 +16,8 @@ use Rattle.vlog_tokens.specs.Flaws.{Piece, Flaw, ◌>>=◌}
 use Rattle.vlog_tokens.specs.Scanning.{Lexeme, begun, kept, scan_at, scanned, one_if, StopsAt}
 use Rattle.vlog_tokens.specs.Items.{item_of, finish, finished}
 use Rattle.vlog_tokens.specs.Spelling.{lexeme_spelled}
-use Rattle.vlog_tokens.specs.Parts.{Reaches, Answers, GivesSpot, Meaning, Part, Reads, spot_of}
-use Rattle.vlog_tokens.proofs.Parts.{Steps, steps_use, part_used, offset_grows, refusal_answers}
+use Rattle.vlog_tokens.specs.Parts.{Reaches, Answers, GivesSpot, Meaning, UsedUp, Part, TokenUnseen, Reads, spot_of}
+use Rattle.vlog_tokens.proofs.Parts.{Steps, steps_use, part_used, offset_grows, refusal_answers, refusal_reads, ahead_unseen}
 
 -- a step that gives an item, or a flaw that is seen as late
 abbrev pub StepsOn : {A : Type 0} → (Piece A → Result (Piece Item) Flaw) → Type 0
@@ -59,13 +59,15 @@ reads_err {A} {X} {from} {to} {a} {b} {l} {m} {e} t f far spelled same = record 
       let k = Uses-known a b l m t.used bs t.uses known in
       let h = t.means [] bs k.0 refl known k.1 k.2 in
       subst (λ (z : Result (Piece Item) Flaw). Answers a.place bs (GivesSpot a.place t.used) z (Err e)) (sym (same bs)) (err_after a.place bs (GivesSpot a.place t.used) f (from 0 bs) e far h);
+  unseen = tt;
+  used_up = t.used_up;
 }
 
 -- a part that is whole, and what its bytes are
 pub reads_ok : {A X : Type 0} {from : Meaning A} {to : X → Meaning A} {a b : Window} {l m : Option (List ℕ)} {x : X} → (t : Part from to a.place a b l m (Ok x)) → (f : Piece A → Result (Piece Item) Flaw)
-    → (spelled : List ℕ → Result (Piece Item) Flaw) → ((bs : List ℕ) → spelled bs ≡ (from 0 bs >>= f)) → a.place.offset < b.place.offset → (r : Result Spot ReadError)
+    → (spelled : List ℕ → Result (Piece Item) Flaw) → ((bs : List ℕ) → spelled bs ≡ (from 0 bs >>= f)) → a.place.offset < b.place.offset → (r : Result Spot ReadError) → IfOk r (λ y. TokenUnseen y a b) → UsedUp r b
     → ((bs rest : List ℕ) → input b m ≡ Some rest → Answers a.place bs (GivesSpot a.place t.used) (to x (length t.used) rest >>= f) r) → Reads spelled a b l m r
-reads_ok {A} {X} {from} {to} {a} {b} {l} {m} {x} t f spelled same moved r give = record {
+reads_ok {A} {X} {from} {to} {a} {b} {l} {m} {x} t f spelled same moved r shown empty give = record {
   used = t.used;
   uses = t.uses;
   some = some_used r;
@@ -75,6 +77,8 @@ reads_ok {A} {X} {from} {to} {a} {b} {l} {m} {x} t f spelled same moved r give =
       let n : 0 + length t.used ≡ length t.used = omega arith in
       let meant : spelled bs ≡ (to x (length t.used) k.0 >>= f) = same bs ∙ ap (λ (z : Result (Piece A) Flaw). z >>= f) (h ∙ ap (λ (i : ℕ). to x i k.0) n) in
       subst (λ (z : Result (Piece Item) Flaw). Answers a.place bs (GivesSpot a.place t.used) z r) (sym meant) (give bs k.0 k.1);
+  unseen = shown;
+  used_up = empty;
 }
   where
     some_used : (r : Result Spot ReadError) → OnOk r (0 < length t.used)
@@ -100,9 +104,19 @@ gives_spot p bs used x (Some item) stop at count = (ap (λ (n : ℕ). spot n) at
     spot : ℕ → Spot
     spot n = record { item = item; stop = n }
 
+-- a number that is too large is no read that fails
+pub spot_used_up : (p : Place) (stop : ℕ) (item : Option Item) (w : Window) → UsedUp (spot_of p stop item) w
+spot_used_up p stop None w = λ is. absurd (refusal_reads p stop NumberRange is)
+spot_used_up p stop (Some item) w = tt
+
+pub spot_unseen : (p : Place) (stop : ℕ) (item : Option Item) (a b : Window) → (stop ≤ given a → given b ≡ given a) → IfOk (spot_of p stop item) (λ y. TokenUnseen y a b)
+spot_unseen p stop None a b h = tt
+spot_unseen p stop (Some item) a b h = λ token is. h
+
 pub lexeme_read : (begins : Phase) (byte : ℕ) {a b : Window} {l m : Option (List ℕ)} {x : Scanned} → Part (begun begins byte) scanned a.place a b l m (Ok x) → a.place.offset < b.place.offset → StopsAt b m x.stop
     → (item : Option Item) → item ≡ item_of x.phase x.text.items → (p : Place) → p ≡ a.place → Reads (lexeme_spelled begins byte) a b l m (spot_of p x.stop item)
 lexeme_read begins byte {a} {b} {l} {m} {x} t moved stop item item-is p p-is = reads_ok t finish (lexeme_spelled begins byte) (λ bs. refl) moved (spot_of p x.stop item)
+    (spot_unseen p x.stop item a b (ahead_unseen a b m stop.0 x.stop t.uses.lazy stop.1 stop.2)) (spot_used_up p x.stop item b)
     (λ bs rest known.
     let next = IsAhead-known b m stop.0 rest stop.1 known in
     let piece : Piece Lexeme = record { value = record { phase = x.phase; text = x.text.items }; count = length t.used; seen = length t.used + one_if (first rest) } in

@@ -66,6 +66,7 @@ class_stays {phase} {class} {m} {old} {new} {l} {l'} {before} {after} {r} k is m
   ahead = k.ahead;
   within = k.within;
   too_long = k.too_long;
+  used_up = k.used_up;
 }
 
 -- ---- how far a token is seen
@@ -116,6 +117,7 @@ looks {A} {X} {from} to p w l next x ahead law =
       uses = none.uses;
       means = λ front bs rest place known new_known parts.
           none.means front bs rest place known new_known parts ∙ law (length front + length none.used) rest (at_front w l next rest ahead new_known);
+      used_up = tt;
     }
 
 -- what is refused at the byte ahead, or at the end
@@ -199,7 +201,7 @@ pub stays_halted : (begins : Phase) (text : List ℕ) {phase : Phase} {a b c : W
     → Part {X = Unit {0}} (scan_at begins text) (λ _. scan_at phase before) p a b l m (Ok tt) → Stays phase b c m n before after (Err h) → {X : Type 0} (to : X → Meaning Lexeme)
     → Part (scan_at begins text) to p a c l n (Err (error_of h))
 stays_halted begins text {phase} {a} {b} {c} {l} {m} {n} {before} {after} {h} {p} f s {X} to =
-    part_halted (part_then f (stays_part s p)) to h (λ is. s.too_long (ap at_err is)) (λ k rest. scan_seen phase after k rest)
+    part_halted (part_then f (stays_part s p)) to h (λ is. s.too_long (ap at_err is)) (λ is. s.used_up (ap at_err is)) (λ k rest. scan_seen phase after k rest)
 
 pub part_goes_on : {from : Meaning Lexeme} {phase : Phase} {text : List ℕ} {p : Place} {a b : Window} {l m : Option (List ℕ)} (next : Phase)
     → Part from (After phase text) p a b l m (Ok (Some next)) → Part {X = Unit {0}} from (λ _. scan_at next text) p a b l m (Ok tt)

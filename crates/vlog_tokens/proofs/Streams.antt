@@ -30,12 +30,12 @@ use Rattle.vlog_tokens.specs.declared.token.VToken.{VToken}
 use Rattle.vlog_tokens.specs.Flaws.{Piece, Flaw}
 use Rattle.vlog_tokens.specs.Spelling.{item_at, item_by, start_of}
 use Rattle.vlog_tokens.specs.Language.{tokens_from, then_items, then_tokens, with_line, limited, stream_from}
-use Rattle.vlog_tokens.specs.Parts.{Answers, GivesSpot, Reads, refusal}
-use Rattle.vlog_tokens.specs.Finding.{ahead_of, Passed, Passes, Finds, found_or_late, UsesTo, EndsAt}
+use Rattle.vlog_tokens.specs.Parts.{Answers, GivesSpot, UsedUp, Reads, refusal}
+use Rattle.vlog_tokens.specs.Finding.{ahead_of, Passed, Passes, FoundUnseen, Finds, found_or_late, UsesTo, EndsAt}
 use Rattle.nl_base.specs.declared.fault.Reason.TheVariants.{BadByte}
 use Rattle.vlog_tokens.specs.declared.start.Start.{Start}
 use Rattle.vlog_tokens.specs.declared.start.Start.TheVariants.{Other}
-use Rattle.vlog_tokens.proofs.Parts.{offset_grows, refusal_answers}
+use Rattle.vlog_tokens.proofs.Parts.{offset_grows, refusal_answers, refusal_reads, failed_of, unseen_after}
 use Rattle.vlog_tokens.proofs.Scanning.{front_of, none_of}
 use Rattle.vlog_tokens.proofs.Within.{IsWithin, item_within}
 
@@ -222,6 +222,8 @@ finds_err {old} {mid} {new} {l} {m} {l'} {b} {e} p ahead t = record {
   shorter = tt;
   used_to = tt;
   ended = tt;
+  unseen = tt;
+  used_up = t.used_up;
 }
 
 -- the piece that an item gives
@@ -281,14 +283,15 @@ stream_is q rest = refl
 
 -- what holds of a token that was found
 abbrev Facts : Result (Option VFound) ReadError → Window → Window → Option (List ℕ) → Type 0
-Facts r old new l' = IfOk r (λ x. Shortens x old new) × IfOk r (λ x. UsesTo x new) × IfOk r (λ x. EndsAt x l')
+Facts r old new l' = IfOk r (λ x. Shortens x old new) × IfOk r (λ x. UsesTo x new) × IfOk r (λ x. EndsAt x l') × IfOk r (λ x. FoundUnseen x old new) × UsedUp r new
 
-found_facts : (p : Place) (stop : ℕ) (token : VToken) (r : Result (Option VFound) ReadError) (old new : Window) (l' : Option (List ℕ)) → r ≡ found_or_late p stop token → old.place.offset < new.place.offset → new.place.offset ≤ stop → Facts r old new l'
-found_facts p stop token r old new l' r-is moved to = subst (λ (z : Result (Option VFound) ReadError). Facts z old new l') (sym r-is) (go (ltb LIMIT stop) refl)
+found_facts : (p : Place) (stop : ℕ) (token : VToken) (r : Result (Option VFound) ReadError) (old new : Window) (l' : Option (List ℕ)) → r ≡ found_or_late p stop token → old.place.offset < new.place.offset → new.place.offset ≤ stop
+    → (stop ≤ given old → given new ≡ given old) → Facts r old new l'
+found_facts p stop token r old new l' r-is moved to shown = subst (λ (z : Result (Option VFound) ReadError). Facts z old new l') (sym r-is) (go (ltb LIMIT stop) refl)
   where
     go : (b : Bool) → ltb LIMIT stop ≡ b → Facts (cond b (Err TooLong) (Ok (Some (record { place = p; stop = stop; token = token })))) old new l'
-    go true e = (tt, tt, tt)
-    go false e = ((moved, omega (arith, ltb-false LIMIT stop e, to)), to, tt)
+    go true e = (tt, tt, tt, tt, λ is. absurd cc)
+    go false e = ((moved, omega (arith, ltb-false LIMIT stop e, to)), to, tt, shown, tt)
 
 pub finds_token : (token : VToken) {old mid new d : Window} {l m n o : Option (List ℕ)} {b : ℕ} {x : Spot} → Passes old mid l m → IsAhead mid m (Some b) → Reads (item_by (start_of b) b) mid new m n (Ok x) → Passed x.item new d n o (Ok (Some token))
     → (p : Place) → p ≡ mid.place → (r : Result (Option VFound) ReadError) → r ≡ found_or_late p x.stop token → new.place.offset ≤ x.stop → Finds old d l o r
@@ -296,7 +299,8 @@ finds_token token {old} {mid} {new} {d} {l} {m} {n} {o} {b} {x} passes ahead t p
     let same = token_passed x.item token new d n o passed in
     let r-mid : r ≡ found_or_late mid.place x.stop token = r-is ∙ ap (λ (q : Place). found_or_late q x.stop token) p-is in
     let moved : old.place.offset < new.place.offset = omega (arith, offset_grows passes.uses, offset_grows t.uses, t.some) in
-    let facts = found_facts mid.place x.stop token r old new n r-mid moved to in
+    let shown = unseen_after old mid new x.stop passes.uses.lazy (omega (arith, offset_grows t.uses, t.some, to)) (t.unseen token same.0) in
+    let facts = found_facts mid.place x.stop token r old new n r-mid moved to shown in
     let finds : Finds old new l n r = record {
       used = passes.used ++ t.used;
       uses = Uses-trans old mid new l m n passes.used t.used passes.uses t.uses;
@@ -308,6 +312,8 @@ finds_token token {old} {mid} {new} {d} {l} {m} {n} {o} {b} {x} passes ahead t p
       shorter = facts.0;
       used_to = facts.1;
       ended = facts.2;
+      unseen = facts.3;
+      used_up = facts.4;
     } in
     subst (λ (q : Option (List ℕ)). Finds old d l q r) (sym same.2) (subst (λ (w : Window). Finds old w l n r) (sym same.1) finds)
 
@@ -391,6 +397,8 @@ finds_halted {old} {mid} {new} {l} {m} {n} {h} p s =
       shorter = tt;
       used_to = tt;
       ended = tt;
+      unseen = tt;
+      used_up = λ is. s.used_up (ap at_err (failed_of h is));
     }
 
 line_halted : (item : Item) (new d : Window) (n o : Option (List ℕ)) (h : Halt) → Passed item new d n o (Err h) → (item ≡ Line) × Skips LineByte new d n o (Err h)
@@ -420,6 +428,8 @@ finds_line_halted h {old} {mid} {new} {d} {l} {m} {n} {o} {b} {x} p ahead t pass
       shorter = tt;
       used_to = tt;
       ended = tt;
+      unseen = tt;
+      used_up = λ is. skips.used_up (ap at_err (failed_of h is));
     }
 
 limited_end : (p : Place) → p.offset ≤ LIMIT → limited (only_end VFound p) ≡ only_end VFound p
@@ -440,6 +450,8 @@ finds_end {old} {mid} {new} {l} {m} {n} p s =
       shorter = tt;
       used_to = tt;
       ended = s.ahead.1;
+      unseen = tt;
+      used_up = tt;
     }
 
 -- a byte that begins nothing
@@ -450,6 +462,8 @@ other_read w l b other = record {
   some = tt;
   answer = λ bs known. subst (λ (s : Start). Answers w.place bs (GivesSpot w.place []) (item_by s b bs) (Err (refusal w.place (w.place.offset + 1) BadByte))) (sym other)
       (refusal_answers w.place bs (GivesSpot w.place []) BadByte 0 1 w.place (w.place.offset + 1) refl refl);
+  unseen = tt;
+  used_up = λ is. absurd (refusal_reads w.place (w.place.offset + 1) BadByte is);
 }
 
 passed_moves : (item : Item) (new d : Window) (n o : Option (List ℕ)) → Passed item new d n o (Ok None) → new.place.offset ≤ d.place.offset

@@ -25,7 +25,7 @@ use Rattle.vlog_tokens.specs.Flaws.{Piece, Flaw, flaw}
 use Rattle.vlog_tokens.specs.Spelling.{str_of, string_spelled}
 use Rattle.vlog_tokens.specs.Strings.{Within, Parts, Escape, Code, is_octal, escaped_by, is_full, part_by, escape_by, with_code, string_at, Closes, Codes, quoted, closed}
 use Rattle.vlog_tokens.specs.Parts.{refusal, Reaches, Answers, GivesSpot, Meaning, Part, Reads}
-use Rattle.vlog_tokens.proofs.Parts.{Refused, Steps, steps_use, part_used, part_then, part_halted, refusal_answers, here_at, offset_at, offset_grows}
+use Rattle.vlog_tokens.proofs.Parts.{Refused, Steps, steps_use, part_used, part_then, part_halted, refusal_answers, refusal_reads, here_at, offset_at, offset_grows, last_unseen}
 use Rattle.vlog_tokens.proofs.Scanning.{front_of, none_of, refuses, bad_here, bad_first, reaches_less}
 use Rattle.vlog_tokens.proofs.Reading.{StepsOn, reads_err, reads_ok}
 
@@ -122,6 +122,7 @@ refused_after {A} {X} {from} mid to p {a} {b} {l} {m} {used} u law here stop rea
       subst (λ (z : Result (Piece A) Flaw). Answers {A = A} {B = ℕ} p (front ++ bs) (λ _ _. ⊥) z (Err (refusal here stop reason))) meant
       (subst (λ (z : List ℕ). Answers {A = A} {B = ℕ} p z (λ _ _. ⊥) (flaw reason r.before r.seen) (Err (refusal here stop reason))) whole
       (refusal_answers {A = A} {B = ℕ} p ((front ++ used) ++ rest) (λ _ _. ⊥) reason r.before r.seen here stop r.here_is r.stop_is));
+  used_up = λ is. absurd (refusal_reads here stop reason is);
 }
 
 backslash : (v : List ℕ) (n : ℕ) (rest : List ℕ) → string_at Parts v n (92 ∷ rest) ≡ string_at Escape v (n + 1) rest
@@ -211,7 +212,7 @@ coded v {a} {b} {c} {d} {e} {l} {m} {n} {r} byte digit s u t is k =
 
 pub coded_halted : {v : List ℕ} {a e : Window} {l m : Option (List ℕ)} {h : Halt} → Coded v a e l m (Err h) → (x : List ℕ) (p : Place) → Part {X = Unit {0}} (string_at Parts v) (λ _. string_at Parts x) p a e l m (Err (error_of h))
 coded_halted {v} {a} {e} {l} {m} {h} k x p =
-    part_halted (part_used {X = Unit {0}} (λ _. string_at (Code k.code k.more) v) p k.uses tt k.law) (λ _. string_at Parts x) h (λ is. k.codes.3.too_long (ap at_err is)) (λ n rest. string_seen (Code k.code k.more) v n rest)
+    part_halted (part_used {X = Unit {0}} (λ _. string_at (Code k.code k.more) v) p k.uses tt k.law) (λ _. string_at Parts x) h (λ is. k.codes.3.too_long (ap at_err is)) (λ is. k.codes.3.used_up (ap at_err is)) (λ n rest. string_seen (Code k.code k.more) v n rest)
 
 over_code : (v : List ℕ) (code more b n : ℕ) (rest : List ℕ) → 0 < more → is_octal b ≡ true → 255 < 8 * code + (b - 48) → string_at (Code code more) v n (b ∷ rest) ≡ flaw BadEscape (n - (4 - more)) (n + 1)
 unfolding string_at
@@ -266,6 +267,7 @@ coded_added {v} {a} {e} {l} {m} {c} k x p room added = record {
       let same : c ≡ k.code = k.codes.3.ends.0 ∙ k.codes.4 in
       ap (string_at Parts v (length front)) parts ∙ k.law (length front) rest ∙ closes_at k v n rest new_known ∙ room_code v n (string_at Parts (v ++ k.code ∷ []) n rest) room
       ∙ ap (λ (xs : List ℕ). string_at Parts xs n rest) (ap (λ (z : ℕ). v ++ z ∷ []) (sym same) ∙ sym added);
+  used_up = tt;
 }
 
 -- what was refused where a byte was to be added
@@ -350,6 +352,8 @@ string_no_memory {a} {b} {c} {d} {quote} {m} {n} {used} s u z = record {
   uses = Uses-trans a c d m n n (quote ∷ [] ++ used) (34 ∷ []) (Uses-trans a b c m m n (quote ∷ []) used (steps_use s m) u) (steps_use z n);
   some = tt;
   answer = λ bs known. no_memory a.place bs (GivesSpot a.place ((quote ∷ [] ++ used) ++ 34 ∷ [])) (string_spelled bs);
+  unseen = tt;
+  used_up = λ is. absurd cc;
 }
 
 pub string_given : {a b c d : Window} {quote : ℕ} {m n : Option (List ℕ)} {v w : List ℕ} (p : Place) → Steps a b quote → v ≡ [] → p ≡ a.place → Part {X = Unit {0}} (string_at Parts v) (λ _. string_at Parts w) p b c m n (Ok tt) → Steps c d 34
@@ -361,7 +365,8 @@ string_given {a} {b} {c} {d} {quote} {m} {n} {v} {w} p s empty begins t z x x-is
     let last : d.place.offset ≡ c.place.offset + 1 = ap (λ (q : Place). q.offset) z.place in
     let first_byte : b.place.offset ≡ a.place.offset + 1 = ap (λ (q : Place). q.offset) s.place in
     let stop : c.place.offset + 1 ≡ a.place.offset + length whole.used = omega (arith, moved, last) in
-    reads_ok whole str_of string_spelled (λ bs. refl) (omega (arith, last, first_byte, offset_grows t.uses)) (Ok x) (λ bs rest known. (x-is ∙ ap (λ (i : ℕ). at_stop i) stop, refl))
+    let shown = last_unseen a x.stop inner.uses.lazy z (omega (arith, ap (λ (y : Spot). y.stop) x-is)) in
+    reads_ok whole str_of string_spelled (λ bs. refl) (omega (arith, last, first_byte, offset_grows t.uses)) (Ok x) (λ token at. shown) tt (λ bs rest known. (x-is ∙ ap (λ (i : ℕ). at_stop i) stop, refl))
   where
     at_stop : ℕ → Spot
     at_stop i = record { item = Token (Str w); stop = i }

@@ -6,7 +6,7 @@ use Rattle.nl_base.specs.declared.fault.ReadError.TheVariants.{TooLong}
 use Rattle.nl_bytes.specs.declared.bytes.TheConstants.{LIMIT}
 use Rattle.nl_bytes.specs.declared.class.Class.TheVariants.{LineByte}
 use Rattle.nl_bytes.specs.declared.halt.Halt.{Halt}
-use Rattle.nl_bytes.specs.Bytes.{Window, Uses, Skips, input}
+use Rattle.nl_bytes.specs.Bytes.{Window, Uses, Skips, input, given}
 use Rattle.readers.specs.Sources.{Ahead, TellsKnown, Shortens}
 use Rattle.std.specs.Io.KnownBytes.{IsAtEnd}
 use Rattle.vlog_tokens.specs.declared.item.Item.{Item}
@@ -14,6 +14,7 @@ use Rattle.vlog_tokens.specs.declared.item.Item.TheVariants.{Blank, Line, Token}
 use Rattle.vlog_tokens.specs.declared.token.VFound.{VFound}
 use Rattle.vlog_tokens.specs.declared.token.VToken.{VToken}
 use Rattle.vlog_tokens.specs.Language.{stream_from}
+use Rattle.vlog_tokens.specs.Parts.{UsedUp}
 
 -- the tokens that are ahead, where the source tells its bytes
 abbrev pub ahead_of : Window → Option (List ℕ) → Option (Ahead VFound)
@@ -40,6 +41,11 @@ abbrev pub EndsAt : Option VFound → Option (List ℕ) → Type 0
 EndsAt (Some f) left = ⊤
 EndsAt None left = IsAtEnd left
 
+-- nothing is taken for a token whose stop lies within the bytes taken before
+abbrev pub FoundUnseen : Option VFound → Window → Window → Type 0
+FoundUnseen (Some f) old new = f.stop ≤ given old → given new ≡ given old
+FoundUnseen None old new = ⊤
+
 -- the next token was read
 pub record Finds (old new : Window) (left left' : Option (List ℕ)) (result : Result (Option VFound) ReadError) : Type 0 where
   pub used : List ℕ
@@ -48,6 +54,8 @@ pub record Finds (old new : Window) (left left' : Option (List ℕ)) (result : R
   pub shorter : IfOk result (λ x. Shortens x old new)
   pub used_to : IfOk result (λ x. UsesTo x new)
   pub ended : IfOk result (λ x. EndsAt x left')
+  pub unseen : IfOk result (λ x. FoundUnseen x old new)
+  pub used_up : UsedUp result new
 
 -- white space was used, and the tokens ahead are the same
 pub record Passes (old new : Window) (left left' : Option (List ℕ)) : Type 0 where

@@ -1,5 +1,5 @@
 -- What the parts of a reader answer.
-use Rattle.std.specs.Prelude.{◌≡◌, ℕ, ◌+◌, ◌<◌, ◌≤◌, ◌++◌, nat_lt, if◌then◌else◌, List, length, OnOk, Option, Some, None, Result, Ok, Err, ⊤}
+use Rattle.std.specs.Prelude.{◌≡◌, ℕ, ◌+◌, ◌<◌, ◌≤◌, ◌++◌, nat_lt, if◌then◌else◌, List, [], length, IfOk, IfErr, OnOk, Option, Some, None, Result, Ok, Err, ⊤}
 use Rattle.nl_base.specs.declared.place.Place.{Place}
 use Rattle.nl_base.specs.declared.fault.TextFault.{TextFault}
 use Rattle.nl_base.specs.declared.fault.Reason.{Reason}
@@ -9,9 +9,11 @@ use Rattle.nl_base.specs.declared.fault.ReadError.TheVariants.{Text, ReadFault, 
 use Rattle.nl_base.specs.Place.{place_past}
 use Rattle.std.specs.Prelude.{take}
 use Rattle.nl_bytes.specs.declared.bytes.TheConstants.{LIMIT}
-use Rattle.nl_bytes.specs.Bytes.{Window, Uses, input}
+use Rattle.nl_bytes.specs.Bytes.{Window, Uses, input, given}
 use Rattle.vlog_tokens.specs.declared.item.Item.{Item}
+use Rattle.vlog_tokens.specs.declared.item.Item.TheVariants.{Token}
 use Rattle.vlog_tokens.specs.declared.item.Spot.{Spot}
+use Rattle.vlog_tokens.specs.declared.token.VToken.{VToken}
 use Rattle.vlog_tokens.specs.Flaws.{Piece, Flaw}
 
 -- a fault of a token that begins at a place, where `bs` are the bytes from there on
@@ -48,16 +50,25 @@ abbrev pub Continues : {A X : Type 0} → Place → List ℕ → Result (Piece A
 Continues p whole meant (Ok x) next = meant ≡ next x
 Continues {A = A} p whole meant (Err e) next = Answers {A = A} {B = ℕ} p whole (λ _ _. ⊥) meant (Err e)
 
+-- a read that fails was asked for with no byte at hand
+abbrev pub UsedUp : {X : Type 0} → Result X ReadError → Window → Type 0
+UsedUp r w = IfErr r (λ e. e ≡ ReadFault → w.held ≡ [])
+
 -- A part of the token that begins at p was read: before it the bytes mean `from`, and behind it the rest means `to`.
 pub record Part {A X : Type 0} (from : Meaning A) (to : X → Meaning A) (p : Place) (old new : Window) (left left' : Option (List ℕ)) (result : Result X ReadError) : Type 0 where
   pub used : List ℕ
   pub uses : Uses old new left left' used
   pub means : (front bs rest : List ℕ) → old.place ≡ place_past p front → input old left ≡ Some bs → input new left' ≡ Some rest → bs ≡ used ++ rest
       → Continues p (front ++ bs) (from (length front) bs) result (λ x. to x (length front + length used) rest)
+  pub used_up : UsedUp result new
 
 -- What a call answers of what some bytes are: the item, and the offset where it is known.
 abbrev pub GivesSpot : Place → List ℕ → Piece Item → Spot → Type 0
 GivesSpot p used piece x = (x ≡ record { item = piece.value; stop = p.offset + piece.seen }) × (piece.count ≡ length used)
+
+-- nothing is taken for a token whose stop lies within the bytes taken before
+abbrev pub TokenUnseen : Spot → Window → Window → Type 0
+TokenUnseen x old new = (token : VToken) → x.item ≡ Token token → x.stop ≤ given old → given new ≡ given old
 
 -- What stands at the place of a reader was read, which is spelled so.
 pub record Reads (spelled : List ℕ → Result (Piece Item) Flaw) (old new : Window) (left left' : Option (List ℕ)) (result : Result Spot ReadError) : Type 0 where
@@ -65,6 +76,8 @@ pub record Reads (spelled : List ℕ → Result (Piece Item) Flaw) (old new : Wi
   pub uses : Uses old new left left' used
   pub some : OnOk result (0 < length used)
   pub answer : (bs : List ℕ) → input old left ≡ Some bs → Answers old.place bs (GivesSpot old.place used) (spelled bs) result
+  pub unseen : IfOk result (λ x. TokenUnseen x old new)
+  pub used_up : UsedUp result new
 
 -- an item with its stop, or the refusal of a number that is too large
 abbrev pub spot_of : Place → ℕ → Option Item → Result Spot ReadError

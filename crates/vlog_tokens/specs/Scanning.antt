@@ -4,7 +4,7 @@ use Rattle.nl_base.specs.declared.fault.Reason.TheVariants.{EndOfInput, BadByte,
 use Rattle.vlog_tokens.specs.declared.phase.Phase.{Phase}
 use Rattle.nl_bytes.specs.Bytes.{Window, Uses, IsAhead, first}
 use Rattle.nl_bytes.specs.declared.halt.Halt.{Halt}
-use Rattle.nl_bytes.specs.declared.halt.Halt.TheVariants.{TooLong}
+use Rattle.nl_bytes.specs.declared.halt.Halt.TheVariants.{TooLong, Failed}
 use Rattle.nl_bytes.specs.declared.bytes.TheConstants.{LIMIT}
 use Rattle.vlog_tokens.specs.declared.scan.Scanned.{Scanned}
 use Rattle.vlog_tokens.specs.declared.phase.Phase.TheVariants.{Word, Escape, Escaped, Whole, Point, Fraction, Mark, Sign, Exponent, Prefix, Signed, Letter, Digits, Unknown, Grave, Directive}
@@ -72,6 +72,7 @@ pub record Stays (phase : Phase) (old new : Window) (left left' : Option (List �
   pub ahead : IfOk result (IsAhead new left')
   pub within : OnOk result (new.place.offset ≤ LIMIT)
   pub too_long : IsErrOf result TooLong → LIMIT < new.place.offset
+  pub used_up : IsErrOf result Failed → new.held ≡ []
 
 -- what the bytes mean behind a byte: those of a token that goes on, or of one that has ended
 abbrev pub after_byte : Option Phase → Phase → List ℕ → ℕ → List ℕ → Result (Piece Lexeme) Flaw

@@ -3,7 +3,7 @@ use Rattle.std.specs.Prelude.{◌≡◌, ℕ, ◌+◌, ◌-◌, ◌*◌, ◌<◌
 use Rattle.nl_base.specs.declared.fault.Reason.TheVariants.{EndOfInput, BadByte, BadEscape, TokenTooLong}
 use Rattle.nl_bytes.specs.Bytes.{Window, Uses, IsAhead, input}
 use Rattle.nl_bytes.specs.declared.halt.Halt.{Halt}
-use Rattle.nl_bytes.specs.declared.halt.Halt.TheVariants.{TooLong}
+use Rattle.nl_bytes.specs.declared.halt.Halt.TheVariants.{TooLong, Failed}
 use Rattle.nl_bytes.specs.declared.bytes.TheConstants.{LIMIT}
 use Rattle.nl_bytes.specs.Classes.{is_verilog_string_byte}
 use Rattle.vlog_tokens.specs.declared.string.Escaped.{Escaped}
@@ -96,6 +96,7 @@ pub record Codes (begun : ℕ) (old new : Window) (left left' : Option (List ℕ
   pub both : length used + more ≡ 2
   pub ends : IfOk result (λ c. EndsCode code more c new left')
   pub too_long : IsErrOf result TooLong → LIMIT < new.place.offset
+  pub used_up : IsErrOf result Failed → new.held ≡ []
 
 -- a string whose first quote is at its first byte
 abbrev pub quoted : ℕ → List ℕ → Result (Piece (List ℕ)) Flaw

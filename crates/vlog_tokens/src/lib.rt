@@ -6,8 +6,9 @@
 // the first fault of the bytes with its place, stop and reason; or that the input ends. Comments and the directives
 // `timescale`, `celldefine` and `endcelldefine` are white space. Each token, fault or end that it answers has its stop within
 // 268,435,456 bytes. It uses at most one byte past them, which tells that the input is longer, and holds at most 4,096 bytes
-// from its place on. It takes at most 4,096 bytes behind the stop of what it answers, and whatever it answers no more than
-// 4,096 past the limit. After any error it answers `Spent`.
+// from its place on. It takes bytes only where all that it took before are used, and none for a token whose end those show. It
+// takes at most 4,096 bytes behind the stop of what it answers, and whatever it answers no more than 4,096 past the limit.
+// After any error it answers `Spent`.
 #![tactic(auto)]
 
 pub mod finding;

@@ -128,6 +128,9 @@ impl VTokens {
     /// - `ReadFault` only where the source's count of faults rose in this call;
     /// - `Spent` exactly where the reader was spent.
     ///
+    /// Bytes are taken only where all that were taken before are used. None are taken for a token whose stop lies within those,
+    /// nor for a fault whose stop lies before their end, and a read that fails was asked for with no byte at hand.
+    ///
     /// Any error spends it for good, and an `Ok` does not. Whatever it answers, no more than 268,435,456 + 4,096 bytes were ever
     /// taken from the source.
     pub fn next<S: Source>(

@@ -14,7 +14,7 @@ pub returns-in_err-next-clause-reads : goal.returns-in_err-next-clause-reads
 returns-in_err-next-clause-reads g c =
     let p = err_from_is_err_and c.from_residual.result c.from_residual.ensures.1 in
     let skips = c.in_err-next.ensures.skips in
-    rw (p.1, p.2) (part_halted (part_trans c.loop-next.invariant.part (part_space skips c.loop-next.coded _ _ _)) _ _ _ (λ is. skips.too_long (ap at_err is)))
+    rw (p.1, p.2) (part_halted (part_trans c.loop-next.invariant.part (part_space skips c.loop-next.coded _ _ _)) _ _ _ (λ is. skips.too_long (ap at_err is)) (λ is. skips.used_up (ap at_err is)))
 
 pub returns-in_default-clause-reads : goal.returns-in_default-clause-reads
 returns-in_default-clause-reads g c =

@@ -12,7 +12,7 @@ pub returns-in_err-next-clause-reads : goal.returns-in_err-next-clause-reads
 returns-in_err-next-clause-reads g c =
     let p = err_from_is_err_and c.from_residual.result c.from_residual.ensures.1 in
     let runs = c.in_err-next.ensures.runs in
-    rw (p.1, p.2) (part_halted (part_trans c.parts.invariant.part (plain_part runs (omega (arith, c.len.ensures, c.saturating_sub-most.ensures)) _ _)) _ _ _ (λ is. runs.too_long (ap at_err is)))
+    rw (p.1, p.2) (part_halted (part_trans c.parts.invariant.part (plain_part runs (omega (arith, c.len.ensures, c.saturating_sub-most.ensures)) _ _)) _ _ _ (λ is. runs.too_long (ap at_err is)) (λ is. runs.used_up (ap at_err is)))
 
 pub returns-in_default-clause-reads : goal.returns-in_default-clause-reads
 returns-in_default-clause-reads g c =

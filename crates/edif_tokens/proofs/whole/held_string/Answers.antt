@@ -1,8 +1,14 @@
 use Rattle.std.proofs.Common.{ℕ, List, ◌∙◌, ◌-◌, ap, sym, take, drop, refl, arith}
+use Rattle.std.proofs.lemmas.Result.{err_from_is_err_and}
 use Rattle.nl_base.specs.declared.place.Place.{Place}
-use Rattle.edif_tokens.proofs.Held.{string_whole, string_each, string_stop}
+use Rattle.edif_tokens.proofs.Held.{string_whole, string_each, string_stop, reads_nothing}
 use Rattle.edif_tokens.proofs.Quoted.{Steps}
 use Rattle.edif_tokens.proofs.whole.held_string.Goals as goal
+
+pub returns-in_err-text-clause-reads : goal.returns-in_err-text-clause-reads
+returns-in_err-text-clause-reads g c =
+    let p = err_from_is_err_and c.from_residual.result c.from_residual.ensures.1 in
+    rw (p.1, p.2) (reads_nothing _ _ _ _)
 
 pub pass-requires-clause-each : goal.pass-requires-clause-each
 pass-requires-clause-each g c =

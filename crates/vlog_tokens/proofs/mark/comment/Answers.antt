@@ -20,7 +20,7 @@ returns-in_err-after-clause-part g c =
     let p = err_from_is_err_and c.from_residual-in_err-after.result c.from_residual-in_err-after.ensures.1 in
     let skips = rw c.in-Some.is at c.in_ok-next.ensures.skips in
     let s = steps (skips.ahead.1) (c.advance.ensures.held) (c.advance.ensures.place) in
-    λ q. rw (p.1, p.2) (star_halted q (part_then (c.comment.invariant.part q) (comment_part skips q)) s skips.longest c.in_err-after.ensures.none_used (λ is. c.in_err-after.ensures.too_long (ap at_err is)))
+    λ q. rw (p.1, p.2) (star_halted q (part_then (c.comment.invariant.part q) (comment_part skips q)) s skips.longest c.in_err-after.ensures.none_used (λ is. c.in_err-after.ensures.too_long (ap at_err is)) (λ is. c.in_err-after.ensures.used_up (ap at_err is)))
 
 pub returns-then-is_slash-clause-part : goal.returns-then-is_slash-clause-part
 returns-then-is_slash-clause-part g c =

@@ -9,7 +9,7 @@ use Rattle.vlog_tokens.proofs.string.code.Goals as goal
 pub returns-then-more-eq0-clause-codes : goal.returns-then-more-eq0-clause-codes
 returns-then-more-eq0-clause-codes g c =
     let i = c.digits.invariant in
-    record { used = i.used; code = c.digits.code; more = c.digits.more; uses = i.uses; digits = i.digits; both = i.both; ends = (refl, closes_full c.digits.code c.digits.more c.digits.bytes (g.S.Source.left c.digits.source) c.if-more-eq0.true); too_long = λ h. absurd cc }
+    record { used = i.used; code = c.digits.code; more = c.digits.more; uses = i.uses; digits = i.digits; both = i.both; ends = (refl, closes_full c.digits.code c.digits.more c.digits.bytes (g.S.Source.left c.digits.source) c.if-more-eq0.true); too_long = λ h. absurd cc; used_up = λ h. absurd cc }
 
 pub returns-in_default-clause-codes : goal.returns-in_default-clause-codes
 returns-in_default-clause-codes g c =
@@ -23,6 +23,7 @@ returns-in_default-clause-codes g c =
       both = i.both;
       ends = (refl, closes_end c.digits.code c.digits.more c.peek.new.self (g.S.Source.left c.peek.new.source) (rw c.in_default.is at c.in_ok-next.ensures.ahead));
       too_long = λ h. absurd cc;
+      used_up = λ h. absurd cc;
     }
 
 pub returns-then-not-is_octal-clause-codes : goal.returns-then-not-is_octal-clause-codes
@@ -38,6 +39,7 @@ returns-then-not-is_octal-clause-codes g c =
       both = i.both;
       ends = (refl, closes_other c.digits.code c.digits.more c.in-Some.b c.peek.new.self (g.S.Source.left c.peek.new.source) (rw c.in-Some.is at c.in_ok-next.ensures.ahead) other);
       too_long = λ h. absurd cc;
+      used_up = λ h. absurd cc;
     }
 
 pub returns-then-value-gt255-clause-codes : goal.returns-then-value-gt255-clause-codes
@@ -53,6 +55,7 @@ returns-then-value-gt255-clause-codes g c =
       both = i.both;
       ends = record { next = c.in-Some.b; ahead = rw c.in-Some.is at c.in_ok-next.ensures.ahead; some = omega (arith, c.if-more-eq0.false); octal = octal; above = omega (arith, c.from.ensures, c.from-in-digits.ensures, c.if-value-gt255.true) };
       too_long = λ h. absurd cc;
+      used_up = λ h. absurd cc;
     }
 
 pub digits-preserved : goal.digits-preserved

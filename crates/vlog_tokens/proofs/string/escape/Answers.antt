@@ -10,7 +10,7 @@ pub returns-in_err-next-clause-part : goal.returns-in_err-next-clause-part
 returns-in_err-next-clause-part g c =
     let p = err_from_is_err_and c.from_residual.result c.from_residual.ensures.1 in
     let s = steps (c.requires.ahead.1) (c.advance.ensures.held) (c.advance.ensures.place) in
-    rw (p.1, p.2) (part_halted (backslash_part _ _ s c.in_err-next.ensures.none_used) _ _ (λ is. c.in_err-next.ensures.too_long (ap at_err is)) (λ n rest. string_seen Escape _ n rest))
+    rw (p.1, p.2) (part_halted (backslash_part _ _ s c.in_err-next.ensures.none_used) _ _ (λ is. c.in_err-next.ensures.too_long (ap at_err is)) (λ is. c.in_err-next.ensures.used_up (ap at_err is)) (λ n rest. string_seen Escape _ n rest))
 
 pub returns-in_default-clause-part : goal.returns-in_default-clause-part
 returns-in_default-clause-part g c =

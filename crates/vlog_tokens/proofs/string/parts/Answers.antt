@@ -11,7 +11,7 @@ pub returns-in_err-next-clause-part : goal.returns-in_err-next-clause-part
 returns-in_err-next-clause-part g c =
     let p = err_from_is_err_and c.from_residual.result c.from_residual.ensures.1 in
     let runs = c.in_err-next.ensures.runs in
-    rw (p.1, p.2) (part_halted (part_then c.parts.invariant.part (plain_part runs (omega (arith, c.len.ensures, c.saturating_sub-most.ensures)) _)) _ _ (λ is. runs.too_long (ap at_err is)) (λ n rest. string_seen Parts _ n rest))
+    rw (p.1, p.2) (part_halted (part_then c.parts.invariant.part (plain_part runs (omega (arith, c.len.ensures, c.saturating_sub-most.ensures)) _)) _ _ (λ is. runs.too_long (ap at_err is)) (λ is. runs.used_up (ap at_err is)) (λ n rest. string_seen Parts _ n rest))
 
 pub returns-in_default-clause-part : goal.returns-in_default-clause-part
 returns-in_default-clause-part g c =
