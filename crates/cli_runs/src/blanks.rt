@@ -12,9 +12,7 @@ use nl_io::{Failed, Source};
 pub struct Blanks;
 
 impl Source for Blanks {
-    ghost left = { λ _. None };
-
-    ghost faults = { λ _. 0 };
+    ghost supply = { λ _. record { left = None; faults = 0 } };
 
     fn take(&mut self, buf: &mut [u8]) -> Result<usize, Failed>
         requires { 0 < length buf.old }

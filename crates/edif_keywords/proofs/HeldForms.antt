@@ -7,7 +7,7 @@ use Rattle.edif_tokens.specs.Held as tokens
 use Rattle.edif_tokens.specs.HeldForm.{no_form}
 use Rattle.edif_tokens.specs.HeldForm as forms
 use Rattle.edif_tokens.proofs.HeldForms as held
-use Rattle.readers.specs.Sources.{Supply}
+use Rattle.nl_io.specs.Sources.{Supply}
 use Rattle.readers.specs.Readers.{Reader, Reads, same}
 use Rattle.readers.proofs.Chain.{reads_then, maybe_reads}
 use Rattle.edif_values.specs.declared.keyword.Keyword.{Keyword}

@@ -6,7 +6,8 @@ use Rattle.nl_bytes.specs.Bytes.{Window, input}
 use Rattle.edif_tokens.specs.declared.token.Found.{Found}
 use Rattle.edif_tokens.specs.Streams as streams
 use Rattle.edif_tokens.specs.Stream.{stream_from, stop_of}
-use Rattle.readers.specs.Sources.{Supply, ReadsToken, TellsKnown, NearError, NearToken, EndsInput, Shortens, TakesUnseen, excess, skip, tokens_ahead}
+use Rattle.nl_io.specs.Sources.{Supply}
+use Rattle.readers.specs.Sources.{ReadsToken, TellsKnown, NearError, NearToken, EndsInput, Shortens, TakesUnseen, excess, skip, tokens_ahead}
 use Rattle.edif_keywords.specs.Language.{edif, ahead_of}
 
 ahead_known : (w : Window) (i : Supply) → tokens_ahead edif w i ≡ option_map ahead_of (streams.stream_ahead stream_from w i.left)

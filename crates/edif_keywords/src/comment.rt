@@ -1,4 +1,3 @@
-ghost use Rattle.readers.specs.Sources.{supply};
 ghost use Rattle.readers.specs.Readers.{same, Reads};
 ghost use Rattle.edif_keywords.specs.Language.{edif};
 ghost use Rattle.edif_keywords.specs.Grammar.{comment};
@@ -15,7 +14,7 @@ pub fn read_comment<S: Source>(
     cursor: &mut Cursor,
     source: &mut S,
 ) -> Result<Seq<Text>, ReadError>
-    ensures { Reads edif same comment result cursor.old cursor.new (supply S.left S.faults source.old) (supply S.left S.faults source.new) }
+    ensures { Reads edif same comment result cursor.old cursor.new (S.supply source.old) (S.supply source.new) }
 {
     let mut texts = Seq::empty(alloc);
     while cursor.at_string(alloc, source)? {

@@ -1,6 +1,6 @@
 ghost use Rattle.std.specs.Prelude.{◌≡◌, ◌<◌, ◌≤◌, ℕ, length, None, Some, [], IfOk, OnOk, IfSome, IsSome, IsNone, IsTrue, IsFalse, option_map};
 ghost use Rattle.readers.specs.Parts.{any};
-ghost use Rattle.readers.specs.Sources.{supply, IsNear};
+ghost use Rattle.readers.specs.Sources.{IsNear};
 ghost use Rattle.readers.specs.Readers.{same, fault_at, end_fault, spoilt, Reads, Looks, LooksAt, LooksFor, Ends, Adds};
 ghost use Rattle.grammar.specs.Whole.{proper};
 ghost use Rattle.edif_keywords.specs.Calls.{is_unlooked, held_mark, past_mark, held_word, past_word, form_at, form_word, past_form, answer, left_after};
@@ -170,7 +170,7 @@ impl Cursor {
         alloc: Global,
         source: &mut S,
     ) -> Result<Found, ReadError>
-        ensures reads { Reads edif same any result self.old self.new (supply S.left S.faults source.old) (supply S.left S.faults source.new) }
+        ensures reads { Reads edif same any result self.old self.new (S.supply source.old) (S.supply source.new) }
         ensures near { IfOk result (λ x. IsNear self.new.window x.stop) }
     {
         if self.spent {
@@ -225,7 +225,7 @@ impl Cursor {
 
     /// Makes the next token the one ahead, and answers whether there is one. It takes nothing.
     pub fn look<S: Source>(&mut self, alloc: Global, source: &mut S) -> Result<bool, ReadError>
-        ensures { Looks edif result self.old self.new (supply S.left S.faults source.old) (supply S.left S.faults source.new) }
+        ensures { Looks edif result self.old self.new (S.supply source.old) (S.supply source.new) }
     {
         if self.spent {
             return Err(ReadError::Spent);
@@ -253,7 +253,7 @@ impl Cursor {
 
     /// Answers whether the next token, which has to be there, is `(`. It takes nothing.
     pub fn at_form<S: Source>(&mut self, alloc: Global, source: &mut S) -> Result<bool, ReadError>
-        ensures looks { LooksAt edif opens result self.old self.new (supply S.left S.faults source.old) (supply S.left S.faults source.new) }
+        ensures looks { LooksAt edif opens result self.old self.new (S.supply source.old) (S.supply source.new) }
     {
         if let Some(mark) = self.held_mark() {
             return Ok(mark == b'(');
@@ -269,7 +269,7 @@ impl Cursor {
     #[inline(never)]
     #[tactic(auto, using(crate::proofs::Looks::forms_next))]
     pub fn look_form<S: Source>(&mut self, alloc: Global, source: &mut S) -> Result<bool, ReadError>
-        ensures looks { LooksAt edif opens result self.old self.new (supply S.left S.faults source.old) (supply S.left S.faults source.new) }
+        ensures looks { LooksAt edif opens result self.old self.new (S.supply source.old) (S.supply source.new) }
         ensures ahead { OnOk result (IsSome self.new.ahead) }
     {
         self.look(alloc, source)?;
@@ -282,7 +282,7 @@ impl Cursor {
     /// Answers whether there is a next token and it is a string. It takes nothing.
     #[tactic(auto, using(crate::proofs::Looks::strings_next))]
     pub fn at_string<S: Source>(&mut self, alloc: Global, source: &mut S) -> Result<bool, ReadError>
-        ensures { LooksFor edif has_string result self.old self.new (supply S.left S.faults source.old) (supply S.left S.faults source.new) }
+        ensures { LooksFor edif has_string result self.old self.new (S.supply source.old) (S.supply source.new) }
     {
         self.look(alloc, source)?;
         if let Some(found) = &self.ahead {
@@ -310,7 +310,7 @@ impl Cursor {
         alloc: Global,
         source: &mut S,
     ) -> Result<(), ReadError>
-        ensures { Ends edif trailing result self.old self.new (supply S.left S.faults source.old) (supply S.left S.faults source.new) }
+        ensures { Ends edif trailing result self.old self.new (S.supply source.old) (S.supply source.new) }
     {
         if self.look(alloc, source)? {
             return Err(self.refuse(Reason::Trailing));

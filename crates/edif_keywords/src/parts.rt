@@ -1,6 +1,5 @@
 // The calls that take one token, or the beginning of a form.
 ghost use Rattle.std.specs.Prelude.{◌≡◌};
-ghost use Rattle.readers.specs.Sources.{supply};
 ghost use Rattle.readers.specs.Readers.{same, Reads};
 ghost use Rattle.edif_keywords.specs.Language.{edif};
 ghost use Rattle.edif_keywords.specs.Grammar.{word, string, integer, opening, closing, choice, view_type, keyword, begin};
@@ -20,7 +19,7 @@ use std::alloc::Global;
 impl Cursor {
     /// Takes a token: a word.
     pub fn word<S: Source>(&mut self, alloc: Global, source: &mut S) -> Result<Ident, ReadError>
-        ensures { Reads edif same word result self.old self.new (supply S.left S.faults source.old) (supply S.left S.faults source.new) }
+        ensures { Reads edif same word result self.old self.new (S.supply source.old) (S.supply source.new) }
     {
         let held = self.held_word();
         let count = held.len();
@@ -37,7 +36,7 @@ impl Cursor {
     /// Takes any token, which has to be a word.
     #[inline(never)]
     fn word_token<S: Source>(&mut self, alloc: Global, source: &mut S) -> Result<Ident, ReadError>
-        ensures { Reads edif same word result self.old self.new (supply S.left S.faults source.old) (supply S.left S.faults source.new) }
+        ensures { Reads edif same word result self.old self.new (S.supply source.old) (S.supply source.new) }
     {
         let Found { place, stop, token } = self.take(alloc, source)?;
         self.judged(place, stop, word_of(token))
@@ -45,7 +44,7 @@ impl Cursor {
 
     /// Takes a token: a string.
     pub fn string<S: Source>(&mut self, alloc: Global, source: &mut S) -> Result<Text, ReadError>
-        ensures { Reads edif same string result self.old self.new (supply S.left S.faults source.old) (supply S.left S.faults source.new) }
+        ensures { Reads edif same string result self.old self.new (S.supply source.old) (S.supply source.new) }
     {
         let Found { place, stop, token } = self.take(alloc, source)?;
         self.judged(place, stop, string_of(token))
@@ -53,7 +52,7 @@ impl Cursor {
 
     /// Takes a token: an integer.
     pub fn int<S: Source>(&mut self, alloc: Global, source: &mut S) -> Result<Int, ReadError>
-        ensures { Reads edif same integer result self.old self.new (supply S.left S.faults source.old) (supply S.left S.faults source.new) }
+        ensures { Reads edif same integer result self.old self.new (S.supply source.old) (S.supply source.new) }
     {
         let Found { place, stop, token } = self.take(alloc, source)?;
         self.judged(place, stop, integer_of(token))
@@ -61,7 +60,7 @@ impl Cursor {
 
     /// Takes a token: a `(` after which no keyword is due.
     pub fn begin_list<S: Source>(&mut self, alloc: Global, source: &mut S) -> Result<(), ReadError>
-        ensures { Reads edif same opening result self.old self.new (supply S.left S.faults source.old) (supply S.left S.faults source.new) }
+        ensures { Reads edif same opening result self.old self.new (S.supply source.old) (S.supply source.new) }
     {
         if let Some(mark) = self.held_mark() {
             if mark == b'(' {
@@ -75,7 +74,7 @@ impl Cursor {
     /// Takes any token, which has to be `(`.
     #[inline(never)]
     fn begin_token<S: Source>(&mut self, alloc: Global, source: &mut S) -> Result<(), ReadError>
-        ensures { Reads edif same opening result self.old self.new (supply S.left S.faults source.old) (supply S.left S.faults source.new) }
+        ensures { Reads edif same opening result self.old self.new (S.supply source.old) (S.supply source.new) }
     {
         let Found { place, stop, token } = self.take(alloc, source)?;
         self.judged(place, stop, opening_of(token))
@@ -83,7 +82,7 @@ impl Cursor {
 
     /// Takes a token: the `)` of a form or a list.
     pub fn finish_form<S: Source>(&mut self, alloc: Global, source: &mut S) -> Result<(), ReadError>
-        ensures { Reads edif same closing result self.old self.new (supply S.left S.faults source.old) (supply S.left S.faults source.new) }
+        ensures { Reads edif same closing result self.old self.new (S.supply source.old) (S.supply source.new) }
     {
         if let Some(mark) = self.held_mark() {
             if mark == b')' {
@@ -97,7 +96,7 @@ impl Cursor {
     /// Takes any token, which has to be `)`.
     #[inline(never)]
     fn finish_token<S: Source>(&mut self, alloc: Global, source: &mut S) -> Result<(), ReadError>
-        ensures { Reads edif same closing result self.old self.new (supply S.left S.faults source.old) (supply S.left S.faults source.new) }
+        ensures { Reads edif same closing result self.old self.new (S.supply source.old) (S.supply source.new) }
     {
         let Found { place, stop, token } = self.take(alloc, source)?;
         self.judged(place, stop, closing_of(token))
@@ -105,7 +104,7 @@ impl Cursor {
 
     /// Takes a token: the word NETLIST of a `viewType`, up to case.
     pub fn view_type<S: Source>(&mut self, alloc: Global, source: &mut S) -> Result<(), ReadError>
-        ensures { Reads edif same view_type result self.old self.new (supply S.left S.faults source.old) (supply S.left S.faults source.new) }
+        ensures { Reads edif same view_type result self.old self.new (S.supply source.old) (S.supply source.new) }
     {
         let Found { place, stop, token } = self.take(alloc, source)?;
         self.judged(place, stop, view_type_of(token))
@@ -118,7 +117,7 @@ impl Cursor {
         words: &[(&[u8], T)],
         source: &mut S,
     ) -> Result<T, ReadError>
-        ensures { Reads edif same (choice (rows words.now)) result self.old self.new (supply S.left S.faults source.old) (supply S.left S.faults source.new) }
+        ensures { Reads edif same (choice (rows words.now)) result self.old self.new (S.supply source.old) (S.supply source.new) }
     {
         let Found { place, stop, token } = self.take(alloc, source)?;
         self.judged(place, stop, choice_of(words, token))
@@ -131,7 +130,7 @@ impl Cursor {
         allowed: &[Keyword],
         source: &mut S,
     ) -> Result<Keyword, ReadError>
-        ensures { Reads edif same (begin allowed.now) result self.old self.new (supply S.left S.faults source.old) (supply S.left S.faults source.new) }
+        ensures { Reads edif same (begin allowed.now) result self.old self.new (S.supply source.old) (S.supply source.new) }
     {
         let at = self.form_at();
         if at.count > 0 {
@@ -153,7 +152,7 @@ impl Cursor {
         allowed: &[Keyword],
         source: &mut S,
     ) -> Result<Keyword, ReadError>
-        ensures { Reads edif same (begin allowed.now) result self.old self.new (supply S.left S.faults source.old) (supply S.left S.faults source.new) }
+        ensures { Reads edif same (begin allowed.now) result self.old self.new (S.supply source.old) (S.supply source.new) }
     {
         self.begin_list(alloc, source)?;
         self.keyword(alloc, allowed, source)
@@ -166,7 +165,7 @@ impl Cursor {
         allowed: &[Keyword],
         source: &mut S,
     ) -> Result<Keyword, ReadError>
-        ensures { Reads edif same (keyword allowed.now) result self.old self.new (supply S.left S.faults source.old) (supply S.left S.faults source.new) }
+        ensures { Reads edif same (keyword allowed.now) result self.old self.new (S.supply source.old) (S.supply source.new) }
     {
         let held = self.held_word();
         let count = held.len();
@@ -187,7 +186,7 @@ impl Cursor {
         allowed: &[Keyword],
         source: &mut S,
     ) -> Result<Keyword, ReadError>
-        ensures { Reads edif same (keyword allowed.now) result self.old self.new (supply S.left S.faults source.old) (supply S.left S.faults source.new) }
+        ensures { Reads edif same (keyword allowed.now) result self.old self.new (S.supply source.old) (S.supply source.new) }
     {
         let Found { place, stop, token } = self.take(alloc, source)?;
         let said = keyword_of(allowed, &self.aliases, token);

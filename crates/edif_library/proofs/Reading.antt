@@ -5,7 +5,7 @@ use Rattle.nl_base.specs.declared.fault.ReadError.TheVariants as errors
 use Rattle.edif_tokens.specs.declared.token.Found.{Found}
 use Rattle.edif_tokens.specs.Streams.{State}
 use Rattle.edif_tokens.specs.Stream as tokens
-use Rattle.readers.specs.Sources.{Supply}
+use Rattle.nl_io.specs.Sources.{Supply}
 use Rattle.readers.specs.Readers.{Reader, ReadsWhole, Ends, same}
 use Rattle.readers.specs.Texts.{ReadsText, Comes, tokens_of}
 use Rattle.readers.proofs.Moving.{skip_none}

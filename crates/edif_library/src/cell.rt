@@ -1,5 +1,4 @@
 ghost use Rattle.std.specs.Prelude.{◌≡◌, ◌||◌, [], ◌∷◌};
-ghost use Rattle.readers.specs.Sources.{supply};
 ghost use Rattle.readers.specs.Readers.{same, Reads};
 ghost use Rattle.edif_keywords.specs.Language.{edif};
 ghost use Rattle.edif_keywords.specs.Grammar.{item};
@@ -22,7 +21,7 @@ pub(crate) fn read_cell<S: Source>(
     cursor: &mut Cursor,
     source: &mut S,
 ) -> Result<Cell, ReadError>
-    ensures { Reads edif same cell result cursor.old cursor.new (supply S.left S.faults source.old) (supply S.left S.faults source.new) }
+    ensures { Reads edif same cell result cursor.old cursor.new (S.supply source.old) (S.supply source.new) }
 {
     let name = read_name(alloc, cursor, source)?;
     let kind = cell_type(alloc, cursor, source)?;
@@ -37,7 +36,7 @@ fn cell_type<S: Source>(
     cursor: &mut Cursor,
     source: &mut S,
 ) -> Result<CellKind, ReadError>
-    ensures { Reads edif same cell_type result cursor.old cursor.new (supply S.left S.faults source.old) (supply S.left S.faults source.new) }
+    ensures { Reads edif same cell_type result cursor.old cursor.new (S.supply source.old) (S.supply source.new) }
 {
     cursor.begin(alloc, &[Keyword::CellType], source)?;
     let kind = cursor.choose(
@@ -60,7 +59,7 @@ fn cell_rest<S: Source>(
     cursor: &mut Cursor,
     source: &mut S,
 ) -> Result<Seq<CellItem>, ReadError>
-    ensures { Reads edif same (cell_rest []) result cursor.old cursor.new (supply S.left S.faults source.old) (supply S.left S.faults source.new) }
+    ensures { Reads edif same (cell_rest []) result cursor.old cursor.new (S.supply source.old) (S.supply source.new) }
 {
     let mut items = Seq::empty(alloc);
     let mut viewed = false;
@@ -91,7 +90,7 @@ fn cell_item<S: Source>(
     viewed: bool,
     source: &mut S,
 ) -> Result<CellItem, ReadError>
-    ensures { Reads edif same (item (cell_keywords viewed) cell_item) result cursor.old cursor.new (supply S.left S.faults source.old) (supply S.left S.faults source.new) }
+    ensures { Reads edif same (item (cell_keywords viewed) cell_item) result cursor.old cursor.new (S.supply source.old) (S.supply source.new) }
 {
     let keyword = cursor.begin(alloc, cell_keywords(viewed), source)?;
     cell_form(alloc, cursor, keyword, source)
@@ -127,7 +126,7 @@ fn cell_form<S: Source>(
     keyword: Keyword,
     source: &mut S,
 ) -> Result<CellItem, ReadError>
-    ensures { Reads edif same (cell_item keyword) result cursor.old cursor.new (supply S.left S.faults source.old) (supply S.left S.faults source.new) }
+    ensures { Reads edif same (cell_item keyword) result cursor.old cursor.new (S.supply source.old) (S.supply source.new) }
 {
     if same_keyword(keyword, Keyword::View) {
         return cell_view(alloc, cursor, source);
@@ -147,7 +146,7 @@ fn cell_view<S: Source>(
     cursor: &mut Cursor,
     source: &mut S,
 ) -> Result<CellItem, ReadError>
-    ensures { Reads edif same cell_view result cursor.old cursor.new (supply S.left S.faults source.old) (supply S.left S.faults source.new) }
+    ensures { Reads edif same cell_view result cursor.old cursor.new (S.supply source.old) (S.supply source.new) }
 {
     let view = read_view(alloc, cursor, source)?;
     Ok(CellItem::View(view))
@@ -159,7 +158,7 @@ fn cell_property<S: Source>(
     cursor: &mut Cursor,
     source: &mut S,
 ) -> Result<CellItem, ReadError>
-    ensures { Reads edif same cell_property result cursor.old cursor.new (supply S.left S.faults source.old) (supply S.left S.faults source.new) }
+    ensures { Reads edif same cell_property result cursor.old cursor.new (S.supply source.old) (S.supply source.new) }
 {
     let property = read_property(alloc, cursor, source)?;
     Ok(CellItem::Property(property))
@@ -171,7 +170,7 @@ fn cell_status<S: Source>(
     cursor: &mut Cursor,
     source: &mut S,
 ) -> Result<CellItem, ReadError>
-    ensures { Reads edif same cell_status result cursor.old cursor.new (supply S.left S.faults source.old) (supply S.left S.faults source.new) }
+    ensures { Reads edif same cell_status result cursor.old cursor.new (S.supply source.old) (S.supply source.new) }
 {
     let status = read_status(alloc, cursor, source)?;
     Ok(CellItem::Status(status))
@@ -184,7 +183,7 @@ fn cell_note<S: Source>(
     keyword: Keyword,
     source: &mut S,
 ) -> Result<CellItem, ReadError>
-    ensures { Reads edif same (cell_note keyword) result cursor.old cursor.new (supply S.left S.faults source.old) (supply S.left S.faults source.new) }
+    ensures { Reads edif same (cell_note keyword) result cursor.old cursor.new (S.supply source.old) (S.supply source.new) }
 {
     let note = read_note(alloc, cursor, keyword, source)?;
     Ok(CellItem::Note(note))

@@ -1,6 +1,5 @@
 // The reader of contents.
 ghost use Rattle.std.specs.Prelude.{[], ◌∷◌};
-ghost use Rattle.readers.specs.Sources.{supply};
 ghost use Rattle.readers.specs.Readers.{same, Reads};
 ghost use Rattle.edif_keywords.specs.Language.{edif};
 ghost use Rattle.edif_keywords.specs.Grammar.{item};
@@ -21,7 +20,7 @@ pub(crate) fn read_contents<S: Source>(
     cursor: &mut Cursor,
     source: &mut S,
 ) -> Result<Seq<ContentsItem>, ReadError>
-    ensures { Reads edif same (contents_rest []) result cursor.old cursor.new (supply S.left S.faults source.old) (supply S.left S.faults source.new) }
+    ensures { Reads edif same (contents_rest []) result cursor.old cursor.new (S.supply source.old) (S.supply source.new) }
 {
     let mut items = Seq::empty(alloc);
     while cursor.at_form(alloc, source)? {
@@ -39,7 +38,7 @@ fn contents_item<S: Source>(
     cursor: &mut Cursor,
     source: &mut S,
 ) -> Result<ContentsItem, ReadError>
-    ensures { Reads edif same (item contents_keywords contents_item) result cursor.old cursor.new (supply S.left S.faults source.old) (supply S.left S.faults source.new) }
+    ensures { Reads edif same (item contents_keywords contents_item) result cursor.old cursor.new (S.supply source.old) (S.supply source.new) }
 {
     let keyword = cursor.begin(
         alloc,
@@ -62,7 +61,7 @@ fn contents_form<S: Source>(
     keyword: Keyword,
     source: &mut S,
 ) -> Result<ContentsItem, ReadError>
-    ensures { Reads edif same (contents_item keyword) result cursor.old cursor.new (supply S.left S.faults source.old) (supply S.left S.faults source.new) }
+    ensures { Reads edif same (contents_item keyword) result cursor.old cursor.new (S.supply source.old) (S.supply source.new) }
 {
     if same_keyword(keyword, Keyword::Instance) {
         return contents_instance(alloc, cursor, source);
@@ -79,7 +78,7 @@ fn contents_instance<S: Source>(
     cursor: &mut Cursor,
     source: &mut S,
 ) -> Result<ContentsItem, ReadError>
-    ensures { Reads edif same contents_instance result cursor.old cursor.new (supply S.left S.faults source.old) (supply S.left S.faults source.new) }
+    ensures { Reads edif same contents_instance result cursor.old cursor.new (S.supply source.old) (S.supply source.new) }
 {
     let instance = read_instance(alloc, cursor, source)?;
     Ok(ContentsItem::Instance(instance))
@@ -91,7 +90,7 @@ fn contents_net<S: Source>(
     cursor: &mut Cursor,
     source: &mut S,
 ) -> Result<ContentsItem, ReadError>
-    ensures { Reads edif same contents_net result cursor.old cursor.new (supply S.left S.faults source.old) (supply S.left S.faults source.new) }
+    ensures { Reads edif same contents_net result cursor.old cursor.new (S.supply source.old) (S.supply source.new) }
 {
     let net = read_net(alloc, cursor, source)?;
     Ok(ContentsItem::Net(net))
@@ -104,7 +103,7 @@ fn contents_note<S: Source>(
     keyword: Keyword,
     source: &mut S,
 ) -> Result<ContentsItem, ReadError>
-    ensures { Reads edif same (contents_note keyword) result cursor.old cursor.new (supply S.left S.faults source.old) (supply S.left S.faults source.new) }
+    ensures { Reads edif same (contents_note keyword) result cursor.old cursor.new (S.supply source.old) (S.supply source.new) }
 {
     let note = read_note(alloc, cursor, keyword, source)?;
     Ok(ContentsItem::Note(note))

@@ -1,6 +1,5 @@
 // The reader of a design.
 ghost use Rattle.std.specs.Prelude.{[], ◌∷◌};
-ghost use Rattle.readers.specs.Sources.{supply};
 ghost use Rattle.readers.specs.Readers.{same, Reads};
 ghost use Rattle.edif_keywords.specs.Language.{edif};
 ghost use Rattle.edif_keywords.specs.Grammar.{item};
@@ -21,7 +20,7 @@ pub(crate) fn read_design<S: Source>(
     cursor: &mut Cursor,
     source: &mut S,
 ) -> Result<Design, ReadError>
-    ensures { Reads edif same design result cursor.old cursor.new (supply S.left S.faults source.old) (supply S.left S.faults source.new) }
+    ensures { Reads edif same design result cursor.old cursor.new (S.supply source.old) (S.supply source.new) }
 {
     let name = read_name(alloc, cursor, source)?;
     let (cell, library) = cell_ref(alloc, cursor, source)?;
@@ -41,7 +40,7 @@ fn cell_ref<S: Source>(
     cursor: &mut Cursor,
     source: &mut S,
 ) -> Result<(Ident, Ident), ReadError>
-    ensures { Reads edif same cell_ref result cursor.old cursor.new (supply S.left S.faults source.old) (supply S.left S.faults source.new) }
+    ensures { Reads edif same cell_ref result cursor.old cursor.new (S.supply source.old) (S.supply source.new) }
 {
     cursor.begin(alloc, &[Keyword::CellRef], source)?;
     let cell = cursor.word(alloc, source)?;
@@ -57,7 +56,7 @@ fn library_ref<S: Source>(
     cursor: &mut Cursor,
     source: &mut S,
 ) -> Result<Ident, ReadError>
-    ensures { Reads edif same library_ref result cursor.old cursor.new (supply S.left S.faults source.old) (supply S.left S.faults source.new) }
+    ensures { Reads edif same library_ref result cursor.old cursor.new (S.supply source.old) (S.supply source.new) }
 {
     cursor.begin(alloc, &[Keyword::LibraryRef], source)?;
     let word = cursor.word(alloc, source)?;
@@ -72,7 +71,7 @@ fn design_rest<S: Source>(
     cursor: &mut Cursor,
     source: &mut S,
 ) -> Result<Seq<DesignItem>, ReadError>
-    ensures { Reads edif same (design_rest []) result cursor.old cursor.new (supply S.left S.faults source.old) (supply S.left S.faults source.new) }
+    ensures { Reads edif same (design_rest []) result cursor.old cursor.new (S.supply source.old) (S.supply source.new) }
 {
     let mut items = Seq::empty(alloc);
     while cursor.at_form(alloc, source)? {
@@ -90,7 +89,7 @@ fn design_item<S: Source>(
     cursor: &mut Cursor,
     source: &mut S,
 ) -> Result<DesignItem, ReadError>
-    ensures { Reads edif same (item design_keywords design_item) result cursor.old cursor.new (supply S.left S.faults source.old) (supply S.left S.faults source.new) }
+    ensures { Reads edif same (item design_keywords design_item) result cursor.old cursor.new (S.supply source.old) (S.supply source.new) }
 {
     let keyword = cursor.begin(
         alloc,
@@ -113,7 +112,7 @@ fn design_form<S: Source>(
     keyword: Keyword,
     source: &mut S,
 ) -> Result<DesignItem, ReadError>
-    ensures { Reads edif same (design_item keyword) result cursor.old cursor.new (supply S.left S.faults source.old) (supply S.left S.faults source.new) }
+    ensures { Reads edif same (design_item keyword) result cursor.old cursor.new (S.supply source.old) (S.supply source.new) }
 {
     if same_keyword(keyword, Keyword::Property) {
         return design_property(alloc, cursor, source);
@@ -130,7 +129,7 @@ fn design_property<S: Source>(
     cursor: &mut Cursor,
     source: &mut S,
 ) -> Result<DesignItem, ReadError>
-    ensures { Reads edif same design_property result cursor.old cursor.new (supply S.left S.faults source.old) (supply S.left S.faults source.new) }
+    ensures { Reads edif same design_property result cursor.old cursor.new (S.supply source.old) (S.supply source.new) }
 {
     let property = read_property(alloc, cursor, source)?;
     Ok(DesignItem::Property(property))
@@ -142,7 +141,7 @@ fn design_status<S: Source>(
     cursor: &mut Cursor,
     source: &mut S,
 ) -> Result<DesignItem, ReadError>
-    ensures { Reads edif same design_status result cursor.old cursor.new (supply S.left S.faults source.old) (supply S.left S.faults source.new) }
+    ensures { Reads edif same design_status result cursor.old cursor.new (S.supply source.old) (S.supply source.new) }
 {
     let status = read_status(alloc, cursor, source)?;
     Ok(DesignItem::Status(status))
@@ -155,7 +154,7 @@ fn design_note<S: Source>(
     keyword: Keyword,
     source: &mut S,
 ) -> Result<DesignItem, ReadError>
-    ensures { Reads edif same (design_note keyword) result cursor.old cursor.new (supply S.left S.faults source.old) (supply S.left S.faults source.new) }
+    ensures { Reads edif same (design_note keyword) result cursor.old cursor.new (S.supply source.old) (S.supply source.new) }
 {
     let note = read_note(alloc, cursor, keyword, source)?;
     Ok(DesignItem::Note(note))

@@ -1,5 +1,4 @@
 ghost use Rattle.std.specs.Prelude.{[], ◌∷◌};
-ghost use Rattle.readers.specs.Sources.{supply};
 ghost use Rattle.readers.specs.Readers.{same, Reads, ReadsWhole};
 ghost use Rattle.edif_keywords.specs.Language.{edif};
 ghost use Rattle.readers.specs.Texts.{ReadsText};
@@ -25,7 +24,7 @@ use std::alloc::Global;
 /// `Text`: the first fault, with its place, where its stop lies within so many bytes. `TooLong`: the text is longer, and it has no such
 /// fault. `ReadFault`: the source failed. `NoMemory`: memory ran out. It never answers `Spent`.
 pub fn read_edif<S: Source>(alloc: Global, source: &mut S) -> Result<EdifFile, ReadError>
-    ensures { ReadsText edif trailing [] same (file []) result (supply S.left S.faults source.old) (supply S.left S.faults source.new) }
+    ensures { ReadsText edif trailing [] same (file []) result (S.supply source.old) (S.supply source.new) }
 {
     let Ok(tokens) = Tokens::new(alloc) else {
         return Err(ReadError::NoMemory);
@@ -43,7 +42,7 @@ fn read_file<S: Source>(
     cursor: &mut Cursor,
     source: &mut S,
 ) -> Result<EdifFile, ReadError>
-    ensures { ReadsWhole edif same (file cursor.old.context) result cursor.old cursor.new (supply S.left S.faults source.old) (supply S.left S.faults source.new) }
+    ensures { ReadsWhole edif same (file cursor.old.context) result cursor.old cursor.new (S.supply source.old) (S.supply source.new) }
 {
     cursor.begin(alloc, &[Keyword::Edif], source)?;
     let name = read_name(alloc, cursor, source)?;
@@ -59,7 +58,7 @@ fn file_body<S: Source>(
     name: NameDef,
     source: &mut S,
 ) -> Result<EdifFile, ReadError>
-    ensures { Reads edif same (file_body name) result cursor.old cursor.new (supply S.left S.faults source.old) (supply S.left S.faults source.new) }
+    ensures { Reads edif same (file_body name) result cursor.old cursor.new (S.supply source.old) (S.supply source.new) }
 {
     let items = file_rest(alloc, cursor, source)?;
     Ok(EdifFile { name, items })
@@ -72,7 +71,7 @@ fn file_rest<S: Source>(
     cursor: &mut Cursor,
     source: &mut S,
 ) -> Result<Seq<FileItem>, ReadError>
-    ensures { Reads edif same (file_rest []) result cursor.old cursor.new (supply S.left S.faults source.old) (supply S.left S.faults source.new) }
+    ensures { Reads edif same (file_rest []) result cursor.old cursor.new (S.supply source.old) (S.supply source.new) }
 {
     let mut items = Seq::empty(alloc);
     while cursor.at_form(alloc, source)? {
@@ -90,7 +89,7 @@ fn file_item<S: Source>(
     cursor: &mut Cursor,
     source: &mut S,
 ) -> Result<FileItem, ReadError>
-    ensures { Reads edif same (item file_keywords file_item) result cursor.old cursor.new (supply S.left S.faults source.old) (supply S.left S.faults source.new) }
+    ensures { Reads edif same (item file_keywords file_item) result cursor.old cursor.new (S.supply source.old) (S.supply source.new) }
 {
     let keyword = cursor.begin(
         alloc,
@@ -115,7 +114,7 @@ fn file_form<S: Source>(
     keyword: Keyword,
     source: &mut S,
 ) -> Result<FileItem, ReadError>
-    ensures { Reads edif same (file_item keyword) result cursor.old cursor.new (supply S.left S.faults source.old) (supply S.left S.faults source.new) }
+    ensures { Reads edif same (file_item keyword) result cursor.old cursor.new (S.supply source.old) (S.supply source.new) }
 {
     if same_keyword(keyword, Keyword::Library) {
         return file_library(alloc, cursor, false, source);
@@ -139,7 +138,7 @@ fn file_library<S: Source>(
     external: bool,
     source: &mut S,
 ) -> Result<FileItem, ReadError>
-    ensures { Reads edif same (file_library external) result cursor.old cursor.new (supply S.left S.faults source.old) (supply S.left S.faults source.new) }
+    ensures { Reads edif same (file_library external) result cursor.old cursor.new (S.supply source.old) (S.supply source.new) }
 {
     let library = read_library(alloc, cursor, external, source)?;
     Ok(FileItem::Library(library))
@@ -151,7 +150,7 @@ fn file_design<S: Source>(
     cursor: &mut Cursor,
     source: &mut S,
 ) -> Result<FileItem, ReadError>
-    ensures { Reads edif same file_design result cursor.old cursor.new (supply S.left S.faults source.old) (supply S.left S.faults source.new) }
+    ensures { Reads edif same file_design result cursor.old cursor.new (S.supply source.old) (S.supply source.new) }
 {
     let design = read_design(alloc, cursor, source)?;
     Ok(FileItem::Design(design))
@@ -163,7 +162,7 @@ fn file_status<S: Source>(
     cursor: &mut Cursor,
     source: &mut S,
 ) -> Result<FileItem, ReadError>
-    ensures { Reads edif same file_status result cursor.old cursor.new (supply S.left S.faults source.old) (supply S.left S.faults source.new) }
+    ensures { Reads edif same file_status result cursor.old cursor.new (S.supply source.old) (S.supply source.new) }
 {
     let status = read_status(alloc, cursor, source)?;
     Ok(FileItem::Status(status))
@@ -176,7 +175,7 @@ fn file_note<S: Source>(
     keyword: Keyword,
     source: &mut S,
 ) -> Result<FileItem, ReadError>
-    ensures { Reads edif same (file_note keyword) result cursor.old cursor.new (supply S.left S.faults source.old) (supply S.left S.faults source.new) }
+    ensures { Reads edif same (file_note keyword) result cursor.old cursor.new (S.supply source.old) (S.supply source.new) }
 {
     let note = read_note(alloc, cursor, keyword, source)?;
     Ok(FileItem::Note(note))

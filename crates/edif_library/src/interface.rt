@@ -1,6 +1,5 @@
 // The readers of interfaces and of contents.
 ghost use Rattle.std.specs.Prelude.{[], ◌∷◌};
-ghost use Rattle.readers.specs.Sources.{supply};
 ghost use Rattle.readers.specs.Readers.{same, Reads};
 ghost use Rattle.edif_keywords.specs.Language.{edif};
 ghost use Rattle.edif_keywords.specs.Grammar.{item};
@@ -22,7 +21,7 @@ pub(crate) fn read_interface<S: Source>(
     cursor: &mut Cursor,
     source: &mut S,
 ) -> Result<Seq<InterfaceItem>, ReadError>
-    ensures { Reads edif same interface result cursor.old cursor.new (supply S.left S.faults source.old) (supply S.left S.faults source.new) }
+    ensures { Reads edif same interface result cursor.old cursor.new (S.supply source.old) (S.supply source.new) }
 {
     cursor.begin(alloc, &[Keyword::Interface], source)?;
     interface_rest(alloc, cursor, source)
@@ -35,7 +34,7 @@ fn interface_rest<S: Source>(
     cursor: &mut Cursor,
     source: &mut S,
 ) -> Result<Seq<InterfaceItem>, ReadError>
-    ensures { Reads edif same (interface_rest []) result cursor.old cursor.new (supply S.left S.faults source.old) (supply S.left S.faults source.new) }
+    ensures { Reads edif same (interface_rest []) result cursor.old cursor.new (S.supply source.old) (S.supply source.new) }
 {
     let mut items = Seq::empty(alloc);
     while cursor.at_form(alloc, source)? {
@@ -53,7 +52,7 @@ fn interface_item<S: Source>(
     cursor: &mut Cursor,
     source: &mut S,
 ) -> Result<InterfaceItem, ReadError>
-    ensures { Reads edif same (item interface_keywords interface_item) result cursor.old cursor.new (supply S.left S.faults source.old) (supply S.left S.faults source.new) }
+    ensures { Reads edif same (item interface_keywords interface_item) result cursor.old cursor.new (S.supply source.old) (S.supply source.new) }
 {
     let keyword = cursor.begin(
         alloc,
@@ -77,7 +76,7 @@ fn interface_form<S: Source>(
     keyword: Keyword,
     source: &mut S,
 ) -> Result<InterfaceItem, ReadError>
-    ensures { Reads edif same (interface_item keyword) result cursor.old cursor.new (supply S.left S.faults source.old) (supply S.left S.faults source.new) }
+    ensures { Reads edif same (interface_item keyword) result cursor.old cursor.new (S.supply source.old) (S.supply source.new) }
 {
     if same_keyword(keyword, Keyword::Port) {
         return interface_port(alloc, cursor, source);
@@ -97,7 +96,7 @@ fn interface_port<S: Source>(
     cursor: &mut Cursor,
     source: &mut S,
 ) -> Result<InterfaceItem, ReadError>
-    ensures { Reads edif same interface_port result cursor.old cursor.new (supply S.left S.faults source.old) (supply S.left S.faults source.new) }
+    ensures { Reads edif same interface_port result cursor.old cursor.new (S.supply source.old) (S.supply source.new) }
 {
     let port = read_port(alloc, cursor, source)?;
     Ok(InterfaceItem::Port(port))
@@ -109,7 +108,7 @@ fn interface_property<S: Source>(
     cursor: &mut Cursor,
     source: &mut S,
 ) -> Result<InterfaceItem, ReadError>
-    ensures { Reads edif same interface_property result cursor.old cursor.new (supply S.left S.faults source.old) (supply S.left S.faults source.new) }
+    ensures { Reads edif same interface_property result cursor.old cursor.new (S.supply source.old) (S.supply source.new) }
 {
     let property = read_property(alloc, cursor, source)?;
     Ok(InterfaceItem::Property(property))
@@ -121,7 +120,7 @@ fn interface_designator<S: Source>(
     cursor: &mut Cursor,
     source: &mut S,
 ) -> Result<InterfaceItem, ReadError>
-    ensures { Reads edif same interface_designator result cursor.old cursor.new (supply S.left S.faults source.old) (supply S.left S.faults source.new) }
+    ensures { Reads edif same interface_designator result cursor.old cursor.new (S.supply source.old) (S.supply source.new) }
 {
     let text = read_designator(alloc, cursor, source)?;
     Ok(InterfaceItem::Designator(text))
@@ -134,7 +133,7 @@ fn interface_note<S: Source>(
     keyword: Keyword,
     source: &mut S,
 ) -> Result<InterfaceItem, ReadError>
-    ensures { Reads edif same (interface_note keyword) result cursor.old cursor.new (supply S.left S.faults source.old) (supply S.left S.faults source.new) }
+    ensures { Reads edif same (interface_note keyword) result cursor.old cursor.new (S.supply source.old) (S.supply source.new) }
 {
     let note = read_note(alloc, cursor, keyword, source)?;
     Ok(InterfaceItem::Note(note))

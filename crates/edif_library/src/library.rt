@@ -1,5 +1,4 @@
 ghost use Rattle.std.specs.Prelude.{[], ◌∷◌};
-ghost use Rattle.readers.specs.Sources.{supply};
 ghost use Rattle.readers.specs.Readers.{same, Reads};
 ghost use Rattle.edif_keywords.specs.Language.{edif};
 ghost use Rattle.edif_keywords.specs.Grammar.{item};
@@ -23,7 +22,7 @@ pub(crate) fn read_library<S: Source>(
     external: bool,
     source: &mut S,
 ) -> Result<Library, ReadError>
-    ensures { Reads edif same (library external) result cursor.old cursor.new (supply S.left S.faults source.old) (supply S.left S.faults source.new) }
+    ensures { Reads edif same (library external) result cursor.old cursor.new (S.supply source.old) (S.supply source.new) }
 {
     let name = read_name(alloc, cursor, source)?;
     cursor.level(alloc, source)?;
@@ -45,7 +44,7 @@ fn library_rest<S: Source>(
     cursor: &mut Cursor,
     source: &mut S,
 ) -> Result<Seq<LibraryItem>, ReadError>
-    ensures { Reads edif same (library_rest []) result cursor.old cursor.new (supply S.left S.faults source.old) (supply S.left S.faults source.new) }
+    ensures { Reads edif same (library_rest []) result cursor.old cursor.new (S.supply source.old) (S.supply source.new) }
 {
     let mut items = Seq::empty(alloc);
     while cursor.at_form(alloc, source)? {
@@ -63,7 +62,7 @@ fn library_item<S: Source>(
     cursor: &mut Cursor,
     source: &mut S,
 ) -> Result<LibraryItem, ReadError>
-    ensures { Reads edif same (item library_keywords library_item) result cursor.old cursor.new (supply S.left S.faults source.old) (supply S.left S.faults source.new) }
+    ensures { Reads edif same (item library_keywords library_item) result cursor.old cursor.new (S.supply source.old) (S.supply source.new) }
 {
     let keyword = cursor.begin(
         alloc,
@@ -86,7 +85,7 @@ fn library_form<S: Source>(
     keyword: Keyword,
     source: &mut S,
 ) -> Result<LibraryItem, ReadError>
-    ensures { Reads edif same (library_item keyword) result cursor.old cursor.new (supply S.left S.faults source.old) (supply S.left S.faults source.new) }
+    ensures { Reads edif same (library_item keyword) result cursor.old cursor.new (S.supply source.old) (S.supply source.new) }
 {
     if same_keyword(keyword, Keyword::Cell) {
         return library_cell(alloc, cursor, source);
@@ -103,7 +102,7 @@ fn library_cell<S: Source>(
     cursor: &mut Cursor,
     source: &mut S,
 ) -> Result<LibraryItem, ReadError>
-    ensures { Reads edif same library_cell result cursor.old cursor.new (supply S.left S.faults source.old) (supply S.left S.faults source.new) }
+    ensures { Reads edif same library_cell result cursor.old cursor.new (S.supply source.old) (S.supply source.new) }
 {
     let cell = read_cell(alloc, cursor, source)?;
     Ok(LibraryItem::Cell(cell))
@@ -115,7 +114,7 @@ fn library_status<S: Source>(
     cursor: &mut Cursor,
     source: &mut S,
 ) -> Result<LibraryItem, ReadError>
-    ensures { Reads edif same library_status result cursor.old cursor.new (supply S.left S.faults source.old) (supply S.left S.faults source.new) }
+    ensures { Reads edif same library_status result cursor.old cursor.new (S.supply source.old) (S.supply source.new) }
 {
     let status = read_status(alloc, cursor, source)?;
     Ok(LibraryItem::Status(status))
@@ -128,7 +127,7 @@ fn library_note<S: Source>(
     keyword: Keyword,
     source: &mut S,
 ) -> Result<LibraryItem, ReadError>
-    ensures { Reads edif same (library_note keyword) result cursor.old cursor.new (supply S.left S.faults source.old) (supply S.left S.faults source.new) }
+    ensures { Reads edif same (library_note keyword) result cursor.old cursor.new (S.supply source.old) (S.supply source.new) }
 {
     let note = read_note(alloc, cursor, keyword, source)?;
     Ok(LibraryItem::Note(note))

@@ -1,6 +1,5 @@
 // The reader of a technology.
 ghost use Rattle.std.specs.Prelude.{[], ◌∷◌};
-ghost use Rattle.readers.specs.Sources.{supply};
 ghost use Rattle.readers.specs.Readers.{same, Reads};
 ghost use Rattle.edif_keywords.specs.Language.{edif};
 ghost use Rattle.edif_values.specs.declared.keyword.Keyword.TheVariants as k;
@@ -23,7 +22,7 @@ pub(crate) fn read_technology<S: Source>(
     cursor: &mut Cursor,
     source: &mut S,
 ) -> Result<(Seq<Scale>, Seq<Note>), ReadError>
-    ensures { Reads edif same technology result cursor.old cursor.new (supply S.left S.faults source.old) (supply S.left S.faults source.new) }
+    ensures { Reads edif same technology result cursor.old cursor.new (S.supply source.old) (S.supply source.new) }
 {
     cursor.begin(alloc, &[Keyword::Technology], source)?;
     let scales = number_definition(alloc, cursor, source)?;
@@ -38,7 +37,7 @@ fn number_definition<S: Source>(
     cursor: &mut Cursor,
     source: &mut S,
 ) -> Result<Seq<Scale>, ReadError>
-    ensures { Reads edif same number_definition result cursor.old cursor.new (supply S.left S.faults source.old) (supply S.left S.faults source.new) }
+    ensures { Reads edif same number_definition result cursor.old cursor.new (S.supply source.old) (S.supply source.new) }
 {
     cursor.begin(alloc, &[Keyword::NumberDefinition], source)?;
     scales_rest(alloc, cursor, source)
@@ -51,7 +50,7 @@ fn scales_rest<S: Source>(
     cursor: &mut Cursor,
     source: &mut S,
 ) -> Result<Seq<Scale>, ReadError>
-    ensures { Reads edif same (scales_rest []) result cursor.old cursor.new (supply S.left S.faults source.old) (supply S.left S.faults source.new) }
+    ensures { Reads edif same (scales_rest []) result cursor.old cursor.new (S.supply source.old) (S.supply source.new) }
 {
     let mut items = Seq::empty(alloc);
     while cursor.at_form(alloc, source)? {
@@ -69,7 +68,7 @@ fn scale_item<S: Source>(
     cursor: &mut Cursor,
     source: &mut S,
 ) -> Result<Scale, ReadError>
-    ensures { Reads edif same (item (k.Scale ∷ []) (λ _. scale)) result cursor.old cursor.new (supply S.left S.faults source.old) (supply S.left S.faults source.new) }
+    ensures { Reads edif same (item (k.Scale ∷ []) (λ _. scale)) result cursor.old cursor.new (S.supply source.old) (S.supply source.new) }
 {
     cursor.begin(alloc, &[Keyword::Scale], source)?;
     scale(alloc, cursor, source)
@@ -78,7 +77,7 @@ fn scale_item<S: Source>(
 /// Reads on after the keyword `scale`.
 #[tactic(auto, using(readers::proofs::Reading::sequences), unfolding(crate::specs::Grammar::scale))]
 fn scale<S: Source>(alloc: Global, cursor: &mut Cursor, source: &mut S) -> Result<Scale, ReadError>
-    ensures { Reads edif same scale result cursor.old cursor.new (supply S.left S.faults source.old) (supply S.left S.faults source.new) }
+    ensures { Reads edif same scale result cursor.old cursor.new (S.supply source.old) (S.supply source.new) }
 {
     let left = read_scaled(alloc, cursor, source)?;
     let right = read_scaled(alloc, cursor, source)?;
@@ -90,7 +89,7 @@ fn scale<S: Source>(alloc: Global, cursor: &mut Cursor, source: &mut S) -> Resul
 /// Reads a `unit`, from its `(` on.
 #[tactic(auto, using(readers::proofs::Reading::sequences), unfolding(crate::specs::Grammar::unit))]
 fn unit<S: Source>(alloc: Global, cursor: &mut Cursor, source: &mut S) -> Result<Ident, ReadError>
-    ensures { Reads edif same unit result cursor.old cursor.new (supply S.left S.faults source.old) (supply S.left S.faults source.new) }
+    ensures { Reads edif same unit result cursor.old cursor.new (S.supply source.old) (S.supply source.new) }
 {
     cursor.begin(alloc, &[Keyword::Unit], source)?;
     let word = cursor.word(alloc, source)?;
@@ -105,7 +104,7 @@ fn notes_rest<S: Source>(
     cursor: &mut Cursor,
     source: &mut S,
 ) -> Result<Seq<Note>, ReadError>
-    ensures { Reads edif same (notes_rest []) result cursor.old cursor.new (supply S.left S.faults source.old) (supply S.left S.faults source.new) }
+    ensures { Reads edif same (notes_rest []) result cursor.old cursor.new (S.supply source.old) (S.supply source.new) }
 {
     let mut items = Seq::empty(alloc);
     while cursor.at_form(alloc, source)? {
@@ -123,7 +122,7 @@ fn note_item<S: Source>(
     cursor: &mut Cursor,
     source: &mut S,
 ) -> Result<Note, ReadError>
-    ensures { Reads edif same (item note_keywords note) result cursor.old cursor.new (supply S.left S.faults source.old) (supply S.left S.faults source.new) }
+    ensures { Reads edif same (item note_keywords note) result cursor.old cursor.new (S.supply source.old) (S.supply source.new) }
 {
     let keyword = cursor.begin(alloc, &[Keyword::Comment, Keyword::UserData], source)?;
     read_note(alloc, cursor, keyword, source)

@@ -1,5 +1,4 @@
 ghost use Rattle.std.specs.Prelude.{◌≡◌, ◌||◌, [], ◌∷◌};
-ghost use Rattle.readers.specs.Sources.{supply};
 ghost use Rattle.readers.specs.Readers.{same, Reads};
 ghost use Rattle.edif_keywords.specs.Language.{edif};
 ghost use Rattle.edif_keywords.specs.Grammar.{item};
@@ -23,7 +22,7 @@ pub(crate) fn read_view<S: Source>(
     cursor: &mut Cursor,
     source: &mut S,
 ) -> Result<View, ReadError>
-    ensures { Reads edif same view result cursor.old cursor.new (supply S.left S.faults source.old) (supply S.left S.faults source.new) }
+    ensures { Reads edif same view result cursor.old cursor.new (S.supply source.old) (S.supply source.new) }
 {
     let name = read_name(alloc, cursor, source)?;
     netlist(alloc, cursor, source)?;
@@ -39,7 +38,7 @@ pub(crate) fn read_view<S: Source>(
 /// Reads `viewType`, which is NETLIST.
 #[tactic(auto, using(readers::proofs::Reading::sequences), unfolding(crate::specs::Grammar::netlist))]
 fn netlist<S: Source>(alloc: Global, cursor: &mut Cursor, source: &mut S) -> Result<(), ReadError>
-    ensures { Reads edif same netlist result cursor.old cursor.new (supply S.left S.faults source.old) (supply S.left S.faults source.new) }
+    ensures { Reads edif same netlist result cursor.old cursor.new (S.supply source.old) (S.supply source.new) }
 {
     cursor.begin(alloc, &[Keyword::ViewType], source)?;
     cursor.view_type(alloc, source)?;
@@ -53,7 +52,7 @@ fn view_rest<S: Source>(
     cursor: &mut Cursor,
     source: &mut S,
 ) -> Result<Seq<ViewItem>, ReadError>
-    ensures { Reads edif same (view_rest []) result cursor.old cursor.new (supply S.left S.faults source.old) (supply S.left S.faults source.new) }
+    ensures { Reads edif same (view_rest []) result cursor.old cursor.new (S.supply source.old) (S.supply source.new) }
 {
     let mut items = Seq::empty(alloc);
     let mut filled = false;
@@ -84,7 +83,7 @@ fn view_item<S: Source>(
     filled: bool,
     source: &mut S,
 ) -> Result<ViewItem, ReadError>
-    ensures { Reads edif same (item (view_keywords filled) view_item) result cursor.old cursor.new (supply S.left S.faults source.old) (supply S.left S.faults source.new) }
+    ensures { Reads edif same (item (view_keywords filled) view_item) result cursor.old cursor.new (S.supply source.old) (S.supply source.new) }
 {
     let keyword = cursor.begin(alloc, view_keywords(filled), source)?;
     view_form(alloc, cursor, keyword, source)
@@ -120,7 +119,7 @@ fn view_form<S: Source>(
     keyword: Keyword,
     source: &mut S,
 ) -> Result<ViewItem, ReadError>
-    ensures { Reads edif same (view_item keyword) result cursor.old cursor.new (supply S.left S.faults source.old) (supply S.left S.faults source.new) }
+    ensures { Reads edif same (view_item keyword) result cursor.old cursor.new (S.supply source.old) (S.supply source.new) }
 {
     if same_keyword(keyword, Keyword::Contents) {
         return view_contents(alloc, cursor, source);
@@ -140,7 +139,7 @@ fn view_contents<S: Source>(
     cursor: &mut Cursor,
     source: &mut S,
 ) -> Result<ViewItem, ReadError>
-    ensures { Reads edif same view_contents result cursor.old cursor.new (supply S.left S.faults source.old) (supply S.left S.faults source.new) }
+    ensures { Reads edif same view_contents result cursor.old cursor.new (S.supply source.old) (S.supply source.new) }
 {
     let items = read_contents(alloc, cursor, source)?;
     Ok(ViewItem::Contents(items))
@@ -152,7 +151,7 @@ fn view_property<S: Source>(
     cursor: &mut Cursor,
     source: &mut S,
 ) -> Result<ViewItem, ReadError>
-    ensures { Reads edif same view_property result cursor.old cursor.new (supply S.left S.faults source.old) (supply S.left S.faults source.new) }
+    ensures { Reads edif same view_property result cursor.old cursor.new (S.supply source.old) (S.supply source.new) }
 {
     let property = read_property(alloc, cursor, source)?;
     Ok(ViewItem::Property(property))
@@ -164,7 +163,7 @@ fn view_status<S: Source>(
     cursor: &mut Cursor,
     source: &mut S,
 ) -> Result<ViewItem, ReadError>
-    ensures { Reads edif same view_status result cursor.old cursor.new (supply S.left S.faults source.old) (supply S.left S.faults source.new) }
+    ensures { Reads edif same view_status result cursor.old cursor.new (S.supply source.old) (S.supply source.new) }
 {
     let status = read_status(alloc, cursor, source)?;
     Ok(ViewItem::Status(status))
@@ -177,7 +176,7 @@ fn view_note<S: Source>(
     keyword: Keyword,
     source: &mut S,
 ) -> Result<ViewItem, ReadError>
-    ensures { Reads edif same (view_note keyword) result cursor.old cursor.new (supply S.left S.faults source.old) (supply S.left S.faults source.new) }
+    ensures { Reads edif same (view_note keyword) result cursor.old cursor.new (S.supply source.old) (S.supply source.new) }
 {
     let note = read_note(alloc, cursor, keyword, source)?;
     Ok(ViewItem::Note(note))

@@ -1,4 +1,3 @@
-ghost use Rattle.readers.specs.Sources.{supply};
 ghost use Rattle.readers.specs.Readers.{same, Reads};
 ghost use Rattle.edif_keywords.specs.Language.{edif};
 ghost use Rattle.edif_names.specs.Grammar.{renamed, plain, name, array, renamed_port, plain_port, port_form, port_name};
@@ -16,7 +15,7 @@ pub fn read_name<S: Source>(
     cursor: &mut Cursor,
     source: &mut S,
 ) -> Result<NameDef, ReadError>
-    ensures { Reads edif same name result cursor.old cursor.new (supply S.left S.faults source.old) (supply S.left S.faults source.new) }
+    ensures { Reads edif same name result cursor.old cursor.new (S.supply source.old) (S.supply source.new) }
 {
     if cursor.at_form(alloc, source)? {
         cursor.begin(alloc, &[Keyword::Rename], source)?;
@@ -32,7 +31,7 @@ fn renamed<S: Source>(
     cursor: &mut Cursor,
     source: &mut S,
 ) -> Result<NameDef, ReadError>
-    ensures { Reads edif same renamed result cursor.old cursor.new (supply S.left S.faults source.old) (supply S.left S.faults source.new) }
+    ensures { Reads edif same renamed result cursor.old cursor.new (S.supply source.old) (S.supply source.new) }
 {
     let ident = cursor.word(alloc, source)?;
     let text = cursor.string(alloc, source)?;
@@ -49,7 +48,7 @@ fn plain<S: Source>(
     cursor: &mut Cursor,
     source: &mut S,
 ) -> Result<NameDef, ReadError>
-    ensures { Reads edif same plain result cursor.old cursor.new (supply S.left S.faults source.old) (supply S.left S.faults source.new) }
+    ensures { Reads edif same plain result cursor.old cursor.new (S.supply source.old) (S.supply source.new) }
 {
     let ident = cursor.word(alloc, source)?;
     Ok(NameDef { ident, text: None })
@@ -62,7 +61,7 @@ pub fn read_port_name<S: Source>(
     cursor: &mut Cursor,
     source: &mut S,
 ) -> Result<PortName, ReadError>
-    ensures { Reads edif same port_name result cursor.old cursor.new (supply S.left S.faults source.old) (supply S.left S.faults source.new) }
+    ensures { Reads edif same port_name result cursor.old cursor.new (S.supply source.old) (S.supply source.new) }
 {
     if cursor.at_form(alloc, source)? {
         let keyword = cursor.begin(alloc, &[Keyword::Rename, Keyword::Array], source)?;
@@ -78,7 +77,7 @@ fn port_form<S: Source>(
     is_array: bool,
     source: &mut S,
 ) -> Result<PortName, ReadError>
-    ensures { Reads edif same (port_form is_array) result cursor.old cursor.new (supply S.left S.faults source.old) (supply S.left S.faults source.new) }
+    ensures { Reads edif same (port_form is_array) result cursor.old cursor.new (S.supply source.old) (S.supply source.new) }
 {
     if is_array {
         return array(alloc, cursor, source);
@@ -93,7 +92,7 @@ fn array<S: Source>(
     cursor: &mut Cursor,
     source: &mut S,
 ) -> Result<PortName, ReadError>
-    ensures { Reads edif same array result cursor.old cursor.new (supply S.left S.faults source.old) (supply S.left S.faults source.new) }
+    ensures { Reads edif same array result cursor.old cursor.new (S.supply source.old) (S.supply source.new) }
 {
     let name = read_name(alloc, cursor, source)?;
     let size = cursor.int(alloc, source)?;
@@ -107,7 +106,7 @@ fn renamed_port<S: Source>(
     cursor: &mut Cursor,
     source: &mut S,
 ) -> Result<PortName, ReadError>
-    ensures { Reads edif same renamed_port result cursor.old cursor.new (supply S.left S.faults source.old) (supply S.left S.faults source.new) }
+    ensures { Reads edif same renamed_port result cursor.old cursor.new (S.supply source.old) (S.supply source.new) }
 {
     let name = renamed(alloc, cursor, source)?;
     Ok(PortName::Single(name))
@@ -119,7 +118,7 @@ fn plain_port<S: Source>(
     cursor: &mut Cursor,
     source: &mut S,
 ) -> Result<PortName, ReadError>
-    ensures { Reads edif same plain_port result cursor.old cursor.new (supply S.left S.faults source.old) (supply S.left S.faults source.new) }
+    ensures { Reads edif same plain_port result cursor.old cursor.new (S.supply source.old) (S.supply source.new) }
 {
     let name = plain(alloc, cursor, source)?;
     Ok(PortName::Single(name))

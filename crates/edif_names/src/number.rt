@@ -1,5 +1,4 @@
 ghost use Rattle.std.specs.Prelude.{◌≡◌, pos};
-ghost use Rattle.readers.specs.Sources.{supply};
 ghost use Rattle.readers.specs.Readers.{same, Reads};
 ghost use Rattle.edif_keywords.specs.Language.{edif};
 ghost use Rattle.edif_names.specs.Grammar.{exponential, whole, scaled};
@@ -17,7 +16,7 @@ pub fn read_scaled<S: Source>(
     cursor: &mut Cursor,
     source: &mut S,
 ) -> Result<Scaled, ReadError>
-    ensures { Reads edif same scaled result cursor.old cursor.new (supply S.left S.faults source.old) (supply S.left S.faults source.new) }
+    ensures { Reads edif same scaled result cursor.old cursor.new (S.supply source.old) (S.supply source.new) }
 {
     if cursor.at_form(alloc, source)? {
         cursor.begin(alloc, &[Keyword::E], source)?;
@@ -33,7 +32,7 @@ fn exponential<S: Source>(
     cursor: &mut Cursor,
     source: &mut S,
 ) -> Result<Scaled, ReadError>
-    ensures { Reads edif same exponential result cursor.old cursor.new (supply S.left S.faults source.old) (supply S.left S.faults source.new) }
+    ensures { Reads edif same exponential result cursor.old cursor.new (S.supply source.old) (S.supply source.new) }
 {
     let mantissa = cursor.int(alloc, source)?;
     let exponent = cursor.int(alloc, source)?;
@@ -43,7 +42,7 @@ fn exponential<S: Source>(
 
 #[tactic(auto, using(readers::proofs::Reading::sequences), unfolding(crate::specs::Grammar::whole))]
 fn whole<S: Source>(alloc: Global, cursor: &mut Cursor, source: &mut S) -> Result<Scaled, ReadError>
-    ensures { Reads edif same whole result cursor.old cursor.new (supply S.left S.faults source.old) (supply S.left S.faults source.new) }
+    ensures { Reads edif same whole result cursor.old cursor.new (S.supply source.old) (S.supply source.new) }
 {
     let mantissa = cursor.int(alloc, source)?;
     Ok(Scaled {

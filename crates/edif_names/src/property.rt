@@ -1,5 +1,4 @@
 ghost use Rattle.std.specs.Prelude.{[]};
-ghost use Rattle.readers.specs.Sources.{supply};
 ghost use Rattle.readers.specs.Readers.{same, Reads};
 ghost use Rattle.edif_keywords.specs.Language.{edif};
 ghost use Rattle.edif_names.specs.Grammar.{owner, remark, tail_form, tail_item, tails, property};
@@ -19,7 +18,7 @@ pub fn read_property<S: Source>(
     cursor: &mut Cursor,
     source: &mut S,
 ) -> Result<Property, ReadError>
-    ensures { Reads edif same property result cursor.old cursor.new (supply S.left S.faults source.old) (supply S.left S.faults source.new) }
+    ensures { Reads edif same property result cursor.old cursor.new (S.supply source.old) (S.supply source.new) }
 {
     let name = read_name(alloc, cursor, source)?;
     let value = read_value(alloc, cursor, source)?;
@@ -33,7 +32,7 @@ fn read_tails<S: Source>(
     cursor: &mut Cursor,
     source: &mut S,
 ) -> Result<Seq<PropTail>, ReadError>
-    ensures { Reads edif same (tails []) result cursor.old cursor.new (supply S.left S.faults source.old) (supply S.left S.faults source.new) }
+    ensures { Reads edif same (tails []) result cursor.old cursor.new (S.supply source.old) (S.supply source.new) }
 {
     let mut tail = Seq::empty(alloc);
     while cursor.at_form(alloc, source)? {
@@ -51,7 +50,7 @@ fn tail_item<S: Source>(
     cursor: &mut Cursor,
     source: &mut S,
 ) -> Result<PropTail, ReadError>
-    ensures { Reads edif same tail_item result cursor.old cursor.new (supply S.left S.faults source.old) (supply S.left S.faults source.new) }
+    ensures { Reads edif same tail_item result cursor.old cursor.new (S.supply source.old) (S.supply source.new) }
 {
     let keyword = cursor.begin(alloc, &[Keyword::Owner, Keyword::Comment], source)?;
     tail_form(alloc, cursor, keyword, source)
@@ -64,7 +63,7 @@ fn tail_form<S: Source>(
     keyword: Keyword,
     source: &mut S,
 ) -> Result<PropTail, ReadError>
-    ensures { Reads edif same (tail_form keyword) result cursor.old cursor.new (supply S.left S.faults source.old) (supply S.left S.faults source.new) }
+    ensures { Reads edif same (tail_form keyword) result cursor.old cursor.new (S.supply source.old) (S.supply source.new) }
 {
     if same_keyword(keyword, Keyword::Owner) {
         return owner(alloc, cursor, source);
@@ -79,7 +78,7 @@ fn owner<S: Source>(
     cursor: &mut Cursor,
     source: &mut S,
 ) -> Result<PropTail, ReadError>
-    ensures { Reads edif same owner result cursor.old cursor.new (supply S.left S.faults source.old) (supply S.left S.faults source.new) }
+    ensures { Reads edif same owner result cursor.old cursor.new (S.supply source.old) (S.supply source.new) }
 {
     let text = cursor.string(alloc, source)?;
     cursor.finish_form(alloc, source)?;
@@ -92,7 +91,7 @@ fn remark<S: Source>(
     cursor: &mut Cursor,
     source: &mut S,
 ) -> Result<PropTail, ReadError>
-    ensures { Reads edif same remark result cursor.old cursor.new (supply S.left S.faults source.old) (supply S.left S.faults source.new) }
+    ensures { Reads edif same remark result cursor.old cursor.new (S.supply source.old) (S.supply source.new) }
 {
     let texts = read_comment(alloc, cursor, source)?;
     Ok(PropTail::Comment(texts))

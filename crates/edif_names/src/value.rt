@@ -1,4 +1,3 @@
-ghost use Rattle.readers.specs.Sources.{supply};
 ghost use Rattle.readers.specs.Readers.{same, Reads};
 ghost use Rattle.edif_keywords.specs.Language.{edif};
 ghost use Rattle.edif_names.specs.Grammar.{string_value, integer_value, number_value, boolean_value, value_form, value};
@@ -17,7 +16,7 @@ pub(crate) fn read_value<S: Source>(
     cursor: &mut Cursor,
     source: &mut S,
 ) -> Result<PropValue, ReadError>
-    ensures { Reads edif same value result cursor.old cursor.new (supply S.left S.faults source.old) (supply S.left S.faults source.new) }
+    ensures { Reads edif same value result cursor.old cursor.new (S.supply source.old) (S.supply source.new) }
 {
     let allowed = [
         Keyword::String,
@@ -36,7 +35,7 @@ fn value_form<S: Source>(
     keyword: Keyword,
     source: &mut S,
 ) -> Result<PropValue, ReadError>
-    ensures { Reads edif same (value_form keyword) result cursor.old cursor.new (supply S.left S.faults source.old) (supply S.left S.faults source.new) }
+    ensures { Reads edif same (value_form keyword) result cursor.old cursor.new (S.supply source.old) (S.supply source.new) }
 {
     if same_keyword(keyword, Keyword::String) {
         return string_value(alloc, cursor, source);
@@ -57,7 +56,7 @@ fn string_value<S: Source>(
     cursor: &mut Cursor,
     source: &mut S,
 ) -> Result<PropValue, ReadError>
-    ensures { Reads edif same string_value result cursor.old cursor.new (supply S.left S.faults source.old) (supply S.left S.faults source.new) }
+    ensures { Reads edif same string_value result cursor.old cursor.new (S.supply source.old) (S.supply source.new) }
 {
     let text = cursor.string(alloc, source)?;
     cursor.finish_form(alloc, source)?;
@@ -71,7 +70,7 @@ fn integer_value<S: Source>(
     cursor: &mut Cursor,
     source: &mut S,
 ) -> Result<PropValue, ReadError>
-    ensures { Reads edif same integer_value result cursor.old cursor.new (supply S.left S.faults source.old) (supply S.left S.faults source.new) }
+    ensures { Reads edif same integer_value result cursor.old cursor.new (S.supply source.old) (S.supply source.new) }
 {
     let number = cursor.int(alloc, source)?;
     cursor.finish_form(alloc, source)?;
@@ -85,7 +84,7 @@ fn number_value<S: Source>(
     cursor: &mut Cursor,
     source: &mut S,
 ) -> Result<PropValue, ReadError>
-    ensures { Reads edif same number_value result cursor.old cursor.new (supply S.left S.faults source.old) (supply S.left S.faults source.new) }
+    ensures { Reads edif same number_value result cursor.old cursor.new (S.supply source.old) (S.supply source.new) }
 {
     let number = read_scaled(alloc, cursor, source)?;
     cursor.finish_form(alloc, source)?;
@@ -99,7 +98,7 @@ fn boolean_value<S: Source>(
     cursor: &mut Cursor,
     source: &mut S,
 ) -> Result<PropValue, ReadError>
-    ensures { Reads edif same boolean_value result cursor.old cursor.new (supply S.left S.faults source.old) (supply S.left S.faults source.new) }
+    ensures { Reads edif same boolean_value result cursor.old cursor.new (S.supply source.old) (S.supply source.new) }
 {
     let keyword = cursor.begin(alloc, &[Keyword::True, Keyword::False], source)?;
     cursor.finish_form(alloc, source)?;

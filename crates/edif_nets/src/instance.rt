@@ -1,5 +1,4 @@
 ghost use Rattle.std.specs.Prelude.{[]};
-ghost use Rattle.readers.specs.Sources.{supply};
 ghost use Rattle.readers.specs.Readers.{same, Reads};
 ghost use Rattle.edif_keywords.specs.Language.{edif};
 ghost use Rattle.edif_keywords.specs.Grammar.{item};
@@ -21,7 +20,7 @@ pub fn read_instance<S: Source>(
     cursor: &mut Cursor,
     source: &mut S,
 ) -> Result<Instance, ReadError>
-    ensures { Reads edif same instance result cursor.old cursor.new (supply S.left S.faults source.old) (supply S.left S.faults source.new) }
+    ensures { Reads edif same instance result cursor.old cursor.new (S.supply source.old) (S.supply source.new) }
 {
     let name = read_name(alloc, cursor, source)?;
     let (view, cell, library) = view_ref(alloc, cursor, source)?;
@@ -42,7 +41,7 @@ fn view_ref<S: Source>(
     cursor: &mut Cursor,
     source: &mut S,
 ) -> Result<(Ident, Ident, Option<Ident>), ReadError>
-    ensures { Reads edif same view_ref result cursor.old cursor.new (supply S.left S.faults source.old) (supply S.left S.faults source.new) }
+    ensures { Reads edif same view_ref result cursor.old cursor.new (S.supply source.old) (S.supply source.new) }
 {
     cursor.begin(alloc, &[Keyword::ViewRef], source)?;
     let view = cursor.word(alloc, source)?;
@@ -58,7 +57,7 @@ fn cell_ref<S: Source>(
     cursor: &mut Cursor,
     source: &mut S,
 ) -> Result<(Ident, Option<Ident>), ReadError>
-    ensures { Reads edif same cell_ref result cursor.old cursor.new (supply S.left S.faults source.old) (supply S.left S.faults source.new) }
+    ensures { Reads edif same cell_ref result cursor.old cursor.new (S.supply source.old) (S.supply source.new) }
 {
     cursor.begin(alloc, &[Keyword::CellRef], source)?;
     let cell = cursor.word(alloc, source)?;
@@ -73,7 +72,7 @@ fn maybe_library<S: Source>(
     cursor: &mut Cursor,
     source: &mut S,
 ) -> Result<Option<Ident>, ReadError>
-    ensures { Reads edif same maybe_library result cursor.old cursor.new (supply S.left S.faults source.old) (supply S.left S.faults source.new) }
+    ensures { Reads edif same maybe_library result cursor.old cursor.new (S.supply source.old) (S.supply source.new) }
 {
     if cursor.at_form(alloc, source)? {
         cursor.begin(alloc, &[Keyword::LibraryRef], source)?;
@@ -89,7 +88,7 @@ fn library_named<S: Source>(
     cursor: &mut Cursor,
     source: &mut S,
 ) -> Result<Option<Ident>, ReadError>
-    ensures { Reads edif same library_named result cursor.old cursor.new (supply S.left S.faults source.old) (supply S.left S.faults source.new) }
+    ensures { Reads edif same library_named result cursor.old cursor.new (S.supply source.old) (S.supply source.new) }
 {
     let library = cursor.word(alloc, source)?;
     cursor.finish_form(alloc, source)?;
@@ -103,7 +102,7 @@ fn no_library<S: Source>(
     cursor: &mut Cursor,
     source: &mut S,
 ) -> Result<Option<Ident>, ReadError>
-    ensures { Reads edif same no_library result cursor.old cursor.new (supply S.left S.faults source.old) (supply S.left S.faults source.new) }
+    ensures { Reads edif same no_library result cursor.old cursor.new (S.supply source.old) (S.supply source.new) }
 {
     cursor.finish_form(alloc, source)?;
     Ok(None)
@@ -115,7 +114,7 @@ fn instance_rest<S: Source>(
     cursor: &mut Cursor,
     source: &mut S,
 ) -> Result<Seq<InstanceItem>, ReadError>
-    ensures { Reads edif same (instance_rest []) result cursor.old cursor.new (supply S.left S.faults source.old) (supply S.left S.faults source.new) }
+    ensures { Reads edif same (instance_rest []) result cursor.old cursor.new (S.supply source.old) (S.supply source.new) }
 {
     let mut items = Seq::empty(alloc);
     while cursor.at_form(alloc, source)? {
@@ -133,7 +132,7 @@ fn instance_item<S: Source>(
     cursor: &mut Cursor,
     source: &mut S,
 ) -> Result<InstanceItem, ReadError>
-    ensures { Reads edif same (item instance_keywords instance_item) result cursor.old cursor.new (supply S.left S.faults source.old) (supply S.left S.faults source.new) }
+    ensures { Reads edif same (item instance_keywords instance_item) result cursor.old cursor.new (S.supply source.old) (S.supply source.new) }
 {
     let allowed = [
         Keyword::Property,
@@ -153,7 +152,7 @@ fn instance_form<S: Source>(
     keyword: Keyword,
     source: &mut S,
 ) -> Result<InstanceItem, ReadError>
-    ensures { Reads edif same (instance_item keyword) result cursor.old cursor.new (supply S.left S.faults source.old) (supply S.left S.faults source.new) }
+    ensures { Reads edif same (instance_item keyword) result cursor.old cursor.new (S.supply source.old) (S.supply source.new) }
 {
     if same_keyword(keyword, Keyword::Property) {
         return instance_property(alloc, cursor, source);
@@ -170,7 +169,7 @@ fn instance_property<S: Source>(
     cursor: &mut Cursor,
     source: &mut S,
 ) -> Result<InstanceItem, ReadError>
-    ensures { Reads edif same instance_property result cursor.old cursor.new (supply S.left S.faults source.old) (supply S.left S.faults source.new) }
+    ensures { Reads edif same instance_property result cursor.old cursor.new (S.supply source.old) (S.supply source.new) }
 {
     let property = read_property(alloc, cursor, source)?;
     Ok(InstanceItem::Property(property))
@@ -182,7 +181,7 @@ fn instance_designator<S: Source>(
     cursor: &mut Cursor,
     source: &mut S,
 ) -> Result<InstanceItem, ReadError>
-    ensures { Reads edif same instance_designator result cursor.old cursor.new (supply S.left S.faults source.old) (supply S.left S.faults source.new) }
+    ensures { Reads edif same instance_designator result cursor.old cursor.new (S.supply source.old) (S.supply source.new) }
 {
     let text = read_designator(alloc, cursor, source)?;
     Ok(InstanceItem::Designator(text))
@@ -195,7 +194,7 @@ fn instance_note<S: Source>(
     keyword: Keyword,
     source: &mut S,
 ) -> Result<InstanceItem, ReadError>
-    ensures { Reads edif same (instance_note keyword) result cursor.old cursor.new (supply S.left S.faults source.old) (supply S.left S.faults source.new) }
+    ensures { Reads edif same (instance_note keyword) result cursor.old cursor.new (S.supply source.old) (S.supply source.new) }
 {
     let note = read_note(alloc, cursor, keyword, source)?;
     Ok(InstanceItem::Note(note))

@@ -1,5 +1,4 @@
 ghost use Rattle.std.specs.Prelude.{[]};
-ghost use Rattle.readers.specs.Sources.{supply};
 ghost use Rattle.readers.specs.Readers.{same, Reads};
 ghost use Rattle.edif_keywords.specs.Language.{edif};
 ghost use Rattle.edif_keywords.specs.Grammar.{item};
@@ -20,7 +19,7 @@ pub fn read_net<S: Source>(
     cursor: &mut Cursor,
     source: &mut S,
 ) -> Result<Net, ReadError>
-    ensures { Reads edif same net result cursor.old cursor.new (supply S.left S.faults source.old) (supply S.left S.faults source.new) }
+    ensures { Reads edif same net result cursor.old cursor.new (S.supply source.old) (S.supply source.new) }
 {
     let name = read_name(alloc, cursor, source)?;
     let joined = joined(alloc, cursor, source)?;
@@ -39,7 +38,7 @@ fn joined<S: Source>(
     cursor: &mut Cursor,
     source: &mut S,
 ) -> Result<Seq<PortRef>, ReadError>
-    ensures { Reads edif same joined result cursor.old cursor.new (supply S.left S.faults source.old) (supply S.left S.faults source.new) }
+    ensures { Reads edif same joined result cursor.old cursor.new (S.supply source.old) (S.supply source.new) }
 {
     cursor.begin(alloc, &[Keyword::Joined], source)?;
     joined_rest(alloc, cursor, source)
@@ -51,7 +50,7 @@ fn joined_rest<S: Source>(
     cursor: &mut Cursor,
     source: &mut S,
 ) -> Result<Seq<PortRef>, ReadError>
-    ensures { Reads edif same (joined_rest []) result cursor.old cursor.new (supply S.left S.faults source.old) (supply S.left S.faults source.new) }
+    ensures { Reads edif same (joined_rest []) result cursor.old cursor.new (S.supply source.old) (S.supply source.new) }
 {
     let mut references = Seq::empty(alloc);
     while cursor.at_form(alloc, source)? {
@@ -69,7 +68,7 @@ fn joined_item<S: Source>(
     cursor: &mut Cursor,
     source: &mut S,
 ) -> Result<PortRef, ReadError>
-    ensures { Reads edif same (item joined_keywords (λ _. port_ref)) result cursor.old cursor.new (supply S.left S.faults source.old) (supply S.left S.faults source.new) }
+    ensures { Reads edif same (item joined_keywords (λ _. port_ref)) result cursor.old cursor.new (S.supply source.old) (S.supply source.new) }
 {
     cursor.begin(alloc, &[Keyword::PortRef], source)?;
     port_ref(alloc, cursor, source)
@@ -82,7 +81,7 @@ fn port_ref<S: Source>(
     cursor: &mut Cursor,
     source: &mut S,
 ) -> Result<PortRef, ReadError>
-    ensures { Reads edif same port_ref result cursor.old cursor.new (supply S.left S.faults source.old) (supply S.left S.faults source.new) }
+    ensures { Reads edif same port_ref result cursor.old cursor.new (S.supply source.old) (S.supply source.new) }
 {
     let (port, member) = port_or_member(alloc, cursor, source)?;
     let instance = maybe_instance(alloc, cursor, source)?;
@@ -100,7 +99,7 @@ fn port_or_member<S: Source>(
     cursor: &mut Cursor,
     source: &mut S,
 ) -> Result<(Ident, Option<Int>), ReadError>
-    ensures { Reads edif same port_or_member result cursor.old cursor.new (supply S.left S.faults source.old) (supply S.left S.faults source.new) }
+    ensures { Reads edif same port_or_member result cursor.old cursor.new (S.supply source.old) (S.supply source.new) }
 {
     if cursor.at_form(alloc, source)? {
         cursor.begin(alloc, &[Keyword::Member], source)?;
@@ -116,7 +115,7 @@ fn member<S: Source>(
     cursor: &mut Cursor,
     source: &mut S,
 ) -> Result<(Ident, Option<Int>), ReadError>
-    ensures { Reads edif same member result cursor.old cursor.new (supply S.left S.faults source.old) (supply S.left S.faults source.new) }
+    ensures { Reads edif same member result cursor.old cursor.new (S.supply source.old) (S.supply source.new) }
 {
     let port = cursor.word(alloc, source)?;
     let index = cursor.int(alloc, source)?;
@@ -130,7 +129,7 @@ fn whole_port<S: Source>(
     cursor: &mut Cursor,
     source: &mut S,
 ) -> Result<(Ident, Option<Int>), ReadError>
-    ensures { Reads edif same whole_port result cursor.old cursor.new (supply S.left S.faults source.old) (supply S.left S.faults source.new) }
+    ensures { Reads edif same whole_port result cursor.old cursor.new (S.supply source.old) (S.supply source.new) }
 {
     let port = cursor.word(alloc, source)?;
     Ok((port, None))
@@ -143,7 +142,7 @@ fn maybe_instance<S: Source>(
     cursor: &mut Cursor,
     source: &mut S,
 ) -> Result<Option<Ident>, ReadError>
-    ensures { Reads edif same maybe_instance result cursor.old cursor.new (supply S.left S.faults source.old) (supply S.left S.faults source.new) }
+    ensures { Reads edif same maybe_instance result cursor.old cursor.new (S.supply source.old) (S.supply source.new) }
 {
     if cursor.at_form(alloc, source)? {
         cursor.begin(alloc, &[Keyword::InstanceRef], source)?;
@@ -159,7 +158,7 @@ fn instance_named<S: Source>(
     cursor: &mut Cursor,
     source: &mut S,
 ) -> Result<Option<Ident>, ReadError>
-    ensures { Reads edif same instance_named result cursor.old cursor.new (supply S.left S.faults source.old) (supply S.left S.faults source.new) }
+    ensures { Reads edif same instance_named result cursor.old cursor.new (S.supply source.old) (S.supply source.new) }
 {
     let instance = cursor.word(alloc, source)?;
     cursor.finish_form(alloc, source)?;
@@ -173,7 +172,7 @@ fn no_instance<S: Source>(
     cursor: &mut Cursor,
     source: &mut S,
 ) -> Result<Option<Ident>, ReadError>
-    ensures { Reads edif same no_instance result cursor.old cursor.new (supply S.left S.faults source.old) (supply S.left S.faults source.new) }
+    ensures { Reads edif same no_instance result cursor.old cursor.new (S.supply source.old) (S.supply source.new) }
 {
     cursor.finish_form(alloc, source)?;
     Ok(None)
@@ -185,7 +184,7 @@ fn net_rest<S: Source>(
     cursor: &mut Cursor,
     source: &mut S,
 ) -> Result<Seq<NetItem>, ReadError>
-    ensures { Reads edif same (net_rest []) result cursor.old cursor.new (supply S.left S.faults source.old) (supply S.left S.faults source.new) }
+    ensures { Reads edif same (net_rest []) result cursor.old cursor.new (S.supply source.old) (S.supply source.new) }
 {
     let mut items = Seq::empty(alloc);
     while cursor.at_form(alloc, source)? {
@@ -203,7 +202,7 @@ fn net_item<S: Source>(
     cursor: &mut Cursor,
     source: &mut S,
 ) -> Result<NetItem, ReadError>
-    ensures { Reads edif same (item net_keywords net_item) result cursor.old cursor.new (supply S.left S.faults source.old) (supply S.left S.faults source.new) }
+    ensures { Reads edif same (item net_keywords net_item) result cursor.old cursor.new (S.supply source.old) (S.supply source.new) }
 {
     let allowed = [Keyword::Property, Keyword::Comment, Keyword::UserData];
     let keyword = cursor.begin(alloc, &allowed, source)?;
@@ -218,7 +217,7 @@ fn net_form<S: Source>(
     keyword: Keyword,
     source: &mut S,
 ) -> Result<NetItem, ReadError>
-    ensures { Reads edif same (net_item keyword) result cursor.old cursor.new (supply S.left S.faults source.old) (supply S.left S.faults source.new) }
+    ensures { Reads edif same (net_item keyword) result cursor.old cursor.new (S.supply source.old) (S.supply source.new) }
 {
     if same_keyword(keyword, Keyword::Property) {
         return net_property(alloc, cursor, source);
@@ -232,7 +231,7 @@ fn net_property<S: Source>(
     cursor: &mut Cursor,
     source: &mut S,
 ) -> Result<NetItem, ReadError>
-    ensures { Reads edif same net_property result cursor.old cursor.new (supply S.left S.faults source.old) (supply S.left S.faults source.new) }
+    ensures { Reads edif same net_property result cursor.old cursor.new (S.supply source.old) (S.supply source.new) }
 {
     let property = read_property(alloc, cursor, source)?;
     Ok(NetItem::Property(property))
@@ -245,7 +244,7 @@ fn net_note<S: Source>(
     keyword: Keyword,
     source: &mut S,
 ) -> Result<NetItem, ReadError>
-    ensures { Reads edif same (net_note keyword) result cursor.old cursor.new (supply S.left S.faults source.old) (supply S.left S.faults source.new) }
+    ensures { Reads edif same (net_note keyword) result cursor.old cursor.new (S.supply source.old) (S.supply source.new) }
 {
     let note = read_note(alloc, cursor, keyword, source)?;
     Ok(NetItem::Note(note))

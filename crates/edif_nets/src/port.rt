@@ -1,5 +1,4 @@
 ghost use Rattle.std.specs.Prelude.{◌≡◌, [], ◌||◌};
-ghost use Rattle.readers.specs.Sources.{supply};
 ghost use Rattle.readers.specs.Readers.{same, Reads};
 ghost use Rattle.edif_keywords.specs.Language.{edif};
 ghost use Rattle.edif_keywords.specs.Grammar.{item};
@@ -21,7 +20,7 @@ pub fn read_port<S: Source>(
     cursor: &mut Cursor,
     source: &mut S,
 ) -> Result<Port, ReadError>
-    ensures { Reads edif same port result cursor.old cursor.new (supply S.left S.faults source.old) (supply S.left S.faults source.new) }
+    ensures { Reads edif same port result cursor.old cursor.new (S.supply source.old) (S.supply source.new) }
 {
     let name = read_port_name(alloc, cursor, source)?;
     let items = port_rest(alloc, cursor, source)?;
@@ -35,7 +34,7 @@ pub fn read_designator<S: Source>(
     cursor: &mut Cursor,
     source: &mut S,
 ) -> Result<Text, ReadError>
-    ensures { Reads edif same designator result cursor.old cursor.new (supply S.left S.faults source.old) (supply S.left S.faults source.new) }
+    ensures { Reads edif same designator result cursor.old cursor.new (S.supply source.old) (S.supply source.new) }
 {
     let text = cursor.string(alloc, source)?;
     cursor.finish_form(alloc, source)?;
@@ -48,7 +47,7 @@ fn port_rest<S: Source>(
     cursor: &mut Cursor,
     source: &mut S,
 ) -> Result<Seq<PortItem>, ReadError>
-    ensures { Reads edif same (port_rest []) result cursor.old cursor.new (supply S.left S.faults source.old) (supply S.left S.faults source.new) }
+    ensures { Reads edif same (port_rest []) result cursor.old cursor.new (S.supply source.old) (S.supply source.new) }
 {
     let mut items = Seq::empty(alloc);
     let mut directed = false;
@@ -69,7 +68,7 @@ fn port_item<S: Source>(
     directed: bool,
     source: &mut S,
 ) -> Result<PortItem, ReadError>
-    ensures { Reads edif same (item (port_keywords directed) port_item) result cursor.old cursor.new (supply S.left S.faults source.old) (supply S.left S.faults source.new) }
+    ensures { Reads edif same (item (port_keywords directed) port_item) result cursor.old cursor.new (S.supply source.old) (S.supply source.new) }
 {
     let keyword = cursor.begin(alloc, port_keywords(directed), source)?;
     port_form(alloc, cursor, keyword, source)
@@ -83,7 +82,7 @@ fn port_form<S: Source>(
     keyword: Keyword,
     source: &mut S,
 ) -> Result<PortItem, ReadError>
-    ensures { Reads edif same (port_item keyword) result cursor.old cursor.new (supply S.left S.faults source.old) (supply S.left S.faults source.new) }
+    ensures { Reads edif same (port_item keyword) result cursor.old cursor.new (S.supply source.old) (S.supply source.new) }
 {
     if same_keyword(keyword, Keyword::Direction) {
         return direction_item(alloc, cursor, source);
@@ -104,7 +103,7 @@ fn direction_item<S: Source>(
     cursor: &mut Cursor,
     source: &mut S,
 ) -> Result<PortItem, ReadError>
-    ensures { Reads edif same direction result cursor.old cursor.new (supply S.left S.faults source.old) (supply S.left S.faults source.new) }
+    ensures { Reads edif same direction result cursor.old cursor.new (S.supply source.old) (S.supply source.new) }
 {
     let direction = cursor.choose(alloc, direction_words(), source)?;
     cursor.finish_form(alloc, source)?;
@@ -117,7 +116,7 @@ fn port_property<S: Source>(
     cursor: &mut Cursor,
     source: &mut S,
 ) -> Result<PortItem, ReadError>
-    ensures { Reads edif same port_property result cursor.old cursor.new (supply S.left S.faults source.old) (supply S.left S.faults source.new) }
+    ensures { Reads edif same port_property result cursor.old cursor.new (S.supply source.old) (S.supply source.new) }
 {
     let property = read_property(alloc, cursor, source)?;
     Ok(PortItem::Property(property))
@@ -129,7 +128,7 @@ fn port_designator<S: Source>(
     cursor: &mut Cursor,
     source: &mut S,
 ) -> Result<PortItem, ReadError>
-    ensures { Reads edif same port_designator result cursor.old cursor.new (supply S.left S.faults source.old) (supply S.left S.faults source.new) }
+    ensures { Reads edif same port_designator result cursor.old cursor.new (S.supply source.old) (S.supply source.new) }
 {
     let text = read_designator(alloc, cursor, source)?;
     Ok(PortItem::Designator(text))
@@ -142,7 +141,7 @@ fn port_note<S: Source>(
     keyword: Keyword,
     source: &mut S,
 ) -> Result<PortItem, ReadError>
-    ensures { Reads edif same (port_note keyword) result cursor.old cursor.new (supply S.left S.faults source.old) (supply S.left S.faults source.new) }
+    ensures { Reads edif same (port_note keyword) result cursor.old cursor.new (S.supply source.old) (S.supply source.new) }
 {
     let note = read_note(alloc, cursor, keyword, source)?;
     Ok(PortItem::Note(note))

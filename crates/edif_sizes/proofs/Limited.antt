@@ -3,7 +3,7 @@ use Rattle.std.proofs.Common.{◌<◌, List, ℕ, [], Option, Some, None, IfSome
 use Rattle.nl_base.specs.declared.fault.ReadError.{ReadError}
 use Rattle.nl_base.specs.declared.fault.ReadError.TheVariants as errors
 use Rattle.nl_bytes.specs.declared.bytes.TheConstants.{LIMIT}
-use Rattle.readers.specs.Sources.{Supply}
+use Rattle.nl_io.specs.Sources.{Supply}
 use Rattle.readers.specs.Readers.{same}
 use Rattle.readers.specs.Texts.{ReadsText, Comes, tokens_of}
 use Rattle.edif_keywords.specs.Language.{edif}

@@ -1,6 +1,5 @@
 ghost use Rattle.std.specs.Prelude.{◌≤◌, [], IfOk};
 ghost use Rattle.nl_bytes.specs.declared.bytes.TheConstants.{LIMIT};
-ghost use Rattle.readers.specs.Sources.{supply};
 ghost use Rattle.readers.specs.Readers.{same};
 ghost use Rattle.readers.specs.Texts.{ReadsText};
 ghost use Rattle.edif_keywords.specs.Language.{edif};
@@ -21,7 +20,7 @@ use std::alloc::Global;
 /// Those of `read_edif`. No file is refused for its size where the source tells its bytes, since each such file has at most as many items as
 /// bytes. Where it does not, nothing is known of the bytes, so the size is asked.
 pub fn read_sized_edif<S: Source>(alloc: Global, source: &mut S) -> Result<EdifFile, ReadError>
-    ensures reads { ReadsText edif trailing [] same (file []) result (supply S.left S.faults source.old) (supply S.left S.faults source.new) }
+    ensures reads { ReadsText edif trailing [] same (file []) result (S.supply source.old) (S.supply source.new) }
     ensures size { IfOk result (λ file. edif_size file ≤ LIMIT) }
 {
     match read_edif(alloc, source) {

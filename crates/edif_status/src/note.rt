@@ -1,4 +1,3 @@
-ghost use Rattle.readers.specs.Sources.{supply};
 ghost use Rattle.readers.specs.Readers.{same, Reads};
 ghost use Rattle.edif_keywords.specs.Language.{edif};
 ghost use Rattle.edif_status.specs.Grammar.{remark, user_note, note};
@@ -18,7 +17,7 @@ pub fn read_note<S: Source>(
     keyword: Keyword,
     source: &mut S,
 ) -> Result<Note, ReadError>
-    ensures { Reads edif same (note keyword) result cursor.old cursor.new (supply S.left S.faults source.old) (supply S.left S.faults source.new) }
+    ensures { Reads edif same (note keyword) result cursor.old cursor.new (S.supply source.old) (S.supply source.new) }
 {
     if same_keyword(keyword, Keyword::Comment) {
         return remark(alloc, cursor, source);
@@ -29,7 +28,7 @@ pub fn read_note<S: Source>(
 /// Reads on after the keyword `comment`.
 #[tactic(auto, using(readers::proofs::Reading::sequences), unfolding(crate::specs::Grammar::remark))]
 fn remark<S: Source>(alloc: Global, cursor: &mut Cursor, source: &mut S) -> Result<Note, ReadError>
-    ensures { Reads edif same remark result cursor.old cursor.new (supply S.left S.faults source.old) (supply S.left S.faults source.new) }
+    ensures { Reads edif same remark result cursor.old cursor.new (S.supply source.old) (S.supply source.new) }
 {
     let texts = read_comment(alloc, cursor, source)?;
     Ok(Note::Comment(texts))
@@ -42,7 +41,7 @@ fn user_note<S: Source>(
     cursor: &mut Cursor,
     source: &mut S,
 ) -> Result<Note, ReadError>
-    ensures { Reads edif same user_note result cursor.old cursor.new (supply S.left S.faults source.old) (supply S.left S.faults source.new) }
+    ensures { Reads edif same user_note result cursor.old cursor.new (S.supply source.old) (S.supply source.new) }
 {
     let data = read_user(alloc, cursor, source)?;
     Ok(Note::User(data))

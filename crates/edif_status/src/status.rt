@@ -1,5 +1,4 @@
 ghost use Rattle.std.specs.Prelude.{[]};
-ghost use Rattle.readers.specs.Sources.{supply};
 ghost use Rattle.readers.specs.Readers.{same, Reads};
 ghost use Rattle.edif_keywords.specs.Language.{edif};
 ghost use Rattle.edif_status.specs.Grammar.{status_written, status_note, status_item, status_part, status_rest, status};
@@ -19,7 +18,7 @@ pub fn read_status<S: Source>(
     cursor: &mut Cursor,
     source: &mut S,
 ) -> Result<Status, ReadError>
-    ensures { Reads edif same status result cursor.old cursor.new (supply S.left S.faults source.old) (supply S.left S.faults source.new) }
+    ensures { Reads edif same status result cursor.old cursor.new (S.supply source.old) (S.supply source.new) }
 {
     let items = read_status_items(alloc, cursor, source)?;
     Ok(Status { items })
@@ -32,7 +31,7 @@ fn read_status_items<S: Source>(
     cursor: &mut Cursor,
     source: &mut S,
 ) -> Result<Seq<StatusItem>, ReadError>
-    ensures { Reads edif same (status_rest []) result cursor.old cursor.new (supply S.left S.faults source.old) (supply S.left S.faults source.new) }
+    ensures { Reads edif same (status_rest []) result cursor.old cursor.new (S.supply source.old) (S.supply source.new) }
 {
     let mut items = Seq::empty(alloc);
     while cursor.at_form(alloc, source)? {
@@ -50,7 +49,7 @@ fn read_status_item<S: Source>(
     cursor: &mut Cursor,
     source: &mut S,
 ) -> Result<StatusItem, ReadError>
-    ensures { Reads edif same status_part result cursor.old cursor.new (supply S.left S.faults source.old) (supply S.left S.faults source.new) }
+    ensures { Reads edif same status_part result cursor.old cursor.new (S.supply source.old) (S.supply source.new) }
 {
     let allowed = &[Keyword::Written, Keyword::Comment, Keyword::UserData];
     let keyword = cursor.begin(alloc, allowed, source)?;
@@ -65,7 +64,7 @@ fn read_status_form<S: Source>(
     keyword: Keyword,
     source: &mut S,
 ) -> Result<StatusItem, ReadError>
-    ensures { Reads edif same (status_item keyword) result cursor.old cursor.new (supply S.left S.faults source.old) (supply S.left S.faults source.new) }
+    ensures { Reads edif same (status_item keyword) result cursor.old cursor.new (S.supply source.old) (S.supply source.new) }
 {
     if same_keyword(keyword, Keyword::Written) {
         return status_written(alloc, cursor, source);
@@ -80,7 +79,7 @@ fn status_written<S: Source>(
     cursor: &mut Cursor,
     source: &mut S,
 ) -> Result<StatusItem, ReadError>
-    ensures { Reads edif same status_written result cursor.old cursor.new (supply S.left S.faults source.old) (supply S.left S.faults source.new) }
+    ensures { Reads edif same status_written result cursor.old cursor.new (S.supply source.old) (S.supply source.new) }
 {
     let written = read_written(alloc, cursor, source)?;
     Ok(StatusItem::Written(written))
@@ -94,7 +93,7 @@ fn status_note<S: Source>(
     keyword: Keyword,
     source: &mut S,
 ) -> Result<StatusItem, ReadError>
-    ensures { Reads edif same (status_note keyword) result cursor.old cursor.new (supply S.left S.faults source.old) (supply S.left S.faults source.new) }
+    ensures { Reads edif same (status_note keyword) result cursor.old cursor.new (S.supply source.old) (S.supply source.new) }
 {
     let note = read_note(alloc, cursor, keyword, source)?;
     Ok(StatusItem::Note(note))

@@ -1,5 +1,4 @@
 ghost use Rattle.std.specs.Prelude.{◌≡◌, []};
-ghost use Rattle.readers.specs.Sources.{supply};
 ghost use Rattle.readers.specs.Readers.{same, Reads, LooksFor};
 ghost use Rattle.edif_keywords.specs.Language.{edif};
 ghost use Rattle.edif_status.specs.Grammar.{begins_tree, has_number, plain, leaf, trees, user_tree, user_list, user};
@@ -18,7 +17,7 @@ pub fn read_user<S: Source>(
     cursor: &mut Cursor,
     source: &mut S,
 ) -> Result<UserData, ReadError>
-    ensures { Reads edif same user result cursor.old cursor.new (supply S.left S.faults source.old) (supply S.left S.faults source.new) }
+    ensures { Reads edif same user result cursor.old cursor.new (S.supply source.old) (S.supply source.new) }
 {
     let name = cursor.word(alloc, source)?;
     let trees = read_trees(alloc, cursor, 64, source)?;
@@ -34,7 +33,7 @@ fn read_trees<S: Source>(
     room: u8,
     source: &mut S,
 ) -> Result<Seq<UserTree>, ReadError>
-    ensures { Reads edif same (trees room []) result cursor.old cursor.new (supply S.left S.faults source.old) (supply S.left S.faults source.new) }
+    ensures { Reads edif same (trees room []) result cursor.old cursor.new (S.supply source.old) (S.supply source.new) }
 {
     let mut trees = Seq::empty(alloc);
     while at_tree(alloc, cursor, source)? {
@@ -54,7 +53,7 @@ fn read_tree<S: Source>(
     room: u8,
     source: &mut S,
 ) -> Result<UserTree, ReadError>
-    ensures { Reads edif same (user_tree room) result cursor.old cursor.new (supply S.left S.faults source.old) (supply S.left S.faults source.new) }
+    ensures { Reads edif same (user_tree room) result cursor.old cursor.new (S.supply source.old) (S.supply source.new) }
 {
     if cursor.look_form(alloc, source)? {
         if room == 0 {
@@ -74,7 +73,7 @@ fn read_list<S: Source>(
     room: u8,
     source: &mut S,
 ) -> Result<UserTree, ReadError>
-    ensures { Reads edif same (user_list room) result cursor.old cursor.new (supply S.left S.faults source.old) (supply S.left S.faults source.new) }
+    ensures { Reads edif same (user_list room) result cursor.old cursor.new (S.supply source.old) (S.supply source.new) }
 {
     cursor.begin_list(alloc, source)?;
     let trees = read_trees(alloc, cursor, room, source)?;
@@ -88,7 +87,7 @@ fn read_leaf<S: Source>(
     cursor: &mut Cursor,
     source: &mut S,
 ) -> Result<UserTree, ReadError>
-    ensures { Reads edif same leaf result cursor.old cursor.new (supply S.left S.faults source.old) (supply S.left S.faults source.new) }
+    ensures { Reads edif same leaf result cursor.old cursor.new (S.supply source.old) (S.supply source.new) }
 {
     if cursor.at_string(alloc, source)? {
         let text = cursor.string(alloc, source)?;
@@ -104,7 +103,7 @@ fn read_plain<S: Source>(
     cursor: &mut Cursor,
     source: &mut S,
 ) -> Result<UserTree, ReadError>
-    ensures { Reads edif same plain result cursor.old cursor.new (supply S.left S.faults source.old) (supply S.left S.faults source.new) }
+    ensures { Reads edif same plain result cursor.old cursor.new (S.supply source.old) (S.supply source.new) }
 {
     if at_number(alloc, cursor, source)? {
         let number = cursor.int(alloc, source)?;
@@ -117,7 +116,7 @@ fn read_plain<S: Source>(
 /// Whether there is a next token that begins a tree. It takes nothing.
 #[tactic(auto, using(crate::proofs::Trees::trees_next))]
 fn at_tree<S: Source>(alloc: Global, cursor: &mut Cursor, source: &mut S) -> Result<bool, ReadError>
-    ensures { LooksFor edif begins_tree result cursor.old cursor.new (supply S.left S.faults source.old) (supply S.left S.faults source.new) }
+    ensures { LooksFor edif begins_tree result cursor.old cursor.new (S.supply source.old) (S.supply source.new) }
 {
     cursor.look(alloc, source)?;
     if let Some(found) = cursor.ahead() {
@@ -133,7 +132,7 @@ fn at_number<S: Source>(
     cursor: &mut Cursor,
     source: &mut S,
 ) -> Result<bool, ReadError>
-    ensures { LooksFor edif has_number result cursor.old cursor.new (supply S.left S.faults source.old) (supply S.left S.faults source.new) }
+    ensures { LooksFor edif has_number result cursor.old cursor.new (S.supply source.old) (S.supply source.new) }
 {
     cursor.look(alloc, source)?;
     if let Some(found) = cursor.ahead() {

@@ -1,5 +1,4 @@
 ghost use Rattle.std.specs.Prelude.{[]};
-ghost use Rattle.readers.specs.Sources.{supply};
 ghost use Rattle.readers.specs.Readers.{same, Reads};
 ghost use Rattle.edif_keywords.specs.Language.{edif};
 ghost use Rattle.edif_status.specs.Grammar.{clock, stamp, version_text, no_version, maybe_version, author, program, data_origin, written_note, written_item, written_part, written_rest, written};
@@ -18,7 +17,7 @@ pub(crate) fn read_written<S: Source>(
     cursor: &mut Cursor,
     source: &mut S,
 ) -> Result<Written, ReadError>
-    ensures { Reads edif same written result cursor.old cursor.new (supply S.left S.faults source.old) (supply S.left S.faults source.new) }
+    ensures { Reads edif same written result cursor.old cursor.new (S.supply source.old) (S.supply source.new) }
 {
     cursor.begin(alloc, &[Keyword::TimeStamp], source)?;
     let stamp = read_stamp(alloc, cursor, source)?;
@@ -33,7 +32,7 @@ fn read_stamp<S: Source>(
     cursor: &mut Cursor,
     source: &mut S,
 ) -> Result<Stamp, ReadError>
-    ensures { Reads edif same stamp result cursor.old cursor.new (supply S.left S.faults source.old) (supply S.left S.faults source.new) }
+    ensures { Reads edif same stamp result cursor.old cursor.new (S.supply source.old) (S.supply source.new) }
 {
     let year = cursor.int(alloc, source)?;
     let month = cursor.int(alloc, source)?;
@@ -51,7 +50,7 @@ fn read_clock<S: Source>(
     day: Int,
     source: &mut S,
 ) -> Result<Stamp, ReadError>
-    ensures { Reads edif same (clock year month day) result cursor.old cursor.new (supply S.left S.faults source.old) (supply S.left S.faults source.new) }
+    ensures { Reads edif same (clock year month day) result cursor.old cursor.new (S.supply source.old) (S.supply source.new) }
 {
     let hour = cursor.int(alloc, source)?;
     let minute = cursor.int(alloc, source)?;
@@ -74,7 +73,7 @@ fn read_written_items<S: Source>(
     cursor: &mut Cursor,
     source: &mut S,
 ) -> Result<Seq<WrittenItem>, ReadError>
-    ensures { Reads edif same (written_rest []) result cursor.old cursor.new (supply S.left S.faults source.old) (supply S.left S.faults source.new) }
+    ensures { Reads edif same (written_rest []) result cursor.old cursor.new (S.supply source.old) (S.supply source.new) }
 {
     let mut items = Seq::empty(alloc);
     while cursor.at_form(alloc, source)? {
@@ -92,7 +91,7 @@ fn read_written_item<S: Source>(
     cursor: &mut Cursor,
     source: &mut S,
 ) -> Result<WrittenItem, ReadError>
-    ensures { Reads edif same written_part result cursor.old cursor.new (supply S.left S.faults source.old) (supply S.left S.faults source.new) }
+    ensures { Reads edif same written_part result cursor.old cursor.new (S.supply source.old) (S.supply source.new) }
 {
     let allowed = &[
         Keyword::Author,
@@ -113,7 +112,7 @@ fn read_written_form<S: Source>(
     keyword: Keyword,
     source: &mut S,
 ) -> Result<WrittenItem, ReadError>
-    ensures { Reads edif same (written_item keyword) result cursor.old cursor.new (supply S.left S.faults source.old) (supply S.left S.faults source.new) }
+    ensures { Reads edif same (written_item keyword) result cursor.old cursor.new (S.supply source.old) (S.supply source.new) }
 {
     if same_keyword(keyword, Keyword::Author) {
         return read_author(alloc, cursor, source);
@@ -135,7 +134,7 @@ fn read_author<S: Source>(
     cursor: &mut Cursor,
     source: &mut S,
 ) -> Result<WrittenItem, ReadError>
-    ensures { Reads edif same author result cursor.old cursor.new (supply S.left S.faults source.old) (supply S.left S.faults source.new) }
+    ensures { Reads edif same author result cursor.old cursor.new (S.supply source.old) (S.supply source.new) }
 {
     let name = cursor.string(alloc, source)?;
     cursor.finish_form(alloc, source)?;
@@ -149,7 +148,7 @@ fn read_program<S: Source>(
     cursor: &mut Cursor,
     source: &mut S,
 ) -> Result<WrittenItem, ReadError>
-    ensures { Reads edif same program result cursor.old cursor.new (supply S.left S.faults source.old) (supply S.left S.faults source.new) }
+    ensures { Reads edif same program result cursor.old cursor.new (S.supply source.old) (S.supply source.new) }
 {
     let name = cursor.string(alloc, source)?;
     let version = read_version(alloc, cursor, source)?;
@@ -163,7 +162,7 @@ fn read_data_origin<S: Source>(
     cursor: &mut Cursor,
     source: &mut S,
 ) -> Result<WrittenItem, ReadError>
-    ensures { Reads edif same data_origin result cursor.old cursor.new (supply S.left S.faults source.old) (supply S.left S.faults source.new) }
+    ensures { Reads edif same data_origin result cursor.old cursor.new (S.supply source.old) (S.supply source.new) }
 {
     let name = cursor.string(alloc, source)?;
     let version = read_version(alloc, cursor, source)?;
@@ -177,7 +176,7 @@ fn read_version<S: Source>(
     cursor: &mut Cursor,
     source: &mut S,
 ) -> Result<Option<Text>, ReadError>
-    ensures { Reads edif same maybe_version result cursor.old cursor.new (supply S.left S.faults source.old) (supply S.left S.faults source.new) }
+    ensures { Reads edif same maybe_version result cursor.old cursor.new (S.supply source.old) (S.supply source.new) }
 {
     if cursor.at_form(alloc, source)? {
         cursor.begin(alloc, &[Keyword::Version], source)?;
@@ -193,7 +192,7 @@ fn read_version_text<S: Source>(
     cursor: &mut Cursor,
     source: &mut S,
 ) -> Result<Option<Text>, ReadError>
-    ensures { Reads edif same version_text result cursor.old cursor.new (supply S.left S.faults source.old) (supply S.left S.faults source.new) }
+    ensures { Reads edif same version_text result cursor.old cursor.new (S.supply source.old) (S.supply source.new) }
 {
     let text = cursor.string(alloc, source)?;
     cursor.finish_form(alloc, source)?;
@@ -208,7 +207,7 @@ fn no_version<S: Source>(
     cursor: &mut Cursor,
     source: &mut S,
 ) -> Result<Option<Text>, ReadError>
-    ensures { Reads edif same no_version result cursor.old cursor.new (supply S.left S.faults source.old) (supply S.left S.faults source.new) }
+    ensures { Reads edif same no_version result cursor.old cursor.new (S.supply source.old) (S.supply source.new) }
 {
     cursor.finish_form(alloc, source)?;
     Ok(None)

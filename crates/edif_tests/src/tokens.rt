@@ -17,9 +17,7 @@ use std::test::Fail;
 struct Blanks;
 
 impl Source for Blanks {
-    ghost left = { λ _. None };
-
-    ghost faults = { λ _. 0 };
+    ghost supply = { λ _. record { left = None; faults = 0 } };
 
     fn take(&mut self, buf: &mut [u8]) -> Result<usize, Failed>
         requires { 0 < length buf.old }

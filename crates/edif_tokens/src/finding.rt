@@ -18,11 +18,11 @@ pub fn found<S: Source>(
     alloc: Global,
     source: &mut S,
 ) -> Result<Option<Found>, ReadError>
-    ensures finds { Finds bytes.old bytes.new (S.left source.old) (S.left source.new) result }
+    ensures finds { Finds bytes.old bytes.new (S.supply source.old).left (S.supply source.new).left result }
     ensures never_spent { IsErrOf result ReadError.Spent → ⊥ }
     ensures bounded { OnText result (λ t. bytes.new.place.offset ≤ t.stop) }
-    ensures count { S.faults source.old ≤ S.faults source.new }
-    ensures cause { IsErrOf result ReadError.ReadFault → Rose (S.faults source.old) (S.faults source.new) }
+    ensures count { (S.supply source.old).faults ≤ (S.supply source.new).faults }
+    ensures cause { IsErrOf result ReadError.ReadFault → Rose (S.supply source.old).faults (S.supply source.new).faults }
 {
     let next = bytes.skip(Class::Space, source)?;
     let Some(byte) = next else {

@@ -176,7 +176,7 @@ impl Tokens {
         alloc: Global,
         source: &mut S,
     ) -> Result<Option<Found>, ReadError>
-        ensures { ReadsToken result self.old self.new (S.left source.old) (S.left source.new) (S.faults source.old) (S.faults source.new) }
+        ensures { ReadsToken result self.old self.new (S.supply source.old).left (S.supply source.new).left (S.supply source.old).faults (S.supply source.new).faults }
     {
         if self.spent {
             return Err(ReadError::Spent);

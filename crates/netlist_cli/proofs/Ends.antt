@@ -2,7 +2,7 @@
 use Rattle.std.proofs.Common.{◌≡◌, ◌≢◌, ◌↔◌, ◌⊎◌, inl, inr, ℕ, List, Option, Some, None, IfSome, Result, Ok, Err, refl, sym, ap, ◌∙◌, subst, arith}
 use Rattle.nl_io.specs.Causes.{Rose}
 use Rattle.nl_io.specs.declared.source.Failed.{Failed}
-use Rattle.readers.specs.Sources.{Supply, supply}
+use Rattle.nl_io.specs.Sources.{Supply}
 use Rattle.readers.proofs.Moving.{skip_none}
 use Rattle.netlist_words.specs.declared.command.Command.{Command}
 use Rattle.netlist_words.specs.declared.command.Command.TheVariants as commands
@@ -213,35 +213,35 @@ asked_fits words None h = tt
 asked_fits words (Some c) h = command_fits words c h
 
 -- What a run has done with the input and the output, by its status.
-pub record RunsTo {S O : Type 0} (left : S → Option (List ℕ)) (count : S → ℕ) (taken : O → List ℕ → Type 0) (accepts : O → ℕ → Type 0) (faults : O → ℕ) (words : List (List ℕ)) (a b : S) (old new : O) (status : Status) : Type 0 where
-  pub done : status ≡ statuses.Done → IfCommand words (λ c. WroteText taken accepts faults (meaning_of c) (supply left count a) (supply left count b) old new)
-  pub write_fault : status ≡ statuses.WriteFault → IfCommand words (λ c. BrokeOff taken accepts faults (meaning_of c) (supply left count a) (supply left count b) old new)
+pub record RunsTo {S O : Type 0} (supply : S → Supply) (taken : O → List ℕ → Type 0) (accepts : O → ℕ → Type 0) (faults : O → ℕ) (words : List (List ℕ)) (a b : S) (old new : O) (status : Status) : Type 0 where
+  pub done : status ≡ statuses.Done → IfCommand words (λ c. WroteText taken accepts faults (meaning_of c) (supply a) (supply b) old new)
+  pub write_fault : status ≡ statuses.WriteFault → IfCommand words (λ c. BrokeOff taken accepts faults (meaning_of c) (supply a) (supply b) old new)
   pub usage : (status ≡ statuses.Usage) ↔ IsNoCommand words
   pub unread : status ≡ statuses.Usage → b ≡ a
   pub leaves_input : IfCommand words (λ c. ReadsNothing c → LeavesInput a b status)
   pub unwritten : status ≢ statuses.Done → status ≢ statuses.WriteFault → new ≡ old
-  pub exact : IfCommand words (λ c. IfSome (left a) (λ bs. FitsBytes (meaning_of c) bs status))
-  pub complete : ¬ Rose (count a) (count b) → IfCommand words (λ c. IfSome (left a) (λ bs. IsDecided (meaning_of c) bs (Rose (faults old) (faults new)) status))
+  pub exact : IfCommand words (λ c. IfSome (supply a).left (λ bs. FitsBytes (meaning_of c) bs status))
+  pub complete : ¬ Rose (supply a).faults (supply b).faults → IfCommand words (λ c. IfSome (supply a).left (λ bs. IsDecided (meaning_of c) bs (Rose (faults old) (faults new)) status))
 
 -- what is so of a command for which the words ask is so of each
 for_command : (words : List (List ℕ)) (c : Command) → IsCommand words c → (P : Command → Type 0) → P c → IfCommand words P
 for_command words c is P h d asked = subst P (one_command words c d is asked) h
 
-module _ {S O : Type 0} (left : S → Option (List ℕ)) (count : S → ℕ) (taken : O → List ℕ → Type 0) (accepts : O → ℕ → Type 0) (faults : O → ℕ) (words : List (List ℕ)) (a b : S) (old new : O) where
+module _ {S O : Type 0} (supply : S → Supply) (taken : O → List ℕ → Type 0) (accepts : O → ℕ → Type 0) (faults : O → ℕ) (words : List (List ℕ)) (a b : S) (old new : O) where
   abbrev before : Supply
-  before = supply left count a
+  before = supply a
 
   abbrev after : Supply
-  after = supply left count b
+  after = supply b
 
   abbrev performed : Option Command → Result (Unit {0}) Failure → Type 0
-  performed asked r = Performs taken accepts faults (supply left count) asked a b old new r
+  performed asked r = Performs taken accepts faults supply asked a b old new r
 
   -- what was done for the words
   abbrev pub does_asked : Result (Unit {0}) Failure → Type 0
-  does_asked r = DoesAsked taken accepts faults (supply left count) words a b old new r
+  does_asked r = DoesAsked taken accepts faults supply words a b old new r
 
-  no_command : IsNoCommand words → b ≡ a → new ≡ old → RunsTo left count taken accepts faults words a b old new statuses.Usage
+  no_command : IsNoCommand words → b ≡ a → new ≡ old → RunsTo supply taken accepts faults words a b old new statuses.Usage
   no_command none e d = record {
     done = λ h c asked. absurd (none c asked);
     write_fault = λ h c asked. absurd (none c asked);
@@ -254,7 +254,7 @@ module _ {S O : Type 0} (left : S → Option (List ℕ)) (count : S → ℕ) (ta
   }
 
   -- how a run ends for what the words ask for
-  run_ends : (asked : Option Command) (r : Result (Unit {0}) Failure) → IsAsked words asked → performed asked r → RunsTo left count taken accepts faults words a b old new (ending r)
+  run_ends : (asked : Option Command) (r : Result (Unit {0}) Failure) → IsAsked words asked → performed asked r → RunsTo supply taken accepts faults words a b old new (ending r)
   run_ends None r is h = rw h.0 (no_command is h.1 h.2)
   run_ends (Some c) r is h = record {
     done = λ e. for_command words c is _ (done_so taken accepts faults (meaning_of c) before after old new r h.0 e);
@@ -268,8 +268,8 @@ module _ {S O : Type 0} (left : S → Option (List ℕ)) (count : S → ℕ) (ta
   }
 
   -- the same for a status that is known to be the one of the answer
-  pub run_ends_as : (r : Result (Unit {0}) Failure) (status : Status) → does_asked r → status ≡ ending r → RunsTo left count taken accepts faults words a b old new status
-  run_ends_as r status h e = subst (λ (z : Status). RunsTo left count taken accepts faults words a b old new z) (sym e) (run_ends h.asked r h.is_asked h.performed)
+  pub run_ends_as : (r : Result (Unit {0}) Failure) (status : Status) → does_asked r → status ≡ ending r → RunsTo supply taken accepts faults words a b old new status
+  run_ends_as r status h e = subst (λ (z : Status). RunsTo supply taken accepts faults words a b old new z) (sym e) (run_ends h.asked r h.is_asked h.performed)
 
   fails : (asked : Option Command) (f : Failure) → IsAsked words asked → performed asked (Err f) → Fails words before after f
   fails None f is h = let d : Err f ≡ Err failures.Usage = h.0 in record { usage = λ none. cc; cause = λ c asked. absurd (is c asked) }

@@ -1,6 +1,6 @@
 -- Why nothing is written.
 use Rattle.std.proofs.Common.{◌≡◌, ◌≢◌, ℕ, List, IfSome, Err, refl}
-use Rattle.readers.specs.Sources.{Supply}
+use Rattle.nl_io.specs.Sources.{Supply}
 use Rattle.netlist_cli.specs.declared.failure.Failure.{Failure}
 use Rattle.netlist_cli.specs.declared.failure.Failure.TheVariants as failures
 use Rattle.netlist_cli.specs.Outcomes.{FileLanguage, Meaning, Question, Verdict}

@@ -10,7 +10,8 @@ use Rattle.nl_io.specs.declared.source.Failed.{Failed}
 use Rattle.nl_output.specs.Writing.{Writes}
 use Rattle.readers.specs.Parts.{PartOf}
 use Rattle.readers.specs.Readers.{same, fault_at}
-use Rattle.readers.specs.Sources.{Supply, Language}
+use Rattle.nl_io.specs.Sources.{Supply}
+use Rattle.readers.specs.Sources.{Language}
 use Rattle.readers.specs.Texts.{tokens_of, SpellsText, ReadsText}
 use Rattle.netlist_cli.specs.declared.failure.Failure.TheVariants as failures
 use Rattle.netlist_cli.specs.Outcomes.{FileLanguage, Meaning, Verdict, fine}

@@ -3,7 +3,7 @@ use Rattle.std.proofs.Common.{◌≡◌, ℕ, List, [], Option, Some, None, refl
 use Rattle.nl_base.specs.declared.fault.TextFault.{TextFault}
 use Rattle.nl_base.specs.declared.rule.Refusal.{Refusal}
 use Rattle.nl_io.specs.Causes.{Rose}
-use Rattle.readers.specs.Sources.{Supply}
+use Rattle.nl_io.specs.Sources.{Supply}
 use Rattle.edif_library.proofs.AtMostOne as edif_laws
 use Rattle.vlog_modules.proofs.AtMostOne as verilog_laws
 use Rattle.flat_classes.specs.FlatSums.{flat_count}

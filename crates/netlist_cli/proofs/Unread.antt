@@ -2,7 +2,7 @@
 use Rattle.std.proofs.Common.{ℕ, List, Option, Result, Ok, Err, refl}
 use Rattle.nl_io.specs.declared.source.Failed.{Failed}
 use Rattle.nl_output.specs.Writing.{Writes}
-use Rattle.readers.specs.Sources.{Supply}
+use Rattle.nl_io.specs.Sources.{Supply}
 use Rattle.vectors_line.specs.Lines.{IsGeneratedLine}
 use Rattle.netlist_words.specs.declared.command.Command.TheVariants as commands
 use Rattle.netlist_cli.specs.Meanings.{meaning_of}

@@ -3,7 +3,7 @@ use Rattle.std.specs.Prelude.{◌≡◌, ◌≢◌, ℕ, ◌<◌, ⊤, List, [],
 use Rattle.std.specs.Io.KnownBytes.{IsAtEnd}
 use Rattle.nl_io.specs.declared.source.Failed.{Failed}
 use Rattle.nl_output.specs.Writing.{Writes}
-use Rattle.readers.specs.Sources.{Supply}
+use Rattle.nl_io.specs.Sources.{Supply}
 use Rattle.edif_copies.specs.Answers.{IsEdifFor}
 use Rattle.edif_library.specs.Text.{EdifReads}
 use Rattle.edif_values.specs.declared.file.EdifFile.{EdifFile}

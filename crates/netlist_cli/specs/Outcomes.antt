@@ -4,7 +4,7 @@ use Rattle.nl_base.specs.declared.fault.TextFault.{TextFault}
 use Rattle.nl_base.specs.declared.rule.Refusal.{Refusal}
 use Rattle.flat_classes.specs.FlatSums.{flat_limit}
 use Rattle.net_hier.specs.Valid.{unit_limit}
-use Rattle.readers.specs.Sources.{Supply}
+use Rattle.nl_io.specs.Sources.{Supply}
 use Rattle.netlist_cli.specs.declared.status.Status.{Status}
 use Rattle.netlist_cli.specs.declared.tools.ToolRefusal.{ToolRefusal}
 use Rattle.netlist_cli.specs.declared.status.Status.TheVariants as statuses

@@ -1,5 +1,4 @@
 ghost use Rattle.std.specs.Prelude.{◌≡◌};
-ghost use Rattle.readers.specs.Sources.{supply};
 ghost use Rattle.netlist_words.specs.declared.command.Command.TheVariants as commands;
 ghost use Rattle.netlist_cli.specs.Designs.{Makes};
 ghost use Rattle.netlist_cli.specs.Meanings.{meaning_of, ok_text};
@@ -33,10 +32,10 @@ pub fn check<S: Source, O: Sink>(
     output: &mut O,
 ) -> Result<(), Failure>
     ensures does { Does O.taken O.accepts O.faults (meaning_of (commands.Check top.now))
-        (supply S.left S.faults input.old) (supply S.left S.faults input.new)
+        (S.supply input.old) (S.supply input.new)
         output.old output.new result }
     ensures taken { TakesFrom
-        (supply S.left S.faults input.old) (supply S.left S.faults input.new) }
+        (S.supply input.old) (S.supply input.new) }
 {
     match judge_text(alloc, top, input) {
         Ok(()) => {

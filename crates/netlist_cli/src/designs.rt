@@ -4,7 +4,6 @@ ghost use Rattle.net_hier.specs.Valid.{count_limit};
 ghost use Rattle.edif_values.specs.Sizes.{edif_size};
 ghost use Rattle.edif_plans.specs.Sound.{IsSoundDesign};
 ghost use Rattle.edif_resolve.specs.Answers.{IsDesignOf as IsEdifDesign};
-ghost use Rattle.readers.specs.Sources.{supply};
 ghost use Rattle.vlog_elab.specs.Answers.{IsDesignOf as IsVlogDesign};
 ghost use Rattle.vlog_values.specs.Sizes.{vlog_size};
 ghost use Rattle.vlog_values.specs.Values.{IsVlogValue};
@@ -60,10 +59,10 @@ fn design_under(alloc: Global, file: &VlogFile, top: &Text) -> Result<Hier, Fail
 /// Reads an EDIF file and gets its design.
 pub fn read_edif_design<S: Source>(alloc: Global, input: &mut S) -> Result<Hier, Failure>
     ensures reads { MatchResult result
-        (IsDesignRead None (supply S.left S.faults input.old) (supply S.left S.faults input.new))
-        (IsNoDesign None (supply S.left S.faults input.old) (supply S.left S.faults input.new)) }
+        (IsDesignRead None (S.supply input.old) (S.supply input.new))
+        (IsNoDesign None (S.supply input.old) (S.supply input.new)) }
     ensures taken { TakesFrom
-        (supply S.left S.faults input.old) (supply S.left S.faults input.new) }
+        (S.supply input.old) (S.supply input.new) }
 {
     match read_sized_edif(alloc, input) {
         Ok(file) => {
@@ -82,12 +81,12 @@ pub fn read_design_under<S: Source>(
 ) -> Result<Hier, Failure>
     ensures reads { MatchResult result
         (IsDesignRead (Some top.now)
-        (supply S.left S.faults input.old) (supply S.left S.faults input.new))
+        (S.supply input.old) (S.supply input.new))
         (IsNoDesign (Some top.now)
-        (supply S.left S.faults input.old) (supply S.left S.faults input.new)) }
+        (S.supply input.old) (S.supply input.new)) }
     ensures sound { IfOk result IsSoundDesign }
     ensures taken { TakesFrom
-        (supply S.left S.faults input.old) (supply S.left S.faults input.new) }
+        (S.supply input.old) (S.supply input.new) }
 {
     match read_sound_vlog(alloc, input) {
         Ok(file) => {
@@ -106,11 +105,11 @@ pub fn read_design<S: Source>(
 ) -> Result<Hier, Failure>
     ensures reads { MatchResult result
         (IsDesignRead top.now
-        (supply S.left S.faults input.old) (supply S.left S.faults input.new))
+        (S.supply input.old) (S.supply input.new))
         (IsNoDesign top.now
-        (supply S.left S.faults input.old) (supply S.left S.faults input.new)) }
+        (S.supply input.old) (S.supply input.new)) }
     ensures taken { TakesFrom
-        (supply S.left S.faults input.old) (supply S.left S.faults input.new) }
+        (S.supply input.old) (S.supply input.new) }
 {
     match top {
         None => read_edif_design(alloc, input),

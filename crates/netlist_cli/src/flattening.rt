@@ -1,5 +1,4 @@
 ghost use Rattle.std.specs.Prelude.{◌≡◌, IfOk, MatchResult, None, Some};
-ghost use Rattle.readers.specs.Sources.{supply};
 ghost use Rattle.netlist_words.specs.declared.command.Command.TheVariants as commands;
 ghost use Rattle.netlist_cli.specs.Designs.{AreFlatModules, IsFileFor, IsFlatFile, IsFlatOf, IsNotFlattened, MakesOf};
 ghost use Rattle.netlist_cli.specs.Meanings.{IsFlatEdifOf, IsFlatVerilogOf, any_design, flat_rules, meaning_of, plain_target};
@@ -142,10 +141,10 @@ fn flatten_edif<S: Source, O: Sink>(
 ) -> Result<(), Failure>
     ensures does { Does O.taken O.accepts O.faults
         (meaning_of (commands.Flatten None constants.now))
-        (supply S.left S.faults input.old) (supply S.left S.faults input.new)
+        (S.supply input.old) (S.supply input.new)
         output.old output.new result }
     ensures taken { TakesFrom
-        (supply S.left S.faults input.old) (supply S.left S.faults input.new) }
+        (S.supply input.old) (S.supply input.new) }
 {
     match read_edif_design(alloc, input) {
         Ok(design) => {
@@ -166,10 +165,10 @@ fn flatten_verilog<S: Source, O: Sink>(
 ) -> Result<(), Failure>
     ensures does { Does O.taken O.accepts O.faults
         (meaning_of (commands.Flatten (Some top.now) constants.now))
-        (supply S.left S.faults input.old) (supply S.left S.faults input.new)
+        (S.supply input.old) (S.supply input.new)
         output.old output.new result }
     ensures taken { TakesFrom
-        (supply S.left S.faults input.old) (supply S.left S.faults input.new) }
+        (S.supply input.old) (S.supply input.new) }
 {
     match read_design_under(alloc, top, input) {
         Ok(design) => {
@@ -196,10 +195,10 @@ pub fn write_flattened<S: Source, O: Sink>(
 ) -> Result<(), Failure>
     ensures does { Does O.taken O.accepts O.faults
         (meaning_of (commands.Flatten top.now constants.now))
-        (supply S.left S.faults input.old) (supply S.left S.faults input.new)
+        (S.supply input.old) (S.supply input.new)
         output.old output.new result }
     ensures taken { TakesFrom
-        (supply S.left S.faults input.old) (supply S.left S.faults input.new) }
+        (S.supply input.old) (S.supply input.new) }
 {
     match top {
         None => {

@@ -1,4 +1,3 @@
-ghost use Rattle.readers.specs.Sources.{supply};
 ghost use Rattle.netlist_words.specs.declared.command.Command.TheVariants as commands;
 ghost use Rattle.netlist_cli.specs.Meanings.{meaning_of};
 ghost use Rattle.netlist_cli.specs.Runs.{Does, TakesFrom};
@@ -18,10 +17,10 @@ pub fn format<S: Source, O: Sink>(
     output: &mut O,
 ) -> Result<(), Failure>
     ensures does { Does O.taken O.accepts O.faults (meaning_of commands.Format)
-        (supply S.left S.faults input.old) (supply S.left S.faults input.new)
+        (S.supply input.old) (S.supply input.new)
         output.old output.new result }
     ensures taken { TakesFrom
-        (supply S.left S.faults input.old) (supply S.left S.faults input.new) }
+        (S.supply input.old) (S.supply input.new) }
 {
     match read_edif(alloc, input) {
         Ok(file) => {
@@ -39,10 +38,10 @@ pub fn vformat<S: Source, O: Sink>(
     output: &mut O,
 ) -> Result<(), Failure>
     ensures does { Does O.taken O.accepts O.faults (meaning_of commands.Vformat)
-        (supply S.left S.faults input.old) (supply S.left S.faults input.new)
+        (S.supply input.old) (S.supply input.new)
         output.old output.new result }
     ensures taken { TakesFrom
-        (supply S.left S.faults input.old) (supply S.left S.faults input.new) }
+        (S.supply input.old) (S.supply input.new) }
 {
     match read_vlog(alloc, input) {
         Ok(file) => {

@@ -1,6 +1,6 @@
 ghost use Rattle.std.specs.Prelude.{◌≤◌};
 ghost use Rattle.nl_output.specs.Writing.{Writes};
-ghost use Rattle.readers.specs.Sources.{Supply};
+ghost use Rattle.nl_io.specs.Sources.{Supply};
 ghost use Rattle.netlist_words.specs.declared.command.Command.TheVariants as commands;
 ghost use Rattle.netlist_cli.specs.Meanings.{meaning_of};
 ghost use Rattle.netlist_cli.specs.Runs.{Does, EndsUnread};

@@ -4,7 +4,6 @@ ghost use Rattle.std.specs.Prelude.{◌≡◌, ◌≤◌, MatchResult, None, Som
 ghost use Rattle.net_hier.specs.Valid.{count_limit};
 ghost use Rattle.edif_resolve.specs.Answers.{HasDesign as HasEdifDesign};
 ghost use Rattle.edif_values.specs.Sizes.{edif_size};
-ghost use Rattle.readers.specs.Sources.{supply};
 ghost use Rattle.vlog_elab.specs.Answers.{HasDesign as HasVlogDesign};
 ghost use Rattle.vlog_values.specs.Sizes.{vlog_size};
 ghost use Rattle.vlog_values.specs.Values.{IsVlogValue};
@@ -60,11 +59,11 @@ fn judge_under(alloc: Global, file: &VlogFile, top: &Text) -> Result<(), Failure
 fn judge_text_under<S: Source>(alloc: Global, top: &Text, input: &mut S) -> Result<(), Failure>
     ensures reads { MatchResult result
         (λ done. ReadsDesign (Some top.now)
-        (supply S.left S.faults input.old) (supply S.left S.faults input.new))
+        (S.supply input.old) (S.supply input.new))
         (IsNoDesign (Some top.now)
-        (supply S.left S.faults input.old) (supply S.left S.faults input.new)) }
+        (S.supply input.old) (S.supply input.new)) }
     ensures taken { TakesFrom
-        (supply S.left S.faults input.old) (supply S.left S.faults input.new) }
+        (S.supply input.old) (S.supply input.new) }
 {
     match read_sound_vlog(alloc, input) {
         Ok(file) => {
@@ -79,10 +78,10 @@ fn judge_text_under<S: Source>(alloc: Global, top: &Text, input: &mut S) -> Resu
 fn judge_edif_text<S: Source>(alloc: Global, input: &mut S) -> Result<(), Failure>
     ensures reads { MatchResult result
         (λ done. ReadsDesign None
-        (supply S.left S.faults input.old) (supply S.left S.faults input.new))
-        (IsNoDesign None (supply S.left S.faults input.old) (supply S.left S.faults input.new)) }
+        (S.supply input.old) (S.supply input.new))
+        (IsNoDesign None (S.supply input.old) (S.supply input.new)) }
     ensures taken { TakesFrom
-        (supply S.left S.faults input.old) (supply S.left S.faults input.new) }
+        (S.supply input.old) (S.supply input.new) }
 {
     match read_sized_edif(alloc, input) {
         Ok(file) => {
@@ -101,11 +100,11 @@ pub fn judge_text<S: Source>(
 ) -> Result<(), Failure>
     ensures reads { MatchResult result
         (λ done. ReadsDesign top.now
-        (supply S.left S.faults input.old) (supply S.left S.faults input.new))
+        (S.supply input.old) (S.supply input.new))
         (IsNoDesign top.now
-        (supply S.left S.faults input.old) (supply S.left S.faults input.new)) }
+        (S.supply input.old) (S.supply input.new)) }
     ensures taken { TakesFrom
-        (supply S.left S.faults input.old) (supply S.left S.faults input.new) }
+        (S.supply input.old) (S.supply input.new) }
 {
     match top {
         None => judge_edif_text(alloc, input),

@@ -1,4 +1,3 @@
-ghost use Rattle.readers.specs.Sources.{supply};
 ghost use Rattle.flat_report.specs.Report.{IsReport};
 ghost use Rattle.netlist_words.specs.declared.command.Command.TheVariants as commands;
 ghost use Rattle.netlist_cli.specs.Designs.{MakesOf};
@@ -48,10 +47,10 @@ pub fn write_report<S: Source, O: Sink>(
 ) -> Result<(), Failure>
     ensures does { Does O.taken O.accepts O.faults
         (meaning_of (commands.Report top.now constants.now))
-        (supply S.left S.faults input.old) (supply S.left S.faults input.new)
+        (S.supply input.old) (S.supply input.new)
         output.old output.new result }
     ensures taken { TakesFrom
-        (supply S.left S.faults input.old) (supply S.left S.faults input.new) }
+        (S.supply input.old) (S.supply input.new) }
 {
     match read_design(alloc, top, input) {
         Ok(design) => {

@@ -1,6 +1,5 @@
 ghost use Rattle.std.specs.Prelude.{◌≡◌, ◌≢◌, ◌↔◌, Ok, Err, Some, None, IfSome};
 ghost use Rattle.nl_io.specs.Causes.{Rose};
-ghost use Rattle.readers.specs.Sources.{supply};
 ghost use Rattle.netlist_words.specs.Commands.{IfCommand, IsNoCommand};
 ghost use Rattle.netlist_cli.specs.Meanings.{meaning_of};
 ghost use Rattle.netlist_cli.specs.Runs.{BrokeOff, Does, DoesAsked, EndsUnread, FitsBytes, HasFewCells, IsDecided, LeavesInput, Performs, ReadsNothing, TakesFrom, TellsFailure, WroteText};
@@ -31,12 +30,12 @@ fn carry_out<S: Source, O: Sink>(
 ) -> Result<(), Failure>
     requires { HasFewCells command.now }
     ensures does { Does O.taken O.accepts O.faults (meaning_of command.now)
-        (supply S.left S.faults input.old) (supply S.left S.faults input.new)
+        (S.supply input.old) (S.supply input.new)
         output.old output.new result }
     ensures unread { ReadsNothing command.now
         → (input.new ≡ input.old) × EndsUnread result }
     ensures taken { TakesFrom
-        (supply S.left S.faults input.old) (supply S.left S.faults input.new) }
+        (S.supply input.old) (S.supply input.new) }
 {
     match command {
         Command::Format => format(alloc, input, output),
@@ -60,10 +59,10 @@ fn carry_out_asked<S: Source, O: Sink>(
     output: &mut O,
 ) -> Result<(), Failure>
     requires { IfSome asked.now HasFewCells }
-    ensures performs { Performs O.taken O.accepts O.faults (supply S.left S.faults)
+    ensures performs { Performs O.taken O.accepts O.faults (S.supply)
         asked.now input.old input.new output.old output.new result }
     ensures taken { TakesFrom
-        (supply S.left S.faults input.old) (supply S.left S.faults input.new) }
+        (S.supply input.old) (S.supply input.new) }
 {
     match asked {
         Some(command) => {
@@ -81,10 +80,10 @@ fn perform<S: Source, O: Sink>(
     input: &mut S,
     output: &mut O,
 ) -> Result<(), Failure>
-    ensures performs { DoesAsked O.taken O.accepts O.faults (supply S.left S.faults)
+    ensures performs { DoesAsked O.taken O.accepts O.faults (S.supply)
         words.now input.old input.new output.old output.new result }
     ensures taken { TakesFrom
-        (supply S.left S.faults input.old) (supply S.left S.faults input.new) }
+        (S.supply input.old) (S.supply input.new) }
 {
     match Command::of(alloc, words) {
         Ok(asked) => {
@@ -106,29 +105,29 @@ pub fn run<S: Source, O: Sink, E: Sink>(
 ) -> Status
     ensures done { result ≡ Status.Done
         → IfCommand words.now (λ c. WroteText O.taken O.accepts O.faults (meaning_of c)
-        (supply S.left S.faults input.old) (supply S.left S.faults input.new)
+        (S.supply input.old) (S.supply input.new)
         output.old output.new) }
     ensures write_fault { result ≡ Status.WriteFault
         → IfCommand words.now (λ c. BrokeOff O.taken O.accepts O.faults (meaning_of c)
-        (supply S.left S.faults input.old) (supply S.left S.faults input.new)
+        (S.supply input.old) (S.supply input.new)
         output.old output.new) }
     ensures failed { result ≢ Status.Done
         → TellsFailure E.taken E.accepts E.faults words.now
-        (supply S.left S.faults input.old) (supply S.left S.faults input.new)
+        (S.supply input.old) (S.supply input.new)
         errors.old errors.new result }
     ensures usage { (result ≡ Status.Usage) ↔ IsNoCommand words.now }
     ensures taken { TakesFrom
-        (supply S.left S.faults input.old) (supply S.left S.faults input.new) }
+        (S.supply input.old) (S.supply input.new) }
     ensures unread { result ≡ Status.Usage → input.new ≡ input.old }
     ensures leaves_input { IfCommand words.now
         (λ c. ReadsNothing c → LeavesInput input.old input.new result) }
     ensures unwritten { result ≢ Status.Done → result ≢ Status.WriteFault
         → output.new ≡ output.old }
     ensures silent { result ≡ Status.Done → errors.new ≡ errors.old }
-    ensures exact { IfCommand words.now (λ c. IfSome (S.left input.old)
+    ensures exact { IfCommand words.now (λ c. IfSome (S.supply input.old).left
         (λ bs. FitsBytes (meaning_of c) bs result)) }
-    ensures complete { ¬ Rose (S.faults input.old) (S.faults input.new)
-        → IfCommand words.now (λ c. IfSome (S.left input.old)
+    ensures complete { ¬ Rose (S.supply input.old).faults (S.supply input.new).faults
+        → IfCommand words.now (λ c. IfSome (S.supply input.old).left
         (λ bs. IsDecided (meaning_of c) bs
         (Rose (O.faults output.old) (O.faults output.new)) result)) }
 {

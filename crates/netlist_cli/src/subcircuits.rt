@@ -1,4 +1,3 @@
-ghost use Rattle.readers.specs.Sources.{supply};
 ghost use Rattle.netlist_words.specs.declared.command.Command.TheVariants as commands;
 ghost use Rattle.netlist_cli.specs.Designs.{MakesOf};
 ghost use Rattle.netlist_cli.specs.Meanings.{IsSpiceOf, meaning_of, spice_rules};
@@ -47,10 +46,10 @@ pub fn write_subcircuits<S: Source, O: Sink>(
     output: &mut O,
 ) -> Result<(), Failure>
     ensures does { Does O.taken O.accepts O.faults (meaning_of (commands.ToSpice top.now))
-        (supply S.left S.faults input.old) (supply S.left S.faults input.new)
+        (S.supply input.old) (S.supply input.new)
         output.old output.new result }
     ensures taken { TakesFrom
-        (supply S.left S.faults input.old) (supply S.left S.faults input.new) }
+        (S.supply input.old) (S.supply input.new) }
 {
     match read_design(alloc, top, input) {
         Ok(design) => {

@@ -1,5 +1,4 @@
 ghost use Rattle.std.specs.Prelude.{◌≡◌, IfOk, MatchResult};
-ghost use Rattle.readers.specs.Sources.{supply};
 ghost use Rattle.netlist_words.specs.declared.command.Command.TheVariants as commands;
 ghost use Rattle.netlist_cli.specs.Designs.{AreModulesFor, MakesOf};
 ghost use Rattle.netlist_cli.specs.Meanings.{IsVerilogOf, meaning_of, params_of, target_rules};
@@ -97,10 +96,10 @@ pub fn translate<S: Source, O: Sink>(
     output: &mut O,
 ) -> Result<(), Failure>
     ensures does { Does O.taken O.accepts O.faults (meaning_of (commands.ToVerilog names.now))
-        (supply S.left S.faults input.old) (supply S.left S.faults input.new)
+        (S.supply input.old) (S.supply input.new)
         output.old output.new result }
     ensures taken { TakesFrom
-        (supply S.left S.faults input.old) (supply S.left S.faults input.new) }
+        (S.supply input.old) (S.supply input.new) }
 {
     match read_edif_design(alloc, input) {
         Ok(design) => {

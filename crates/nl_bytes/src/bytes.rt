@@ -79,16 +79,16 @@ impl Bytes {
 
     /// The byte ahead, or `None` at the end. It takes from the source only where no byte is held.
     pub fn peek<S: Source>(&mut self, source: &mut S) -> Result<Option<u8>, Halt>
-        ensures none_used { Uses self.old self.new (S.left source.old) (S.left source.new) [] }
+        ensures none_used { Uses self.old self.new (S.supply source.old).left (S.supply source.new).left [] }
         ensures lazy { 0 < length self.old.held → (self.new ≡ self.old) × (source.new ≡ source.old) }
         ensures used_up { IsErrOf result Halt.Failed → self.new.held ≡ [] }
-        ensures ahead { IfOk result (IsAhead self.new (S.left source.new)) }
+        ensures ahead { IfOk result (IsAhead self.new (S.supply source.new).left) }
         ensures within { OnOk result (self.new.place.offset ≤ LIMIT) }
         ensures too_long { IsErrOf result Halt.TooLong → LIMIT < self.new.place.offset }
         ensures no_memory { IfErr result (λ e. e ≢ Halt.NoMemory) }
         ensures limit { self.new.place.offset ≤ LIMIT + 1 }
-        ensures count { S.faults source.old ≤ S.faults source.new }
-        ensures cause { IsErrOf result Halt.Failed → Rose (S.faults source.old) (S.faults source.new) }
+        ensures count { (S.supply source.old).faults ≤ (S.supply source.new).faults }
+        ensures cause { IsErrOf result Halt.Failed → Rose (S.supply source.old).faults (S.supply source.new).faults }
     {
         if self.offset > LIMIT {
             return Err(Halt::TooLong);
@@ -221,10 +221,10 @@ impl Bytes {
         out: &mut Vec<u8>,
         source: &mut S,
     ) -> Result<Option<u8>, Halt>
-        ensures runs { Runs class most self.old self.new (S.left source.old) (S.left source.new) out.old.items out.new.items result }
+        ensures runs { Runs class most self.old self.new (S.supply source.old).left (S.supply source.new).left out.old.items out.new.items result }
         ensures limit { self.new.place.offset ≤ LIMIT + 1 }
-        ensures count { S.faults source.old ≤ S.faults source.new }
-        ensures cause { IsErrOf result Halt.Failed → Rose (S.faults source.old) (S.faults source.new) }
+        ensures count { (S.supply source.old).faults ≤ (S.supply source.new).faults }
+        ensures cause { IsErrOf result Halt.Failed → Rose (S.supply source.old).faults (S.supply source.new).faults }
     {
         let mut n = 0;
         loop {
@@ -246,11 +246,11 @@ impl Bytes {
     /// Uses the bytes of a class ahead. It answers the byte ahead then.
     #[inline(always)]
     pub fn skip<S: Source>(&mut self, class: Class, source: &mut S) -> Result<Option<u8>, Halt>
-        ensures skips { Skips class self.old self.new (S.left source.old) (S.left source.new) result }
+        ensures skips { Skips class self.old self.new (S.supply source.old).left (S.supply source.new).left result }
         ensures no_memory { IfErr result (λ e. e ≢ Halt.NoMemory) }
         ensures limit { self.new.place.offset ≤ LIMIT + 1 }
-        ensures count { S.faults source.old ≤ S.faults source.new }
-        ensures cause { IsErrOf result Halt.Failed → Rose (S.faults source.old) (S.faults source.new) }
+        ensures count { (S.supply source.old).faults ≤ (S.supply source.new).faults }
+        ensures cause { IsErrOf result Halt.Failed → Rose (S.supply source.old).faults (S.supply source.new).faults }
     {
         loop {
             let next = self.peek(source)?;

@@ -4,7 +4,8 @@ use Rattle.std.proofs.lemmas.Result.{err_from_is_err_and}
 use Rattle.grammar.specs.Part.{gives, sequence}
 use Rattle.nl_base.specs.declared.fault.ReadError.{ReadError}
 use Rattle.readers.specs.Parts.{PartOf}
-use Rattle.readers.specs.Sources.{Supply, Language}
+use Rattle.nl_io.specs.Sources.{Supply}
+use Rattle.readers.specs.Sources.{Language}
 use Rattle.readers.specs.Readers.{Reader, Reads, ReadsMaybe}
 use Rattle.readers.proofs.Reading.{sequences}
 

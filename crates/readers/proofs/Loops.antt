@@ -1,7 +1,8 @@
 -- What lasts in a loop.
 use Rattle.std.proofs.Common.{◌≡◌, ◌≤◌}
 use Rattle.readers.specs.Parts.{PartOf}
-use Rattle.readers.specs.Sources.{Supply, Language, Moves}
+use Rattle.nl_io.specs.Sources.{Supply}
+use Rattle.readers.specs.Sources.{Language, Moves}
 use Rattle.readers.specs.Readers.{Reader, reading, stream, room}
 
 -- The rest of a part reads now as the whole does from the start.

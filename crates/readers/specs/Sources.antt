@@ -7,18 +7,9 @@ use Rattle.nl_base.specs.declared.fault.TextFault.{TextFault}
 use Rattle.nl_base.specs.declared.fault.ReadError.{ReadError}
 use Rattle.nl_base.specs.declared.fault.ReadError.TheVariants as errors
 use Rattle.nl_io.specs.Causes.{Rose}
-use Rattle.nl_io.specs.Sources.{left_past}
+use Rattle.nl_io.specs.Sources.{Supply, left_past}
 use Rattle.nl_bytes.specs.Bytes.{Window, TakesWhenUsed, input, given}
 use Rattle.nl_bytes.specs.declared.bytes.TheConstants.{LIMIT}
-
--- what is seen of a source: the bytes that are left, where it tells them, and how often it has failed
-pub record Supply : Type 0 where
-  pub left : Option (List ℕ)
-  pub faults : ℕ
-
--- the supply of a source, by the members of its trait
-abbrev pub supply : {S : Type 0} → (S → Option (List ℕ)) → (S → ℕ) → S → Supply
-supply left faults s = record { left = left s; faults = faults s }
 
 -- the tokens up to the end of the input, which is the last of them, or up to a fault, or as far as they are looked at
 abbrev pub Ahead : Type 0 → Type 0

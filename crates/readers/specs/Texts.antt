@@ -9,7 +9,8 @@ use Rattle.nl_base.specs.declared.fault.ReadError.TheVariants as errors
 use Rattle.nl_io.specs.Causes.{Rose}
 use Rattle.nl_bytes.specs.declared.bytes.TheConstants.{LIMIT}
 use Rattle.readers.specs.Parts.{PartOf}
-use Rattle.readers.specs.Sources.{Supply, Ahead, Language, skip}
+use Rattle.nl_io.specs.Sources.{Supply}
+use Rattle.readers.specs.Sources.{Ahead, Language, skip}
 use Rattle.readers.specs.Readers.{fault_at}
 
 -- the tokens of a text

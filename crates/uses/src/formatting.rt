@@ -11,11 +11,11 @@ use std::alloc::Global;
 
 /// Writes the normal text of an EDIF file, or answers the place of its first fault. That reading or writing failed is not told.
 pub fn format<S: Source, O: Sink>(alloc: Global, source: &mut S, sink: &mut O) -> Option<Place>
-    ensures fault { IfSome result (λ place. IfSome (S.left source.old)
+    ensures fault { IfSome result (λ place. IfSome (S.supply source.old).left
         (λ bytes. (fault : TextFault) × EdifFault bytes fault × (place ≡ fault.place))) }
     ensures unwritten { IsSome result → sink.new ≡ sink.old }
     ensures written { IsNone result → (sink.new ≡ sink.old)
-        ⊎ TookText O.taken O.accepts O.faults (S.left source.old) sink.old sink.new }
+        ⊎ TookText O.taken O.accepts O.faults (S.supply source.old).left sink.old sink.new }
 {
     match read_edif(alloc, source) {
         Ok(file) => {

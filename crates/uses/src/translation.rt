@@ -16,7 +16,7 @@ use vlog_values::VlogFile;
 /// The design of an EDIF text that breaks no rule of EDIF, where there is one within the limits.
 pub fn design_of<S: Source>(alloc: Global, source: &mut S) -> Option<Hier>
     ensures { IfSome result (λ design. (file : EdifFile)
-        × IfSome (S.left source.old) (λ bytes. EdifReads bytes file) × IsDesignOf file design) }
+        × IfSome (S.supply source.old).left (λ bytes. EdifReads bytes file) × IsDesignOf file design) }
 {
     let file = read_sized_edif(alloc, source).ok()?;
     resolve(alloc, &file).ok()

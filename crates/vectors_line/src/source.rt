@@ -43,9 +43,7 @@ impl TextSource {
 }
 
 impl Source for TextSource {
-    ghost left = { λ s. Some s };
-
-    ghost faults = { λ _. 0 };
+    ghost supply = { λ s. record { left = Some s; faults = 0 } };
 
     fn take(&mut self, buf: &mut [u8]) -> Result<usize, Failed>
         requires { 0 < length buf.old }

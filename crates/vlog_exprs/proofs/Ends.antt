@@ -5,7 +5,8 @@ use Rattle.grammar.specs.Whole.{proper, the_end}
 use Rattle.nl_base.specs.declared.fault.Reason.{Reason}
 use Rattle.nl_base.specs.declared.fault.ReadError.{ReadError}
 use Rattle.nl_base.specs.declared.memory.NoMemory.{NoMemory}
-use Rattle.readers.specs.Sources.{Supply, IsNear}
+use Rattle.nl_io.specs.Sources.{Supply}
+use Rattle.readers.specs.Sources.{IsNear}
 use Rattle.readers.specs.Readers.{Reader, Ends, stream, reading, looking, then_left, fault_at}
 use Rattle.readers.proofs.Moving.{near_text, near_no_memory}
 use Rattle.readers.proofs.Reading.{no_memory}

@@ -8,7 +8,8 @@ use Rattle.nl_base.specs.declared.place.Place.{Place}
 use Rattle.nl_base.specs.declared.fault.Reason.{Reason}
 use Rattle.nl_bytes.specs.Bytes.{Window}
 use Rattle.readers.specs.Parts.{of_token, at_token, any, one, maybe}
-use Rattle.readers.specs.Sources.{Supply, Ahead, Language, IsNear}
+use Rattle.nl_io.specs.Sources.{Supply}
+use Rattle.readers.specs.Sources.{Ahead, Language, IsNear}
 use Rattle.readers.specs.Readers.{Reader, Reads, TakesNext, same, result_of, reading, then_left, stream}
 use Rattle.readers.proofs.Choices.{took}
 use Rattle.readers.proofs.Looking.{ok_first}

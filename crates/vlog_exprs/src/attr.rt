@@ -1,6 +1,5 @@
 // Attributes.
 ghost use Rattle.std.specs.Prelude.{◌≡◌, IsFalse};
-ghost use Rattle.readers.specs.Sources.{supply};
 ghost use Rattle.readers.specs.Readers.{same, Reads, ReadsMaybe, TakesNext};
 ghost use Rattle.vlog_tokens.specs.Language.{vlog};
 ghost use Rattle.vlog_exprs.specs.Calls.{stands};
@@ -22,7 +21,7 @@ fn takes_group<S: Source>(
     cursor: &mut VCursor,
     source: &mut S,
 ) -> Result<bool, ReadError>
-    ensures { TakesNext vlog stands (λ _ x. say.at_group x.token) result cursor.old cursor.new (supply S.left S.faults source.old) (supply S.left S.faults source.new) }
+    ensures { TakesNext vlog stands (λ _ x. say.at_group x.token) result cursor.old cursor.new (S.supply source.old) (S.supply source.new) }
 {
     let held = cursor.held_word();
     let count = held.len();
@@ -46,7 +45,7 @@ fn take_group_end<S: Source>(
     cursor: &mut VCursor,
     source: &mut S,
 ) -> Result<(), ReadError>
-    ensures { Reads vlog same group_end result cursor.old cursor.new (supply S.left S.faults source.old) (supply S.left S.faults source.new) }
+    ensures { Reads vlog same group_end result cursor.old cursor.new (S.supply source.old) (S.supply source.new) }
 {
     let VFound { place, stop, token } = cursor.take(alloc, source)?;
     let said = group_end_of(alloc, token);
@@ -60,7 +59,7 @@ fn read_attr_value<S: Source>(
     cursor: &mut VCursor,
     source: &mut S,
 ) -> Result<Const, ReadError>
-    ensures { ReadsMaybe vlog same attr_value result cursor.old cursor.new (supply S.left S.faults source.old) (supply S.left S.faults source.new) }
+    ensures { ReadsMaybe vlog same attr_value result cursor.old cursor.new (S.supply source.old) (S.supply source.new) }
 {
     if cursor.takes(alloc, b'=', source)? {
         let value = read_const(alloc, cursor, source)?;
@@ -75,7 +74,7 @@ fn read_attr<S: Source>(
     cursor: &mut VCursor,
     source: &mut S,
 ) -> Result<Attr, ReadError>
-    ensures { Reads vlog same attr result cursor.old cursor.new (supply S.left S.faults source.old) (supply S.left S.faults source.new) }
+    ensures { Reads vlog same attr result cursor.old cursor.new (S.supply source.old) (S.supply source.new) }
 {
     let name = cursor.name(alloc, source)?;
     let value = read_attr_value(alloc, cursor, source)?;
@@ -90,7 +89,7 @@ fn read_group<S: Source>(
     mut attrs: Seq<Attr>,
     source: &mut S,
 ) -> Result<Seq<Attr>, ReadError>
-    ensures { Reads vlog same (group attrs) result cursor.old cursor.new (supply S.left S.faults source.old) (supply S.left S.faults source.new) }
+    ensures { Reads vlog same (group attrs) result cursor.old cursor.new (S.supply source.old) (S.supply source.new) }
 {
     let attr = read_attr(alloc, cursor, source)?;
     cursor.add(&mut attrs, attr)?;
@@ -109,7 +108,7 @@ pub fn read_attrs<S: Source>(
     cursor: &mut VCursor,
     source: &mut S,
 ) -> Result<Seq<Attr>, ReadError>
-    ensures { ReadsMaybe vlog same attrs result cursor.old cursor.new (supply S.left S.faults source.old) (supply S.left S.faults source.new) }
+    ensures { ReadsMaybe vlog same attrs result cursor.old cursor.new (S.supply source.old) (S.supply source.new) }
 {
     let mut attrs = Seq::empty(alloc);
     while takes_group(alloc, cursor, source)? {

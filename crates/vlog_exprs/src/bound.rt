@@ -1,6 +1,5 @@
 // Bounds, ranges and selects.
 ghost use Rattle.std.specs.Prelude.{◌≡◌, ◌<◌, ◌^◌, nat_abs, IfOk, option_map};
-ghost use Rattle.readers.specs.Sources.{supply};
 ghost use Rattle.readers.specs.Readers.{same, Reads, ReadsMaybe};
 ghost use Rattle.vlog_tokens.specs.Language.{vlog};
 ghost use Rattle.vlog_exprs.specs.Grammar.{bound_number, bound, range_rest, range, maybe_range, select_rest, select};
@@ -19,7 +18,7 @@ fn read_bound_number<S: Source>(
     cursor: &mut VCursor,
     source: &mut S,
 ) -> Result<i32, ReadError>
-    ensures reads { Reads vlog same bound_number result cursor.old cursor.new (supply S.left S.faults source.old) (supply S.left S.faults source.new) }
+    ensures reads { Reads vlog same bound_number result cursor.old cursor.new (S.supply source.old) (S.supply source.new) }
     ensures bound { IfOk result (λ n. nat_abs n < 2 ^ 31) }
 {
     let VFound { place, stop, token } = cursor.take(alloc, source)?;
@@ -34,7 +33,7 @@ pub fn read_bound<S: Source>(
     cursor: &mut VCursor,
     source: &mut S,
 ) -> Result<i32, ReadError>
-    ensures reads { Reads vlog same bound result cursor.old cursor.new (supply S.left S.faults source.old) (supply S.left S.faults source.new) }
+    ensures reads { Reads vlog same bound result cursor.old cursor.new (S.supply source.old) (S.supply source.new) }
     ensures bound { IfOk result (λ n. nat_abs n < 2 ^ 31) }
 {
     if cursor.takes(alloc, b'-', source)? {
@@ -52,7 +51,7 @@ pub fn read_range_rest<S: Source>(
     cursor: &mut VCursor,
     source: &mut S,
 ) -> Result<Range, ReadError>
-    ensures { Reads vlog same range_rest result cursor.old cursor.new (supply S.left S.faults source.old) (supply S.left S.faults source.new) }
+    ensures { Reads vlog same range_rest result cursor.old cursor.new (S.supply source.old) (S.supply source.new) }
 {
     let left = read_bound(alloc, cursor, source)?;
     cursor.mark(alloc, b':', source)?;
@@ -68,7 +67,7 @@ pub fn read_range<S: Source>(
     cursor: &mut VCursor,
     source: &mut S,
 ) -> Result<Range, ReadError>
-    ensures { Reads vlog same range result cursor.old cursor.new (supply S.left S.faults source.old) (supply S.left S.faults source.new) }
+    ensures { Reads vlog same range result cursor.old cursor.new (S.supply source.old) (S.supply source.new) }
 {
     cursor.mark(alloc, b'[', source)?;
     let range = read_range_rest(alloc, cursor, source)?;
@@ -82,7 +81,7 @@ pub fn read_range_if_any<S: Source>(
     cursor: &mut VCursor,
     source: &mut S,
 ) -> Result<Option<Range>, ReadError>
-    ensures { ReadsMaybe vlog same maybe_range result cursor.old cursor.new (supply S.left S.faults source.old) (supply S.left S.faults source.new) }
+    ensures { ReadsMaybe vlog same maybe_range result cursor.old cursor.new (S.supply source.old) (S.supply source.new) }
 {
     if cursor.takes(alloc, b'[', source)? {
         let range = read_range_rest(alloc, cursor, source)?;
@@ -99,7 +98,7 @@ fn read_select_rest<S: Source>(
     left: i32,
     source: &mut S,
 ) -> Result<Select, ReadError>
-    ensures { Reads vlog same (select_rest left) result cursor.old cursor.new (supply S.left S.faults source.old) (supply S.left S.faults source.new) }
+    ensures { Reads vlog same (select_rest left) result cursor.old cursor.new (S.supply source.old) (S.supply source.new) }
 {
     if cursor.takes(alloc, b':', source)? {
         let right = read_bound(alloc, cursor, source)?;
@@ -117,7 +116,7 @@ pub fn read_select<S: Source>(
     cursor: &mut VCursor,
     source: &mut S,
 ) -> Result<Select, ReadError>
-    ensures { ReadsMaybe vlog same select result cursor.old cursor.new (supply S.left S.faults source.old) (supply S.left S.faults source.new) }
+    ensures { ReadsMaybe vlog same select result cursor.old cursor.new (S.supply source.old) (S.supply source.new) }
 {
     if cursor.takes(alloc, b'[', source)? {
         let left = read_bound(alloc, cursor, source)?;

@@ -1,6 +1,5 @@
 // Constants.
 ghost use Rattle.std.specs.Prelude.{◌≡◌, IsFalse};
-ghost use Rattle.readers.specs.Sources.{supply};
 ghost use Rattle.readers.specs.Readers.{same, Reads, ReadsMaybe, TakesNext};
 ghost use Rattle.vlog_tokens.specs.Language.{vlog};
 ghost use Rattle.vlog_exprs.specs.Grammar.{digits, sized_const, const_start, signed, const_rest, constant};
@@ -22,7 +21,7 @@ pub(crate) fn takes_digits<S: Source>(
     number: Int,
     source: &mut S,
 ) -> Result<Option<Literal>, ReadError>
-    ensures { TakesNext vlog same (λ _ x. say.at_digits number x.token) result cursor.old cursor.new (supply S.left S.faults source.old) (supply S.left S.faults source.new) }
+    ensures { TakesNext vlog same (λ _ x. say.at_digits number x.token) result cursor.old cursor.new (S.supply source.old) (S.supply source.new) }
 {
     if let Some(_mark) = cursor.held_mark() {
         return Ok(None);
@@ -40,7 +39,7 @@ fn take_const_start<S: Source>(
     cursor: &mut VCursor,
     source: &mut S,
 ) -> Result<ConstStart, ReadError>
-    ensures { Reads vlog same const_start result cursor.old cursor.new (supply S.left S.faults source.old) (supply S.left S.faults source.new) }
+    ensures { Reads vlog same const_start result cursor.old cursor.new (S.supply source.old) (S.supply source.new) }
 {
     let VFound { place, stop, token } = cursor.take(alloc, source)?;
     let said = const_start(alloc, token);
@@ -54,7 +53,7 @@ fn take_signed<S: Source>(
     negative: bool,
     source: &mut S,
 ) -> Result<Const, ReadError>
-    ensures { Reads vlog same (signed negative) result cursor.old cursor.new (supply S.left S.faults source.old) (supply S.left S.faults source.new) }
+    ensures { Reads vlog same (signed negative) result cursor.old cursor.new (S.supply source.old) (S.supply source.new) }
 {
     let VFound { place, stop, token } = cursor.take(alloc, source)?;
     let said = signed_of(alloc, negative, token);
@@ -69,7 +68,7 @@ fn read_sized_const<S: Source>(
     number: Int,
     source: &mut S,
 ) -> Result<Const, ReadError>
-    ensures { ReadsMaybe vlog same (sized_const number) result cursor.old cursor.new (supply S.left S.faults source.old) (supply S.left S.faults source.new) }
+    ensures { ReadsMaybe vlog same (sized_const number) result cursor.old cursor.new (S.supply source.old) (S.supply source.new) }
 {
     match takes_digits(alloc, cursor, number, source)? {
         Some(literal) => Ok(Const::Lit(literal)),
@@ -86,7 +85,7 @@ fn read_const_rest<S: Source>(
     source: &mut S,
 ) -> Result<Const, ReadError>
     requires { IsFalse cursor.old.spent }
-    ensures { ReadsMaybe vlog same (const_rest start) result cursor.old cursor.new (supply S.left S.faults source.old) (supply S.left S.faults source.new) }
+    ensures { ReadsMaybe vlog same (const_rest start) result cursor.old cursor.new (S.supply source.old) (S.supply source.new) }
 {
     match start {
         ConstStart::Whole(constant) => Ok(constant),
@@ -108,7 +107,7 @@ pub fn read_const<S: Source>(
     cursor: &mut VCursor,
     source: &mut S,
 ) -> Result<Const, ReadError>
-    ensures { Reads vlog same constant result cursor.old cursor.new (supply S.left S.faults source.old) (supply S.left S.faults source.new) }
+    ensures { Reads vlog same constant result cursor.old cursor.new (S.supply source.old) (S.supply source.new) }
 {
     let start = take_const_start(alloc, cursor, source)?;
     let constant = read_const_rest(alloc, cursor, start, source)?;

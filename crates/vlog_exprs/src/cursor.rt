@@ -1,7 +1,7 @@
 ghost use Rattle.std.specs.Prelude.{◌≡◌, ◌<◌, ◌≤◌, ℕ, length, None, Some, IfOk, IfSome, IsSome, IsNone, IsTrue, IsFalse, option_map};
 ghost use Rattle.grammar.specs.Whole.{proper};
 ghost use Rattle.readers.specs.Parts.{any};
-ghost use Rattle.readers.specs.Sources.{supply, IsNear};
+ghost use Rattle.readers.specs.Sources.{IsNear};
 ghost use Rattle.readers.specs.Readers.{same, fault_at, spoilt, Reads, Looks, Ends, Adds};
 ghost use Rattle.vlog_tokens.specs.Keywords.{is_keyword};
 ghost use Rattle.vlog_tokens.specs.Language.{vlog};
@@ -160,7 +160,7 @@ impl VCursor {
     /// Takes the next token. At the end of the input a token is missing.
     #[inline(always)]
     pub fn take<S: Source>(&mut self, alloc: Global, source: &mut S) -> Result<VFound, ReadError>
-        ensures reads { Reads vlog same any result self.old self.new (supply S.left S.faults source.old) (supply S.left S.faults source.new) }
+        ensures reads { Reads vlog same any result self.old self.new (S.supply source.old) (S.supply source.new) }
         ensures near { IfOk result (λ x. IsNear self.new.window x.stop) }
     {
         if self.spent {
@@ -185,7 +185,7 @@ impl VCursor {
 
     /// Makes the next token the one ahead, and answers whether there is one. It takes nothing.
     pub fn look<S: Source>(&mut self, alloc: Global, source: &mut S) -> Result<bool, ReadError>
-        ensures { Looks vlog result self.old self.new (supply S.left S.faults source.old) (supply S.left S.faults source.new) }
+        ensures { Looks vlog result self.old self.new (S.supply source.old) (S.supply source.new) }
     {
         if self.spent {
             return Err(ReadError::Spent);
@@ -283,7 +283,7 @@ impl VCursor {
         alloc: Global,
         source: &mut S,
     ) -> Result<Option<VFound>, ReadError>
-        ensures { LooksOut result self.old self.new (supply S.left S.faults source.old) (supply S.left S.faults source.new) }
+        ensures { LooksOut result self.old self.new (S.supply source.old) (S.supply source.new) }
     {
         self.look(alloc, source)?;
         let found = self.ahead.take();
@@ -296,7 +296,7 @@ impl VCursor {
         alloc: Global,
         source: &mut S,
     ) -> Result<(), ReadError>
-        ensures { Ends vlog trailing result self.old self.new (supply S.left S.faults source.old) (supply S.left S.faults source.new) }
+        ensures { Ends vlog trailing result self.old self.new (S.supply source.old) (S.supply source.new) }
     {
         let next = self.next_out(alloc, source)?;
         let Some(VFound { place, stop, token }) = next else {

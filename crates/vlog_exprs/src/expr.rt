@@ -1,6 +1,5 @@
 // Expressions, whose braces are at most 64 deep.
 ghost use Rattle.std.specs.Prelude.{◌≡◌, ◌<◌, ◌∷◌, [], IfOk, IsFalse};
-ghost use Rattle.readers.specs.Sources.{supply};
 ghost use Rattle.readers.specs.Readers.{same, Reads, ReadsMaybe, TakesNext};
 ghost use Rattle.vlog_tokens.specs.Language.{vlog};
 ghost use Rattle.vlog_exprs.specs.Grammar.{mark, commas, sized, expr_start, expr_rest, cat_rest, rep_rest, braced, inside, expr, maybe_expr};
@@ -25,7 +24,7 @@ fn take_expr_start<S: Source>(
     room: u8,
     source: &mut S,
 ) -> Result<ExprStart, ReadError>
-    ensures reads { Reads vlog same (expr_start left room) result cursor.old cursor.new (supply S.left S.faults source.old) (supply S.left S.faults source.new) }
+    ensures reads { Reads vlog same (expr_start left room) result cursor.old cursor.new (S.supply source.old) (S.supply source.new) }
     ensures room { IfOk result (λ start. start ≡ ExprStart.Brace → 0 < room) }
 {
     let held = cursor.held_name(alloc)?;
@@ -44,7 +43,7 @@ fn take_expr_token<S: Source>(
     room: u8,
     source: &mut S,
 ) -> Result<ExprStart, ReadError>
-    ensures reads { Reads vlog same (expr_start left room) result cursor.old cursor.new (supply S.left S.faults source.old) (supply S.left S.faults source.new) }
+    ensures reads { Reads vlog same (expr_start left room) result cursor.old cursor.new (S.supply source.old) (S.supply source.new) }
     ensures room { IfOk result (λ start. start ≡ ExprStart.Brace → 0 < room) }
 {
     let VFound { place, stop, token } = cursor.take(alloc, source)?;
@@ -58,7 +57,7 @@ fn takes_expr_start<S: Source>(
     cursor: &mut VCursor,
     source: &mut S,
 ) -> Result<Option<ExprStart>, ReadError>
-    ensures { TakesNext vlog same (λ _ x. say.at_expr x.token) result cursor.old cursor.new (supply S.left S.faults source.old) (supply S.left S.faults source.new) }
+    ensures { TakesNext vlog same (λ _ x. say.at_expr x.token) result cursor.old cursor.new (S.supply source.old) (S.supply source.new) }
 {
     let held = cursor.held_name(alloc)?;
     if let Some(text) = held {
@@ -73,7 +72,7 @@ fn takes_expr_token<S: Source>(
     cursor: &mut VCursor,
     source: &mut S,
 ) -> Result<Option<ExprStart>, ReadError>
-    ensures { TakesNext vlog same (λ _ x. say.at_expr x.token) result cursor.old cursor.new (supply S.left S.faults source.old) (supply S.left S.faults source.new) }
+    ensures { TakesNext vlog same (λ _ x. say.at_expr x.token) result cursor.old cursor.new (S.supply source.old) (S.supply source.new) }
 {
     if let Some(mark) = cursor.held_mark() {
         if mark != b'{' {
@@ -97,7 +96,7 @@ fn read_sized<S: Source>(
     number: Int,
     source: &mut S,
 ) -> Result<Expr, ReadError>
-    ensures { ReadsMaybe vlog same (sized number) result cursor.old cursor.new (supply S.left S.faults source.old) (supply S.left S.faults source.new) }
+    ensures { ReadsMaybe vlog same (sized number) result cursor.old cursor.new (S.supply source.old) (S.supply source.new) }
 {
     match takes_digits(alloc, cursor, number, source)? {
         Some(literal) => Ok(Expr::Lit(literal)),
@@ -118,7 +117,7 @@ fn read_rest<S: Source>(
 ) -> Result<Expr, ReadError>
     requires unspent { IsFalse cursor.old.spent }
     requires room { start ≡ ExprStart.Brace → 0 < room }
-    ensures { ReadsMaybe vlog same (expr_rest (inside left room) start) result cursor.old cursor.new (supply S.left S.faults source.old) (supply S.left S.faults source.new) }
+    ensures { ReadsMaybe vlog same (expr_rest (inside left room) start) result cursor.old cursor.new (S.supply source.old) (S.supply source.new) }
 {
     match start {
         ExprStart::Name(name) => {
@@ -147,7 +146,7 @@ fn read_expr_in<S: Source>(
     room: u8,
     source: &mut S,
 ) -> Result<Expr, ReadError>
-    ensures { Reads vlog same (expr left room) result cursor.old cursor.new (supply S.left S.faults source.old) (supply S.left S.faults source.new) }
+    ensures { Reads vlog same (expr left room) result cursor.old cursor.new (S.supply source.old) (S.supply source.new) }
 {
     let start = take_expr_start(alloc, cursor, left, room, source)?;
     let expr = read_rest(alloc, cursor, left, room, start, source)?;
@@ -166,7 +165,7 @@ fn read_list<S: Source>(
     source: &mut S,
 ) -> Result<Seq<Expr>, ReadError>
     requires { IsFalse cursor.old.spent }
-    ensures { Reads vlog same (commas (expr left room) (mark 125) (first ∷ [])) result cursor.old cursor.new (supply S.left S.faults source.old) (supply S.left S.faults source.new) }
+    ensures { Reads vlog same (commas (expr left room) (mark 125) (first ∷ [])) result cursor.old cursor.new (S.supply source.old) (S.supply source.new) }
 {
     let mut exprs = Seq::empty(alloc);
     cursor.add(&mut exprs, first)?;
@@ -189,7 +188,7 @@ fn read_replicated<S: Source>(
     count: Int,
     source: &mut S,
 ) -> Result<Expr, ReadError>
-    ensures { Reads vlog same (rep_rest (expr left room) count) result cursor.old cursor.new (supply S.left S.faults source.old) (supply S.left S.faults source.new) }
+    ensures { Reads vlog same (rep_rest (expr left room) count) result cursor.old cursor.new (S.supply source.old) (S.supply source.new) }
 {
     let first = read_expr_in(alloc, cursor, left, room, source)?;
     let exprs = read_list(alloc, cursor, left, room, first, source)?;
@@ -208,7 +207,7 @@ fn read_counted<S: Source>(
     number: Int,
     source: &mut S,
 ) -> Result<Expr, ReadError>
-    ensures { Reads vlog same (braced (expr left room) (inside left room) (ExprStart.Number number)) result cursor.old cursor.new (supply S.left S.faults source.old) (supply S.left S.faults source.new) }
+    ensures { Reads vlog same (braced (expr left room) (inside left room) (ExprStart.Number number)) result cursor.old cursor.new (S.supply source.old) (S.supply source.new) }
 {
     if cursor.takes(alloc, b'{', source)? {
         let expr = read_replicated(alloc, cursor, left, room, number, source)?;
@@ -232,7 +231,7 @@ fn read_braced<S: Source>(
 ) -> Result<Expr, ReadError>
     requires unspent { IsFalse cursor.old.spent }
     requires room { start ≡ ExprStart.Brace → 0 < room }
-    ensures { Reads vlog same (braced (expr left room) (inside left room) start) result cursor.old cursor.new (supply S.left S.faults source.old) (supply S.left S.faults source.new) }
+    ensures { Reads vlog same (braced (expr left room) (inside left room) start) result cursor.old cursor.new (S.supply source.old) (S.supply source.new) }
 {
     if let ExprStart::Number(number) = start {
         let expr = read_counted(alloc, cursor, left, room, number, source)?;
@@ -254,7 +253,7 @@ fn read_inside<S: Source>(
     source: &mut S,
 ) -> Result<Expr, ReadError>
     requires { 0 < room }
-    ensures { Reads vlog same (inside left room) result cursor.old cursor.new (supply S.left S.faults source.old) (supply S.left S.faults source.new) }
+    ensures { Reads vlog same (inside left room) result cursor.old cursor.new (S.supply source.old) (S.supply source.new) }
 {
     let start = take_expr_start(alloc, cursor, left, room - 1, source)?;
     let expr = read_braced(alloc, cursor, left, room - 1, start, source)?;
@@ -268,7 +267,7 @@ pub fn read_expr<S: Source>(
     left_side: bool,
     source: &mut S,
 ) -> Result<Expr, ReadError>
-    ensures { Reads vlog same (expr left_side 64) result cursor.old cursor.new (supply S.left S.faults source.old) (supply S.left S.faults source.new) }
+    ensures { Reads vlog same (expr left_side 64) result cursor.old cursor.new (S.supply source.old) (S.supply source.new) }
 {
     let expr = read_expr_in(alloc, cursor, left_side, 64, source)?;
     Ok(expr)
@@ -281,7 +280,7 @@ pub fn read_expr_if_any<S: Source>(
     cursor: &mut VCursor,
     source: &mut S,
 ) -> Result<Option<Expr>, ReadError>
-    ensures { ReadsMaybe vlog same maybe_expr result cursor.old cursor.new (supply S.left S.faults source.old) (supply S.left S.faults source.new) }
+    ensures { ReadsMaybe vlog same maybe_expr result cursor.old cursor.new (S.supply source.old) (S.supply source.new) }
 {
     match takes_expr_start(alloc, cursor, source)? {
         Some(start) => {

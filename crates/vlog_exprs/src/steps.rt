@@ -1,6 +1,5 @@
 // The calls that take one token which is due, or which need not stand.
 ghost use Rattle.std.specs.Prelude.{◌≡◌};
-ghost use Rattle.readers.specs.Sources.{supply};
 ghost use Rattle.readers.specs.Readers.{same, Reads, TakesNext};
 ghost use Rattle.vlog_tokens.specs.Language.{vlog};
 ghost use Rattle.vlog_exprs.specs.Calls.{stands};
@@ -19,7 +18,7 @@ use vlog_tokens::{VFound, is_keyword};
 impl VCursor {
     /// Takes a token: a name.
     pub fn name<S: Source>(&mut self, alloc: Global, source: &mut S) -> Result<Text, ReadError>
-        ensures { Reads vlog same name result self.old self.new (supply S.left S.faults source.old) (supply S.left S.faults source.new) }
+        ensures { Reads vlog same name result self.old self.new (S.supply source.old) (S.supply source.new) }
     {
         let held = self.held_name(alloc)?;
         if let Some(text) = held {
@@ -31,7 +30,7 @@ impl VCursor {
     /// Takes any token, which has to be a name.
     #[inline(never)]
     fn name_token<S: Source>(&mut self, alloc: Global, source: &mut S) -> Result<Text, ReadError>
-        ensures { Reads vlog same name result self.old self.new (supply S.left S.faults source.old) (supply S.left S.faults source.new) }
+        ensures { Reads vlog same name result self.old self.new (S.supply source.old) (S.supply source.new) }
     {
         let VFound { place, stop, token } = self.take(alloc, source)?;
         let said = name_of(alloc, token);
@@ -40,7 +39,7 @@ impl VCursor {
 
     /// Takes a token: a number.
     pub fn number<S: Source>(&mut self, alloc: Global, source: &mut S) -> Result<Int, ReadError>
-        ensures { Reads vlog same number result self.old self.new (supply S.left S.faults source.old) (supply S.left S.faults source.new) }
+        ensures { Reads vlog same number result self.old self.new (S.supply source.old) (S.supply source.new) }
     {
         let VFound { place, stop, token } = self.take(alloc, source)?;
         let said = number_of(alloc, token);
@@ -54,7 +53,7 @@ impl VCursor {
         due: u8,
         source: &mut S,
     ) -> Result<(), ReadError>
-        ensures { Reads vlog same (mark due) result self.old self.new (supply S.left S.faults source.old) (supply S.left S.faults source.new) }
+        ensures { Reads vlog same (mark due) result self.old self.new (S.supply source.old) (S.supply source.new) }
     {
         if let Some(mark) = self.held_mark() {
             if mark == due {
@@ -73,7 +72,7 @@ impl VCursor {
         due: u8,
         source: &mut S,
     ) -> Result<(), ReadError>
-        ensures { Reads vlog same (mark due) result self.old self.new (supply S.left S.faults source.old) (supply S.left S.faults source.new) }
+        ensures { Reads vlog same (mark due) result self.old self.new (S.supply source.old) (S.supply source.new) }
     {
         let VFound { place, stop, token } = self.take(alloc, source)?;
         let said = mark_of(alloc, due, token);
@@ -87,7 +86,7 @@ impl VCursor {
         due: &[u8],
         source: &mut S,
     ) -> Result<(), ReadError>
-        ensures { Reads vlog same (keyword due.now) result self.old self.new (supply S.left S.faults source.old) (supply S.left S.faults source.new) }
+        ensures { Reads vlog same (keyword due.now) result self.old self.new (S.supply source.old) (S.supply source.new) }
     {
         let VFound { place, stop, token } = self.take(alloc, source)?;
         let said = keyword_of(alloc, due, token);
@@ -101,7 +100,7 @@ impl VCursor {
         words: &[(&[u8], T)],
         source: &mut S,
     ) -> Result<T, ReadError>
-        ensures { Reads vlog same (choice (say.rows words.now)) result self.old self.new (supply S.left S.faults source.old) (supply S.left S.faults source.new) }
+        ensures { Reads vlog same (choice (say.rows words.now)) result self.old self.new (S.supply source.old) (S.supply source.new) }
     {
         let VFound { place, stop, token } = self.take(alloc, source)?;
         let said = choice_of(alloc, words, token);
@@ -115,7 +114,7 @@ impl VCursor {
         mark: u8,
         source: &mut S,
     ) -> Result<bool, ReadError>
-        ensures { TakesNext vlog stands (λ _ x. say.at_mark mark x.token) result self.old self.new (supply S.left S.faults source.old) (supply S.left S.faults source.new) }
+        ensures { TakesNext vlog stands (λ _ x. say.at_mark mark x.token) result self.old self.new (S.supply source.old) (S.supply source.new) }
     {
         if let Some(next) = self.held_mark() {
             if next != mark {
@@ -140,7 +139,7 @@ impl VCursor {
         mark: u8,
         source: &mut S,
     ) -> Result<bool, ReadError>
-        ensures { TakesNext vlog stands (λ _ x. say.at_mark mark x.token) result self.old self.new (supply S.left S.faults source.old) (supply S.left S.faults source.new) }
+        ensures { TakesNext vlog stands (λ _ x. say.at_mark mark x.token) result self.old self.new (S.supply source.old) (S.supply source.new) }
     {
         let next = self.next_out(alloc, source)?;
         let Some(VFound { place, stop, token }) = next else {
@@ -156,7 +155,7 @@ impl VCursor {
         alloc: Global,
         source: &mut S,
     ) -> Result<Option<Text>, ReadError>
-        ensures { TakesNext vlog same (λ _ x. say.at_name x.token) result self.old self.new (supply S.left S.faults source.old) (supply S.left S.faults source.new) }
+        ensures { TakesNext vlog same (λ _ x. say.at_name x.token) result self.old self.new (S.supply source.old) (S.supply source.new) }
     {
         let held = self.held_name(alloc)?;
         if let Some(text) = held {
@@ -172,7 +171,7 @@ impl VCursor {
         alloc: Global,
         source: &mut S,
     ) -> Result<Option<Text>, ReadError>
-        ensures { TakesNext vlog same (λ _ x. say.at_name x.token) result self.old self.new (supply S.left S.faults source.old) (supply S.left S.faults source.new) }
+        ensures { TakesNext vlog same (λ _ x. say.at_name x.token) result self.old self.new (S.supply source.old) (S.supply source.new) }
     {
         if self.at_held_keyword() {
             return Ok(None);
@@ -194,7 +193,7 @@ impl VCursor {
         words: &[(&[u8], T)],
         source: &mut S,
     ) -> Result<Option<T>, ReadError>
-        ensures { TakesNext vlog same (λ _ x. say.at_choice (say.rows words.now) x.token) result self.old self.new (supply S.left S.faults source.old) (supply S.left S.faults source.new) }
+        ensures { TakesNext vlog same (λ _ x. say.at_choice (say.rows words.now) x.token) result self.old self.new (S.supply source.old) (S.supply source.new) }
     {
         let held = self.held_word();
         let count = held.len();

@@ -1,6 +1,5 @@
 // Assignments.
 ghost use Rattle.std.specs.Prelude.{◌≡◌};
-ghost use Rattle.readers.specs.Sources.{supply};
 ghost use Rattle.readers.specs.Readers.{same, Reads};
 ghost use Rattle.vlog_tokens.specs.Language.{vlog};
 ghost use Rattle.vlog_exprs.specs.Grammar.{mark, list};
@@ -19,7 +18,7 @@ fn read_assignment<S: Source>(
     cursor: &mut VCursor,
     source: &mut S,
 ) -> Result<Assignment, ReadError>
-    ensures { Reads vlog same assignment result cursor.old cursor.new (supply S.left S.faults source.old) (supply S.left S.faults source.new) }
+    ensures { Reads vlog same assignment result cursor.old cursor.new (S.supply source.old) (S.supply source.new) }
 {
     let left = read_expr(alloc, cursor, true, source)?;
     cursor.mark(alloc, b'=', source)?;
@@ -34,7 +33,7 @@ fn read_assignments<S: Source>(
     cursor: &mut VCursor,
     source: &mut S,
 ) -> Result<Seq<Assignment>, ReadError>
-    ensures { Reads vlog same (list assignment (mark 59)) result cursor.old cursor.new (supply S.left S.faults source.old) (supply S.left S.faults source.new) }
+    ensures { Reads vlog same (list assignment (mark 59)) result cursor.old cursor.new (S.supply source.old) (S.supply source.new) }
 {
     let mut sets = Seq::empty(alloc);
     let set = read_assignment(alloc, cursor, source)?;
@@ -55,7 +54,7 @@ pub(crate) fn read_assigns<S: Source>(
     attrs: Seq<Attr>,
     source: &mut S,
 ) -> Result<Assigns, ReadError>
-    ensures { Reads vlog same (assigns attrs) result cursor.old cursor.new (supply S.left S.faults source.old) (supply S.left S.faults source.new) }
+    ensures { Reads vlog same (assigns attrs) result cursor.old cursor.new (S.supply source.old) (S.supply source.new) }
 {
     let sets = read_assignments(alloc, cursor, source)?;
     Ok(Assigns { attrs, sets })

@@ -1,6 +1,5 @@
 // The connections of an instance.
 ghost use Rattle.std.specs.Prelude.{◌≡◌, ◌∷◌, []};
-ghost use Rattle.readers.specs.Sources.{supply};
 ghost use Rattle.readers.specs.Readers.{same, Reads};
 ghost use Rattle.vlog_tokens.specs.Language.{vlog};
 ghost use Rattle.vlog_exprs.specs.Grammar.{mark, commas, list, maybe_expr};
@@ -19,7 +18,7 @@ fn read_named_rest<S: Source>(
     cursor: &mut VCursor,
     source: &mut S,
 ) -> Result<NamedConn, ReadError>
-    ensures { Reads vlog same named_rest result cursor.old cursor.new (supply S.left S.faults source.old) (supply S.left S.faults source.new) }
+    ensures { Reads vlog same named_rest result cursor.old cursor.new (S.supply source.old) (S.supply source.new) }
 {
     let port = cursor.name(alloc, source)?;
     cursor.mark(alloc, b'(', source)?;
@@ -35,7 +34,7 @@ fn read_named<S: Source>(
     cursor: &mut VCursor,
     source: &mut S,
 ) -> Result<NamedConn, ReadError>
-    ensures { Reads vlog same named result cursor.old cursor.new (supply S.left S.faults source.old) (supply S.left S.faults source.new) }
+    ensures { Reads vlog same named result cursor.old cursor.new (S.supply source.old) (S.supply source.new) }
 {
     cursor.mark(alloc, b'.', source)?;
     let conn = read_named_rest(alloc, cursor, source)?;
@@ -50,7 +49,7 @@ fn read_more_named<S: Source>(
     mut conns: Seq<NamedConn>,
     source: &mut S,
 ) -> Result<Seq<NamedConn>, ReadError>
-    ensures { Reads vlog same (commas named (mark 41) conns) result cursor.old cursor.new (supply S.left S.faults source.old) (supply S.left S.faults source.new) }
+    ensures { Reads vlog same (commas named (mark 41) conns) result cursor.old cursor.new (S.supply source.old) (S.supply source.new) }
 {
     while cursor.takes(alloc, b',', source)? {
         let conn = read_named(alloc, cursor, source)?;
@@ -67,7 +66,7 @@ fn read_named_conns<S: Source>(
     cursor: &mut VCursor,
     source: &mut S,
 ) -> Result<Conns, ReadError>
-    ensures { Reads vlog same named_conns result cursor.old cursor.new (supply S.left S.faults source.old) (supply S.left S.faults source.new) }
+    ensures { Reads vlog same named_conns result cursor.old cursor.new (S.supply source.old) (S.supply source.new) }
 {
     let first = read_named_rest(alloc, cursor, source)?;
     let mut conns = Seq::empty(alloc);
@@ -83,7 +82,7 @@ fn read_exprs<S: Source>(
     cursor: &mut VCursor,
     source: &mut S,
 ) -> Result<Seq<Option<Expr>>, ReadError>
-    ensures { Reads vlog same (list maybe_expr (mark 41)) result cursor.old cursor.new (supply S.left S.faults source.old) (supply S.left S.faults source.new) }
+    ensures { Reads vlog same (list maybe_expr (mark 41)) result cursor.old cursor.new (S.supply source.old) (S.supply source.new) }
 {
     let mut exprs = Seq::empty(alloc);
     let expr = read_expr_if_any(alloc, cursor, source)?;
@@ -113,7 +112,7 @@ fn read_ordered_conns<S: Source>(
     cursor: &mut VCursor,
     source: &mut S,
 ) -> Result<Conns, ReadError>
-    ensures { Reads vlog same ordered_conns result cursor.old cursor.new (supply S.left S.faults source.old) (supply S.left S.faults source.new) }
+    ensures { Reads vlog same ordered_conns result cursor.old cursor.new (S.supply source.old) (S.supply source.new) }
 {
     let exprs = read_exprs(alloc, cursor, source)?;
     Ok(Conns::Order(order_of(alloc, exprs)))
@@ -126,7 +125,7 @@ pub(crate) fn read_conns<S: Source>(
     cursor: &mut VCursor,
     source: &mut S,
 ) -> Result<Conns, ReadError>
-    ensures { Reads vlog same conns result cursor.old cursor.new (supply S.left S.faults source.old) (supply S.left S.faults source.new) }
+    ensures { Reads vlog same conns result cursor.old cursor.new (S.supply source.old) (S.supply source.new) }
 {
     if cursor.takes(alloc, b'.', source)? {
         let conns = read_named_conns(alloc, cursor, source)?;

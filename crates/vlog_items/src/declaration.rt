@@ -1,6 +1,5 @@
 // Declarations of ports and nets.
 ghost use Rattle.std.specs.Prelude.{◌≡◌};
-ghost use Rattle.readers.specs.Sources.{supply};
 ghost use Rattle.readers.specs.Readers.{same, Reads, ReadsMaybe, TakesNext};
 ghost use Rattle.vlog_tokens.specs.Language.{vlog};
 ghost use Rattle.vlog_exprs.specs.Reasons as say;
@@ -22,7 +21,7 @@ pub fn read_more_names<S: Source>(
     close: u8,
     source: &mut S,
 ) -> Result<Seq<Text>, ReadError>
-    ensures { Reads vlog same (commas name (mark close) names) result cursor.old cursor.new (supply S.left S.faults source.old) (supply S.left S.faults source.new) }
+    ensures { Reads vlog same (commas name (mark close) names) result cursor.old cursor.new (S.supply source.old) (S.supply source.new) }
 {
     while cursor.takes(alloc, b',', source)? {
         let name = cursor.name(alloc, source)?;
@@ -39,7 +38,7 @@ fn read_names<S: Source>(
     cursor: &mut VCursor,
     source: &mut S,
 ) -> Result<Seq<Text>, ReadError>
-    ensures { Reads vlog same (list name (mark 59)) result cursor.old cursor.new (supply S.left S.faults source.old) (supply S.left S.faults source.new) }
+    ensures { Reads vlog same (list name (mark 59)) result cursor.old cursor.new (S.supply source.old) (S.supply source.new) }
 {
     let first = cursor.name(alloc, source)?;
     let mut names = Seq::empty(alloc);
@@ -55,7 +54,7 @@ pub fn read_signed<S: Source>(
     cursor: &mut VCursor,
     source: &mut S,
 ) -> Result<bool, ReadError>
-    ensures { ReadsMaybe vlog same signed result cursor.old cursor.new (supply S.left S.faults source.old) (supply S.left S.faults source.new) }
+    ensures { ReadsMaybe vlog same signed result cursor.old cursor.new (S.supply source.old) (S.supply source.new) }
 {
     let word = cursor.takes_choice(alloc, &[(b"signed", true)], source)?;
     Ok(word.is_some())
@@ -68,7 +67,7 @@ pub fn read_port_kind<S: Source>(
     cursor: &mut VCursor,
     source: &mut S,
 ) -> Result<Option<PortKind>, ReadError>
-    ensures { ReadsMaybe vlog same port_kind result cursor.old cursor.new (supply S.left S.faults source.old) (supply S.left S.faults source.new) }
+    ensures { ReadsMaybe vlog same port_kind result cursor.old cursor.new (S.supply source.old) (S.supply source.new) }
 {
     let kind = cursor.takes_choice(
         alloc,
@@ -87,7 +86,7 @@ pub(crate) fn read_port_item<S: Source>(
     dir: Dir,
     source: &mut S,
 ) -> Result<PortDecl, ReadError>
-    ensures { Reads vlog same (port_item attrs dir) result cursor.old cursor.new (supply S.left S.faults source.old) (supply S.left S.faults source.new) }
+    ensures { Reads vlog same (port_item attrs dir) result cursor.old cursor.new (S.supply source.old) (S.supply source.new) }
 {
     let kind = read_port_kind(alloc, cursor, source)?;
     let signed = read_signed(alloc, cursor, source)?;
@@ -112,7 +111,7 @@ pub(crate) fn read_net_item<S: Source>(
     kind: NetKind,
     source: &mut S,
 ) -> Result<NetDecl, ReadError>
-    ensures { Reads vlog same (net_item attrs kind) result cursor.old cursor.new (supply S.left S.faults source.old) (supply S.left S.faults source.new) }
+    ensures { Reads vlog same (net_item attrs kind) result cursor.old cursor.new (S.supply source.old) (S.supply source.new) }
 {
     let signed = read_signed(alloc, cursor, source)?;
     let range = read_range_if_any(alloc, cursor, source)?;

@@ -1,6 +1,5 @@
 // `defparam`.
 ghost use Rattle.std.specs.Prelude.{◌≡◌};
-ghost use Rattle.readers.specs.Sources.{supply};
 ghost use Rattle.readers.specs.Readers.{same, Reads};
 ghost use Rattle.vlog_tokens.specs.Language.{vlog};
 ghost use Rattle.vlog_exprs.specs.Grammar.{mark, list};
@@ -20,7 +19,7 @@ fn read_def_value<S: Source>(
     instance: Text,
     source: &mut S,
 ) -> Result<DefSet, ReadError>
-    ensures { Reads vlog same (def_value instance) result cursor.old cursor.new (supply S.left S.faults source.old) (supply S.left S.faults source.new) }
+    ensures { Reads vlog same (def_value instance) result cursor.old cursor.new (S.supply source.old) (S.supply source.new) }
 {
     let name = cursor.name(alloc, source)?;
     cursor.mark(alloc, b'=', source)?;
@@ -39,7 +38,7 @@ fn read_def_set<S: Source>(
     cursor: &mut VCursor,
     source: &mut S,
 ) -> Result<DefSet, ReadError>
-    ensures { Reads vlog same def_set result cursor.old cursor.new (supply S.left S.faults source.old) (supply S.left S.faults source.new) }
+    ensures { Reads vlog same def_set result cursor.old cursor.new (S.supply source.old) (S.supply source.new) }
 {
     let instance = cursor.name(alloc, source)?;
     cursor.mark(alloc, b'.', source)?;
@@ -54,7 +53,7 @@ fn read_def_sets<S: Source>(
     cursor: &mut VCursor,
     source: &mut S,
 ) -> Result<Seq<DefSet>, ReadError>
-    ensures { Reads vlog same (list def_set (mark 59)) result cursor.old cursor.new (supply S.left S.faults source.old) (supply S.left S.faults source.new) }
+    ensures { Reads vlog same (list def_set (mark 59)) result cursor.old cursor.new (S.supply source.old) (S.supply source.new) }
 {
     let mut sets = Seq::empty(alloc);
     let set = read_def_set(alloc, cursor, source)?;
@@ -75,7 +74,7 @@ pub(crate) fn read_defparams<S: Source>(
     attrs: Seq<Attr>,
     source: &mut S,
 ) -> Result<Defparams, ReadError>
-    ensures { Reads vlog same (defparams attrs) result cursor.old cursor.new (supply S.left S.faults source.old) (supply S.left S.faults source.new) }
+    ensures { Reads vlog same (defparams attrs) result cursor.old cursor.new (S.supply source.old) (S.supply source.new) }
 {
     let sets = read_def_sets(alloc, cursor, source)?;
     Ok(Defparams { attrs, sets })

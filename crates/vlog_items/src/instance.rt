@@ -1,6 +1,5 @@
 // Instances.
 ghost use Rattle.std.specs.Prelude.{◌≡◌};
-ghost use Rattle.readers.specs.Sources.{supply};
 ghost use Rattle.readers.specs.Readers.{same, Reads, ReadsMaybe};
 ghost use Rattle.vlog_tokens.specs.Language.{vlog};
 ghost use Rattle.vlog_exprs.specs.Grammar.{mark, list};
@@ -20,7 +19,7 @@ fn read_instance<S: Source>(
     cursor: &mut VCursor,
     source: &mut S,
 ) -> Result<VInst, ReadError>
-    ensures { Reads vlog same instance result cursor.old cursor.new (supply S.left S.faults source.old) (supply S.left S.faults source.new) }
+    ensures { Reads vlog same instance result cursor.old cursor.new (S.supply source.old) (S.supply source.new) }
 {
     let name = cursor.name(alloc, source)?;
     cursor.mark(alloc, b'(', source)?;
@@ -35,7 +34,7 @@ fn read_insts<S: Source>(
     cursor: &mut VCursor,
     source: &mut S,
 ) -> Result<Seq<VInst>, ReadError>
-    ensures { Reads vlog same (list instance (mark 59)) result cursor.old cursor.new (supply S.left S.faults source.old) (supply S.left S.faults source.new) }
+    ensures { Reads vlog same (list instance (mark 59)) result cursor.old cursor.new (S.supply source.old) (S.supply source.new) }
 {
     let mut insts = Seq::empty(alloc);
     let inst = read_instance(alloc, cursor, source)?;
@@ -55,7 +54,7 @@ fn read_override_rest<S: Source>(
     cursor: &mut VCursor,
     source: &mut S,
 ) -> Result<ParamSet, ReadError>
-    ensures { Reads vlog same override_rest result cursor.old cursor.new (supply S.left S.faults source.old) (supply S.left S.faults source.new) }
+    ensures { Reads vlog same override_rest result cursor.old cursor.new (S.supply source.old) (S.supply source.new) }
 {
     let name = cursor.name(alloc, source)?;
     cursor.mark(alloc, b'(', source)?;
@@ -71,7 +70,7 @@ fn read_override<S: Source>(
     cursor: &mut VCursor,
     source: &mut S,
 ) -> Result<ParamSet, ReadError>
-    ensures { Reads vlog same override_set result cursor.old cursor.new (supply S.left S.faults source.old) (supply S.left S.faults source.new) }
+    ensures { Reads vlog same override_set result cursor.old cursor.new (S.supply source.old) (S.supply source.new) }
 {
     cursor.mark(alloc, b'.', source)?;
     let set = read_override_rest(alloc, cursor, source)?;
@@ -85,7 +84,7 @@ fn read_override_list<S: Source>(
     cursor: &mut VCursor,
     source: &mut S,
 ) -> Result<Seq<ParamSet>, ReadError>
-    ensures { Reads vlog same (list override_set (mark 41)) result cursor.old cursor.new (supply S.left S.faults source.old) (supply S.left S.faults source.new) }
+    ensures { Reads vlog same (list override_set (mark 41)) result cursor.old cursor.new (S.supply source.old) (S.supply source.new) }
 {
     let mut sets = Seq::empty(alloc);
     let set = read_override(alloc, cursor, source)?;
@@ -105,7 +104,7 @@ fn read_overrides<S: Source>(
     cursor: &mut VCursor,
     source: &mut S,
 ) -> Result<Seq<ParamSet>, ReadError>
-    ensures { ReadsMaybe vlog same overrides result cursor.old cursor.new (supply S.left S.faults source.old) (supply S.left S.faults source.new) }
+    ensures { ReadsMaybe vlog same overrides result cursor.old cursor.new (S.supply source.old) (S.supply source.new) }
 {
     if cursor.takes(alloc, b'#', source)? {
         cursor.mark(alloc, b'(', source)?;
@@ -124,7 +123,7 @@ pub(crate) fn read_instances<S: Source>(
     of_module: Text,
     source: &mut S,
 ) -> Result<Instances, ReadError>
-    ensures { Reads vlog same (instances attrs of_module) result cursor.old cursor.new (supply S.left S.faults source.old) (supply S.left S.faults source.new) }
+    ensures { Reads vlog same (instances attrs of_module) result cursor.old cursor.new (S.supply source.old) (S.supply source.new) }
 {
     let params = read_overrides(alloc, cursor, source)?;
     let insts = read_insts(alloc, cursor, source)?;

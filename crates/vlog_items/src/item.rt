@@ -1,7 +1,6 @@
 // The items of a module.
 ghost use Rattle.std.specs.Prelude.{◌≡◌};
 ghost use Rattle.grammar.specs.Part.{sequence};
-ghost use Rattle.readers.specs.Sources.{supply};
 ghost use Rattle.readers.specs.Readers.{same, Reads};
 ghost use Rattle.vlog_tokens.specs.Language.{vlog};
 ghost use Rattle.vlog_exprs.specs.Grammar.{choice, attrs};
@@ -34,7 +33,7 @@ fn read_item_word<S: Source>(
     cursor: &mut VCursor,
     source: &mut S,
 ) -> Result<ItemWord, ReadError>
-    ensures { Reads vlog same (choice item_words) result cursor.old cursor.new (supply S.left S.faults source.old) (supply S.left S.faults source.new) }
+    ensures { Reads vlog same (choice item_words) result cursor.old cursor.new (S.supply source.old) (S.supply source.new) }
 {
     cursor.choose(
         alloc,
@@ -63,7 +62,7 @@ fn read_word_item<S: Source>(
     word: ItemWord,
     source: &mut S,
 ) -> Result<ItemV, ReadError>
-    ensures { Reads vlog same (word_item attrs word) result cursor.old cursor.new (supply S.left S.faults source.old) (supply S.left S.faults source.new) }
+    ensures { Reads vlog same (word_item attrs word) result cursor.old cursor.new (S.supply source.old) (S.supply source.new) }
 {
     match word {
         ItemWord::Port(dir) => {
@@ -98,7 +97,7 @@ fn read_instances_item<S: Source>(
     of_module: Text,
     source: &mut S,
 ) -> Result<ItemV, ReadError>
-    ensures { Reads vlog same (instances_item attrs of_module) result cursor.old cursor.new (supply S.left S.faults source.old) (supply S.left S.faults source.new) }
+    ensures { Reads vlog same (instances_item attrs of_module) result cursor.old cursor.new (S.supply source.old) (S.supply source.new) }
 {
     let instances = read_instances(alloc, cursor, attrs, of_module, source)?;
     Ok(ItemV::Instances(instances))
@@ -112,7 +111,7 @@ fn read_item_of<S: Source>(
     attrs: Seq<Attr>,
     source: &mut S,
 ) -> Result<ItemV, ReadError>
-    ensures { Reads vlog same (item attrs) result cursor.old cursor.new (supply S.left S.faults source.old) (supply S.left S.faults source.new) }
+    ensures { Reads vlog same (item attrs) result cursor.old cursor.new (S.supply source.old) (S.supply source.new) }
 {
     match cursor.takes_name(alloc, source)? {
         Some(of_module) => {
@@ -134,7 +133,7 @@ pub fn read_item<S: Source>(
     cursor: &mut VCursor,
     source: &mut S,
 ) -> Result<ItemV, ReadError>
-    ensures { Reads vlog same (sequence attrs item) result cursor.old cursor.new (supply S.left S.faults source.old) (supply S.left S.faults source.new) }
+    ensures { Reads vlog same (sequence attrs item) result cursor.old cursor.new (S.supply source.old) (S.supply source.new) }
 {
     let attributes = read_attrs(alloc, cursor, source)?;
     let item = read_item_of(alloc, cursor, attributes, source)?;

@@ -1,6 +1,5 @@
 // Declarations of parameters.
 ghost use Rattle.std.specs.Prelude.{◌≡◌};
-ghost use Rattle.readers.specs.Sources.{supply};
 ghost use Rattle.readers.specs.Readers.{same, Reads, ReadsMaybe, TakesNext};
 ghost use Rattle.vlog_exprs.specs.Reasons as say;
 ghost use Rattle.vlog_tokens.specs.Language.{vlog};
@@ -21,7 +20,7 @@ fn read_plain_type<S: Source>(
     cursor: &mut VCursor,
     source: &mut S,
 ) -> Result<ParamType, ReadError>
-    ensures { ReadsMaybe vlog same plain_type result cursor.old cursor.new (supply S.left S.faults source.old) (supply S.left S.faults source.new) }
+    ensures { ReadsMaybe vlog same plain_type result cursor.old cursor.new (S.supply source.old) (S.supply source.new) }
 {
     let signed = read_signed(alloc, cursor, source)?;
     let range = read_range_if_any(alloc, cursor, source)?;
@@ -34,7 +33,7 @@ fn read_type_word<S: Source>(
     cursor: &mut VCursor,
     source: &mut S,
 ) -> Result<Option<ParamType>, ReadError>
-    ensures { TakesNext vlog same (λ _ x. say.at_choice param_type_words x.token) result cursor.old cursor.new (supply S.left S.faults source.old) (supply S.left S.faults source.new) }
+    ensures { TakesNext vlog same (λ _ x. say.at_choice param_type_words x.token) result cursor.old cursor.new (S.supply source.old) (S.supply source.new) }
 {
     cursor.takes_choice(
         alloc,
@@ -50,7 +49,7 @@ pub fn read_param_type<S: Source>(
     cursor: &mut VCursor,
     source: &mut S,
 ) -> Result<ParamType, ReadError>
-    ensures { ReadsMaybe vlog same param_type result cursor.old cursor.new (supply S.left S.faults source.old) (supply S.left S.faults source.new) }
+    ensures { ReadsMaybe vlog same param_type result cursor.old cursor.new (S.supply source.old) (S.supply source.new) }
 {
     match read_type_word(alloc, cursor, source)? {
         Some(kind) => Ok(kind),
@@ -68,7 +67,7 @@ pub fn read_param_set<S: Source>(
     cursor: &mut VCursor,
     source: &mut S,
 ) -> Result<ParamSet, ReadError>
-    ensures { Reads vlog same param_set result cursor.old cursor.new (supply S.left S.faults source.old) (supply S.left S.faults source.new) }
+    ensures { Reads vlog same param_set result cursor.old cursor.new (S.supply source.old) (S.supply source.new) }
 {
     let name = cursor.name(alloc, source)?;
     cursor.mark(alloc, b'=', source)?;
@@ -83,7 +82,7 @@ fn read_param_sets<S: Source>(
     cursor: &mut VCursor,
     source: &mut S,
 ) -> Result<Seq<ParamSet>, ReadError>
-    ensures { Reads vlog same (list param_set (mark 59)) result cursor.old cursor.new (supply S.left S.faults source.old) (supply S.left S.faults source.new) }
+    ensures { Reads vlog same (list param_set (mark 59)) result cursor.old cursor.new (S.supply source.old) (S.supply source.new) }
 {
     let mut sets = Seq::empty(alloc);
     let set = read_param_set(alloc, cursor, source)?;
@@ -104,7 +103,7 @@ pub(crate) fn read_param_item<S: Source>(
     attrs: Seq<Attr>,
     source: &mut S,
 ) -> Result<ParamDecl, ReadError>
-    ensures { Reads vlog same (param_item attrs) result cursor.old cursor.new (supply S.left S.faults source.old) (supply S.left S.faults source.new) }
+    ensures { Reads vlog same (param_item attrs) result cursor.old cursor.new (S.supply source.old) (S.supply source.new) }
 {
     let kind = read_param_type(alloc, cursor, source)?;
     let sets = read_param_sets(alloc, cursor, source)?;

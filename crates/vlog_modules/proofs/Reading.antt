@@ -2,7 +2,7 @@
 use Rattle.std.proofs.Common.{◌≡◌, refl, sym, List, Option, Some, None, ℕ, IfSome, Result, Ok, Err, arith}
 use Rattle.nl_base.specs.declared.fault.ReadError.{ReadError}
 use Rattle.nl_base.specs.declared.fault.ReadError.TheVariants as errors
-use Rattle.readers.specs.Sources.{Supply}
+use Rattle.nl_io.specs.Sources.{Supply}
 use Rattle.readers.specs.Readers.{Reader, ReadsWhole, Ends, same}
 use Rattle.readers.specs.Texts.{ReadsText, Comes, tokens_of}
 use Rattle.readers.proofs.Moving.{skip_none}

@@ -1,6 +1,5 @@
 // Files.
 ghost use Rattle.std.specs.Prelude.{◌≡◌, IfOk, IsFalse};
-ghost use Rattle.readers.specs.Sources.{supply};
 ghost use Rattle.readers.specs.Readers.{same, Reads, ReadsMaybe, ReadsWhole, LooksFor, TakesNext};
 ghost use Rattle.readers.specs.Texts.{ReadsText};
 ghost use Rattle.vlog_tokens.specs.Language.{vlog};
@@ -39,7 +38,7 @@ pub(crate) struct SoFar {
 /// `Text`: the first fault, with its place, where its stop lies within so many bytes. `TooLong`: the text is longer, and it has no such
 /// fault. `ReadFault`: the source failed. `NoMemory`: memory ran out. It never answers `Spent`.
 pub fn read_vlog<S: Source>(alloc: Global, source: &mut S) -> Result<VlogFile, ReadError>
-    ensures { ReadsText vlog trailing tt same file result (supply S.left S.faults source.old) (supply S.left S.faults source.new) }
+    ensures { ReadsText vlog trailing tt same file result (S.supply source.old) (S.supply source.new) }
 {
     let Ok(tokens) = VTokens::new(alloc) else {
         return Err(ReadError::NoMemory);
@@ -57,7 +56,7 @@ fn read_file<S: Source>(
     cursor: &mut VCursor,
     source: &mut S,
 ) -> Result<VlogFile, ReadError>
-    ensures { ReadsWhole vlog same file result cursor.old cursor.new (supply S.left S.faults source.old) (supply S.left S.faults source.new) }
+    ensures { ReadsWhole vlog same file result cursor.old cursor.new (S.supply source.old) (S.supply source.new) }
 {
     let implicit = true;
     let mut so_far = SoFar {
@@ -79,7 +78,7 @@ fn at_piece<S: Source>(
     cursor: &mut VCursor,
     source: &mut S,
 ) -> Result<bool, ReadError>
-    ensures { LooksFor vlog begins_piece result cursor.old cursor.new (supply S.left S.faults source.old) (supply S.left S.faults source.new) }
+    ensures { LooksFor vlog begins_piece result cursor.old cursor.new (S.supply source.old) (S.supply source.new) }
 {
     cursor.look(alloc, source)?;
     if let Some(found) = cursor.ahead() {
@@ -122,7 +121,7 @@ fn read_piece<S: Source>(
     so_far: SoFar,
     source: &mut S,
 ) -> Result<SoFar, ReadError>
-    ensures { Reads vlog same (piece so_far) result cursor.old cursor.new (supply S.left S.faults source.old) (supply S.left S.faults source.new) }
+    ensures { Reads vlog same (piece so_far) result cursor.old cursor.new (S.supply source.old) (S.supply source.new) }
 {
     match takes_directive(alloc, cursor, source)? {
         Some(word) => {
@@ -142,7 +141,7 @@ fn takes_directive<S: Source>(
     cursor: &mut VCursor,
     source: &mut S,
 ) -> Result<Option<Directive>, ReadError>
-    ensures { TakesNext vlog same (λ _ x. at_directive x.token) result cursor.old cursor.new (supply S.left S.faults source.old) (supply S.left S.faults source.new) }
+    ensures { TakesNext vlog same (λ _ x. at_directive x.token) result cursor.old cursor.new (S.supply source.old) (S.supply source.new) }
 {
     let next = cursor.next_out(alloc, source)?;
     let Some(VFound { place, stop, token }) = next else {
@@ -174,7 +173,7 @@ fn read_directive<S: Source>(
     source: &mut S,
 ) -> Result<SoFar, ReadError>
     requires { IsFalse cursor.old.spent }
-    ensures { ReadsMaybe vlog same (directive so_far word) result cursor.old cursor.new (supply S.left S.faults source.old) (supply S.left S.faults source.new) }
+    ensures { ReadsMaybe vlog same (directive so_far word) result cursor.old cursor.new (S.supply source.old) (S.supply source.new) }
 {
     let SoFar { modules, .. } = so_far;
     match word {
@@ -195,7 +194,7 @@ fn read_net_type<S: Source>(
     cursor: &mut VCursor,
     source: &mut S,
 ) -> Result<bool, ReadError>
-    ensures { Reads vlog same net_type result cursor.old cursor.new (supply S.left S.faults source.old) (supply S.left S.faults source.new) }
+    ensures { Reads vlog same net_type result cursor.old cursor.new (S.supply source.old) (S.supply source.new) }
 {
     let VFound { place, stop, token } = cursor.take(alloc, source)?;
     let said = net_type_of(alloc, token);
@@ -234,7 +233,7 @@ fn read_one_module<S: Source>(
     so_far: SoFar,
     source: &mut S,
 ) -> Result<SoFar, ReadError>
-    ensures { Reads vlog same (one_module so_far) result cursor.old cursor.new (supply S.left S.faults source.old) (supply S.left S.faults source.new) }
+    ensures { Reads vlog same (one_module so_far) result cursor.old cursor.new (S.supply source.old) (S.supply source.new) }
 {
     let attrs = read_attrs(alloc, cursor, source)?;
     let SoFar {

@@ -1,6 +1,5 @@
 // The ports of a module's header.
 ghost use Rattle.std.specs.Prelude.{◌≡◌, ◌∷◌, [], IsFalse};
-ghost use Rattle.readers.specs.Sources.{supply};
 ghost use Rattle.readers.specs.Readers.{same, Reads, ReadsMaybe};
 ghost use Rattle.vlog_tokens.specs.Language.{vlog};
 ghost use Rattle.vlog_exprs.specs.Grammar.{choice};
@@ -26,7 +25,7 @@ fn read_dir<S: Source>(
     cursor: &mut VCursor,
     source: &mut S,
 ) -> Result<Dir, ReadError>
-    ensures { Reads vlog same (choice dir_words) result cursor.old cursor.new (supply S.left S.faults source.old) (supply S.left S.faults source.new) }
+    ensures { Reads vlog same (choice dir_words) result cursor.old cursor.new (S.supply source.old) (S.supply source.new) }
 {
     let dir = cursor.choose(
         alloc,
@@ -49,7 +48,7 @@ fn read_port_rest<S: Source>(
     dir: Dir,
     source: &mut S,
 ) -> Result<PortDecl, ReadError>
-    ensures { Reads vlog same (port_rest attrs dir) result cursor.old cursor.new (supply S.left S.faults source.old) (supply S.left S.faults source.new) }
+    ensures { Reads vlog same (port_rest attrs dir) result cursor.old cursor.new (S.supply source.old) (S.supply source.new) }
 {
     let kind = read_port_kind(alloc, cursor, source)?;
     let signed = read_signed(alloc, cursor, source)?;
@@ -74,7 +73,7 @@ fn read_port_decl<S: Source>(
     cursor: &mut VCursor,
     source: &mut S,
 ) -> Result<PortDecl, ReadError>
-    ensures { Reads vlog same port_decl result cursor.old cursor.new (supply S.left S.faults source.old) (supply S.left S.faults source.new) }
+    ensures { Reads vlog same port_decl result cursor.old cursor.new (S.supply source.old) (S.supply source.new) }
 {
     let attrs = read_attrs(alloc, cursor, source)?;
     let dir = read_dir(alloc, cursor, source)?;
@@ -90,7 +89,7 @@ fn read_port_turn<S: Source>(
     decls: PortDecls,
     source: &mut S,
 ) -> Result<PortDecls, ReadError>
-    ensures { Reads vlog same (port_turn decls) result cursor.old cursor.new (supply S.left S.faults source.old) (supply S.left S.faults source.new) }
+    ensures { Reads vlog same (port_turn decls) result cursor.old cursor.new (S.supply source.old) (S.supply source.new) }
 {
     let PortDecls {
         mut before,
@@ -117,7 +116,7 @@ fn read_port_decls<S: Source>(
     first: PortDecls,
     source: &mut S,
 ) -> Result<Seq<PortDecl>, ReadError>
-    ensures { Reads vlog same (port_decls first) result cursor.old cursor.new (supply S.left S.faults source.old) (supply S.left S.faults source.new) }
+    ensures { Reads vlog same (port_decls first) result cursor.old cursor.new (S.supply source.old) (S.supply source.new) }
 {
     let mut decls = first;
     while cursor.takes(alloc, b',', source)? {
@@ -138,7 +137,7 @@ fn read_name_header<S: Source>(
     source: &mut S,
 ) -> Result<Header, ReadError>
     requires { IsFalse cursor.old.spent }
-    ensures { Reads vlog same (name_header first) result cursor.old cursor.new (supply S.left S.faults source.old) (supply S.left S.faults source.new) }
+    ensures { Reads vlog same (name_header first) result cursor.old cursor.new (S.supply source.old) (S.supply source.new) }
 {
     let mut names = Seq::empty(alloc);
     cursor.add(&mut names, first)?;
@@ -153,7 +152,7 @@ fn read_decl_header<S: Source>(
     cursor: &mut VCursor,
     source: &mut S,
 ) -> Result<Header, ReadError>
-    ensures { Reads vlog same decl_header result cursor.old cursor.new (supply S.left S.faults source.old) (supply S.left S.faults source.new) }
+    ensures { Reads vlog same decl_header result cursor.old cursor.new (S.supply source.old) (S.supply source.new) }
 {
     let last = read_port_decl(alloc, cursor, source)?;
     let first = PortDecls {
@@ -171,7 +170,7 @@ fn read_some_header<S: Source>(
     cursor: &mut VCursor,
     source: &mut S,
 ) -> Result<Header, ReadError>
-    ensures { Reads vlog same some_header result cursor.old cursor.new (supply S.left S.faults source.old) (supply S.left S.faults source.new) }
+    ensures { Reads vlog same some_header result cursor.old cursor.new (S.supply source.old) (S.supply source.new) }
 {
     match cursor.takes_name(alloc, source)? {
         Some(name) => {
@@ -192,7 +191,7 @@ pub(crate) fn read_header<S: Source>(
     cursor: &mut VCursor,
     source: &mut S,
 ) -> Result<Header, ReadError>
-    ensures { ReadsMaybe vlog same header result cursor.old cursor.new (supply S.left S.faults source.old) (supply S.left S.faults source.new) }
+    ensures { ReadsMaybe vlog same header result cursor.old cursor.new (S.supply source.old) (S.supply source.new) }
 {
     if !cursor.takes(alloc, b'(', source)? {
         return Ok(Header::Names(Seq::empty(alloc)));

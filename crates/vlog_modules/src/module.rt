@@ -3,7 +3,6 @@ ghost use Rattle.std.specs.Prelude.{◌≡◌, [], is_some};
 ghost use Rattle.std.specs.List.{list_any};
 ghost use Rattle.grammar.specs.Part.{sequence};
 ghost use Rattle.nl_base.specs.Case.{same_bytes};
-ghost use Rattle.readers.specs.Sources.{supply};
 ghost use Rattle.readers.specs.Readers.{same, Reads, LooksFor};
 ghost use Rattle.vlog_tokens.specs.Language.{vlog};
 ghost use Rattle.vlog_exprs.specs.Reasons.{meant_by};
@@ -82,7 +81,7 @@ fn at_item<S: Source>(
     cursor: &mut VCursor,
     source: &mut S,
 ) -> Result<bool, ReadError>
-    ensures { LooksFor vlog begins_item result cursor.old cursor.new (supply S.left S.faults source.old) (supply S.left S.faults source.new) }
+    ensures { LooksFor vlog begins_item result cursor.old cursor.new (S.supply source.old) (S.supply source.new) }
 {
     let held = cursor.held_word();
     let count = held.len();
@@ -100,7 +99,7 @@ fn at_item_token<S: Source>(
     cursor: &mut VCursor,
     source: &mut S,
 ) -> Result<bool, ReadError>
-    ensures { LooksFor vlog begins_item result cursor.old cursor.new (supply S.left S.faults source.old) (supply S.left S.faults source.new) }
+    ensures { LooksFor vlog begins_item result cursor.old cursor.new (S.supply source.old) (S.supply source.new) }
 {
     cursor.look(alloc, source)?;
     if let Some(found) = cursor.ahead() {
@@ -116,7 +115,7 @@ fn read_items<S: Source>(
     cursor: &mut VCursor,
     source: &mut S,
 ) -> Result<Seq<ItemV>, ReadError>
-    ensures { Reads vlog same (items []) result cursor.old cursor.new (supply S.left S.faults source.old) (supply S.left S.faults source.new) }
+    ensures { Reads vlog same (items []) result cursor.old cursor.new (S.supply source.old) (S.supply source.new) }
 {
     let mut items = Seq::empty(alloc);
     while at_item(alloc, cursor, source)? {
@@ -136,7 +135,7 @@ fn read_module_rest<S: Source>(
     attrs: Seq<Attr>,
     source: &mut S,
 ) -> Result<Module, ReadError>
-    ensures { Reads vlog same (module_rest implicit attrs) result cursor.old cursor.new (supply S.left S.faults source.old) (supply S.left S.faults source.new) }
+    ensures { Reads vlog same (module_rest implicit attrs) result cursor.old cursor.new (S.supply source.old) (S.supply source.new) }
 {
     let name = cursor.name(alloc, source)?;
     let params = read_params(alloc, cursor, source)?;
@@ -162,7 +161,7 @@ pub(crate) fn read_module<S: Source>(
     attrs: Seq<Attr>,
     source: &mut S,
 ) -> Result<Module, ReadError>
-    ensures { Reads vlog same (module_of implicit attrs) result cursor.old cursor.new (supply S.left S.faults source.old) (supply S.left S.faults source.new) }
+    ensures { Reads vlog same (module_of implicit attrs) result cursor.old cursor.new (S.supply source.old) (S.supply source.new) }
 {
     cursor.keyword(alloc, b"module", source)?;
     let parts = read_module_rest(alloc, cursor, implicit, attrs, source)?;

@@ -1,6 +1,5 @@
 // The parameters of a module's header.
 ghost use Rattle.std.specs.Prelude.{◌≡◌, ◌∷◌, []};
-ghost use Rattle.readers.specs.Sources.{supply};
 ghost use Rattle.readers.specs.Readers.{same, Reads, ReadsMaybe};
 ghost use Rattle.vlog_tokens.specs.Language.{vlog};
 ghost use Rattle.vlog_modules.specs.Grammar.{param_group, more_set, param_turn, param_groups, params_rest, params};
@@ -26,7 +25,7 @@ fn read_param_group<S: Source>(
     cursor: &mut VCursor,
     source: &mut S,
 ) -> Result<ParamDecl, ReadError>
-    ensures { Reads vlog same param_group result cursor.old cursor.new (supply S.left S.faults source.old) (supply S.left S.faults source.new) }
+    ensures { Reads vlog same param_group result cursor.old cursor.new (S.supply source.old) (S.supply source.new) }
 {
     cursor.keyword(alloc, b"parameter", source)?;
     let kind = read_param_type(alloc, cursor, source)?;
@@ -49,7 +48,7 @@ fn read_more_set<S: Source>(
     name: Text,
     source: &mut S,
 ) -> Result<ParamGroups, ReadError>
-    ensures { Reads vlog same (more_set groups name) result cursor.old cursor.new (supply S.left S.faults source.old) (supply S.left S.faults source.new) }
+    ensures { Reads vlog same (more_set groups name) result cursor.old cursor.new (S.supply source.old) (S.supply source.new) }
 {
     cursor.mark(alloc, b'=', source)?;
     let value = read_const(alloc, cursor, source)?;
@@ -66,7 +65,7 @@ fn read_param_turn<S: Source>(
     groups: ParamGroups,
     source: &mut S,
 ) -> Result<ParamGroups, ReadError>
-    ensures { Reads vlog same (param_turn groups) result cursor.old cursor.new (supply S.left S.faults source.old) (supply S.left S.faults source.new) }
+    ensures { Reads vlog same (param_turn groups) result cursor.old cursor.new (S.supply source.old) (S.supply source.new) }
 {
     match cursor.takes_name(alloc, source)? {
         Some(name) => {
@@ -90,7 +89,7 @@ fn read_param_groups<S: Source>(
     first: ParamGroups,
     source: &mut S,
 ) -> Result<Seq<ParamDecl>, ReadError>
-    ensures { Reads vlog same (param_groups first) result cursor.old cursor.new (supply S.left S.faults source.old) (supply S.left S.faults source.new) }
+    ensures { Reads vlog same (param_groups first) result cursor.old cursor.new (S.supply source.old) (S.supply source.new) }
 {
     let mut groups = first;
     while cursor.takes(alloc, b',', source)? {
@@ -109,7 +108,7 @@ fn read_params_rest<S: Source>(
     cursor: &mut VCursor,
     source: &mut S,
 ) -> Result<Seq<ParamDecl>, ReadError>
-    ensures { Reads vlog same params_rest result cursor.old cursor.new (supply S.left S.faults source.old) (supply S.left S.faults source.new) }
+    ensures { Reads vlog same params_rest result cursor.old cursor.new (S.supply source.old) (S.supply source.new) }
 {
     cursor.mark(alloc, b'(', source)?;
     let last = read_param_group(alloc, cursor, source)?;
@@ -128,7 +127,7 @@ pub(crate) fn read_params<S: Source>(
     cursor: &mut VCursor,
     source: &mut S,
 ) -> Result<Seq<ParamDecl>, ReadError>
-    ensures { ReadsMaybe vlog same params result cursor.old cursor.new (supply S.left S.faults source.old) (supply S.left S.faults source.new) }
+    ensures { ReadsMaybe vlog same params result cursor.old cursor.new (S.supply source.old) (S.supply source.new) }
 {
     if cursor.takes(alloc, b'#', source)? {
         let groups = read_params_rest(alloc, cursor, source)?;

@@ -1,7 +1,6 @@
 // Files that are read from any source.
 ghost use Rattle.std.specs.Prelude.{◌≤◌, IfOk};
 ghost use Rattle.nl_bytes.specs.declared.bytes.TheConstants.{LIMIT};
-ghost use Rattle.readers.specs.Sources.{supply};
 ghost use Rattle.readers.specs.Readers.{same};
 ghost use Rattle.readers.specs.Texts.{ReadsText};
 ghost use Rattle.vlog_tokens.specs.Language.{vlog};
@@ -24,7 +23,7 @@ use vlog_values::{VlogFile, vlog_size};
 /// Those of `read_vlog`. No file is refused besides where the source tells its bytes and each is below 256 (`files_read_pass`). Where it does
 /// not tell them nothing is known of the file, so both are asked: one of more items is `TooLong`, and one that is no value `NoMemory`.
 pub fn read_sound_vlog<S: Source>(alloc: Global, source: &mut S) -> Result<VlogFile, ReadError>
-    ensures reads { ReadsText vlog trailing tt same file result (supply S.left S.faults source.old) (supply S.left S.faults source.new) }
+    ensures reads { ReadsText vlog trailing tt same file result (S.supply source.old) (S.supply source.new) }
     ensures value { IfOk result (λ file. IsVlogValue file) }
     ensures size { IfOk result (λ file. vlog_size file ≤ LIMIT) }
 {

@@ -8,7 +8,8 @@ use Rattle.nl_bytes.specs.declared.bytes.TheConstants.{LIMIT}
 use Rattle.nl_bytes.specs.declared.class.Class.TheVariants.{NameByte}
 use Rattle.nl_bytes.specs.Classes.{AreIn, is_verilog_space}
 use Rattle.nl_bytes.specs.Bytes.{Window, given}
-use Rattle.readers.specs.Sources.{Supply, ReadsToken}
+use Rattle.nl_io.specs.Sources.{Supply}
+use Rattle.readers.specs.Sources.{ReadsToken}
 use Rattle.vlog_tokens.specs.declared.item.Item.TheVariants.{Token}
 use Rattle.vlog_tokens.specs.declared.token.VFound.{VFound}
 use Rattle.vlog_tokens.specs.declared.token.VToken.TheVariants.{Name, Keyword}

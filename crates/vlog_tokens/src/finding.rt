@@ -31,9 +31,9 @@ fn item<S: Source>(
 ) -> Result<Spot, ReadError>
     requires ahead { (tail : List ℕ) × (bytes.old.held ≡ byte ∷ tail) }
     requires within { bytes.old.place.offset ≤ LIMIT }
-    ensures reads { Reads (item_by (start_of byte) byte) bytes.old bytes.new (S.left source.old) (S.left source.new) result }
-    ensures count { S.faults source.old ≤ S.faults source.new }
-    ensures cause { IsErrOf result ReadError.ReadFault → Rose (S.faults source.old) (S.faults source.new) }
+    ensures reads { Reads (item_by (start_of byte) byte) bytes.old bytes.new (S.supply source.old).left (S.supply source.new).left result }
+    ensures count { (S.supply source.old).faults ≤ (S.supply source.new).faults }
+    ensures cause { IsErrOf result ReadError.ReadFault → Rose (S.supply source.old).faults (S.supply source.new).faults }
     ensures never_spent { IsErrOf result ReadError.Spent → ⊥ }
     ensures bounded { OnText result (λ t. bytes.new.place.offset ≤ t.stop) }
     ensures ended { IfOk result (λ x. bytes.new.place.offset ≤ x.stop) }
@@ -60,9 +60,9 @@ fn token_of<S: Source>(
     item: Item,
     source: &mut S,
 ) -> Result<Option<VToken>, Halt>
-    ensures passed { Passed item bytes.old bytes.new (S.left source.old) (S.left source.new) result }
-    ensures count { S.faults source.old ≤ S.faults source.new }
-    ensures cause { IsErrOf result Halt.Failed → Rose (S.faults source.old) (S.faults source.new) }
+    ensures passed { Passed item bytes.old bytes.new (S.supply source.old).left (S.supply source.new).left result }
+    ensures count { (S.supply source.old).faults ≤ (S.supply source.new).faults }
+    ensures cause { IsErrOf result Halt.Failed → Rose (S.supply source.old).faults (S.supply source.new).faults }
 {
     match item {
         Item::Blank => Ok(None),
@@ -91,11 +91,11 @@ fn pieced<S: Source>(
     alloc: Global,
     source: &mut S,
 ) -> Result<Option<VFound>, ReadError>
-    ensures finds { Finds bytes.old bytes.new (S.left source.old) (S.left source.new) result }
+    ensures finds { Finds bytes.old bytes.new (S.supply source.old).left (S.supply source.new).left result }
     ensures never_spent { IsErrOf result ReadError.Spent → ⊥ }
     ensures bounded { OnText result (λ t. bytes.new.place.offset ≤ t.stop) }
-    ensures count { S.faults source.old ≤ S.faults source.new }
-    ensures cause { IsErrOf result ReadError.ReadFault → Rose (S.faults source.old) (S.faults source.new) }
+    ensures count { (S.supply source.old).faults ≤ (S.supply source.new).faults }
+    ensures cause { IsErrOf result ReadError.ReadFault → Rose (S.supply source.old).faults (S.supply source.new).faults }
 {
     'items: loop {
         let next = bytes.skip(Class::VerilogSpace, source)?;
@@ -121,11 +121,11 @@ pub fn found<S: Source>(
     alloc: Global,
     source: &mut S,
 ) -> Result<Option<VFound>, ReadError>
-    ensures finds { Finds bytes.old bytes.new (S.left source.old) (S.left source.new) result }
+    ensures finds { Finds bytes.old bytes.new (S.supply source.old).left (S.supply source.new).left result }
     ensures never_spent { IsErrOf result ReadError.Spent → ⊥ }
     ensures bounded { OnText result (λ t. bytes.new.place.offset ≤ t.stop) }
-    ensures count { S.faults source.old ≤ S.faults source.new }
-    ensures cause { IsErrOf result ReadError.ReadFault → Rose (S.faults source.old) (S.faults source.new) }
+    ensures count { (S.supply source.old).faults ≤ (S.supply source.new).faults }
+    ensures cause { IsErrOf result ReadError.ReadFault → Rose (S.supply source.old).faults (S.supply source.new).faults }
 {
     let next = bytes.skip(Class::VerilogSpace, source)?;
     let Some(byte) = next else {

@@ -28,11 +28,11 @@ fn scan<S: Source>(
 ) -> Result<Scanned, ReadError>
     requires ahead { (tail : List ℕ) × (bytes.old.held ≡ byte ∷ tail) }
     requires within { bytes.old.place.offset ≤ LIMIT }
-    ensures part { Part (begun begins byte) scanned bytes.old.place bytes.old bytes.new (S.left source.old) (S.left source.new) result }
-    ensures stop { IfOk result (λ x. StopsAt bytes.new (S.left source.new) x.stop) }
+    ensures part { Part (begun begins byte) scanned bytes.old.place bytes.old bytes.new (S.supply source.old).left (S.supply source.new).left result }
+    ensures stop { IfOk result (λ x. StopsAt bytes.new (S.supply source.new).left x.stop) }
     ensures some { OnOk result (bytes.old.place.offset < bytes.new.place.offset) }
-    ensures count { S.faults source.old ≤ S.faults source.new }
-    ensures cause { IsErrOf result ReadError.ReadFault → Rose (S.faults source.old) (S.faults source.new) }
+    ensures count { (S.supply source.old).faults ≤ (S.supply source.new).faults }
+    ensures cause { IsErrOf result ReadError.ReadFault → Rose (S.supply source.old).faults (S.supply source.new).faults }
     ensures never_spent { IsErrOf result ReadError.Spent → ⊥ }
     ensures bounded { OnText result (λ t. bytes.new.place.offset ≤ t.stop) }
 {
@@ -64,9 +64,9 @@ pub fn lexeme<S: Source>(
 ) -> Result<Spot, ReadError>
     requires ahead { (tail : List ℕ) × (bytes.old.held ≡ byte ∷ tail) }
     requires within { bytes.old.place.offset ≤ LIMIT }
-    ensures reads { Reads (lexeme_spelled begins byte) bytes.old bytes.new (S.left source.old) (S.left source.new) result }
-    ensures count { S.faults source.old ≤ S.faults source.new }
-    ensures cause { IsErrOf result ReadError.ReadFault → Rose (S.faults source.old) (S.faults source.new) }
+    ensures reads { Reads (lexeme_spelled begins byte) bytes.old bytes.new (S.supply source.old).left (S.supply source.new).left result }
+    ensures count { (S.supply source.old).faults ≤ (S.supply source.new).faults }
+    ensures cause { IsErrOf result ReadError.ReadFault → Rose (S.supply source.old).faults (S.supply source.new).faults }
     ensures never_spent { IsErrOf result ReadError.Spent → ⊥ }
     ensures bounded { OnText result (λ t. bytes.new.place.offset ≤ t.stop) }
     ensures ended { IfOk result (λ x. bytes.new.place.offset ≤ x.stop) }

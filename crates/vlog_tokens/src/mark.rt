@@ -18,7 +18,7 @@ use nl_io::Source;
 pub fn mark<S: Source>(bytes: &mut Bytes, item: Item, source: &S) -> Spot
     requires ahead { (byte : ℕ) × (tail : List ℕ) × (bytes.old.held ≡ byte ∷ tail) }
     requires within { bytes.old.place.offset ≤ LIMIT }
-    ensures reads { Reads (λ _. alone item) bytes.old bytes.new (S.left source.now) (S.left source.now) (Ok result) }
+    ensures reads { Reads (λ _. alone item) bytes.old bytes.new (S.supply source.now).left (S.supply source.now).left (Ok result) }
     ensures ended { bytes.new.place.offset ≤ result.stop }
 {
     let place = bytes.place();
@@ -74,9 +74,9 @@ impl Twin {
 pub fn pair<S: Source>(bytes: &mut Bytes, twin: Twin, source: &mut S) -> Result<Spot, ReadError>
     requires ahead { (byte : ℕ) × (tail : List ℕ) × (bytes.old.held ≡ byte ∷ tail) }
     requires within { bytes.old.place.offset ≤ LIMIT }
-    ensures reads { Reads (λ bs. pair_by (second_of twin) (both_of twin) (single_of twin) (first (drop 1 bs))) bytes.old bytes.new (S.left source.old) (S.left source.new) result }
-    ensures count { S.faults source.old ≤ S.faults source.new }
-    ensures cause { IsErrOf result ReadError.ReadFault → Rose (S.faults source.old) (S.faults source.new) }
+    ensures reads { Reads (λ bs. pair_by (second_of twin) (both_of twin) (single_of twin) (first (drop 1 bs))) bytes.old bytes.new (S.supply source.old).left (S.supply source.new).left result }
+    ensures count { (S.supply source.old).faults ≤ (S.supply source.new).faults }
+    ensures cause { IsErrOf result ReadError.ReadFault → Rose (S.supply source.old).faults (S.supply source.new).faults }
     ensures never_spent { IsErrOf result ReadError.Spent → ⊥ }
     ensures bounded { OnText result (λ t. bytes.new.place.offset ≤ t.stop) }
     ensures ended { IfOk result (λ x. bytes.new.place.offset ≤ x.stop) }
@@ -114,9 +114,9 @@ fn is_slash(next: Option<u8>) -> bool
 
 /// Reads a block comment, whose first two bytes were used.
 fn comment<S: Source>(bytes: &mut Bytes, source: &mut S) -> Result<(), ReadError>
-    ensures part { (p : specs.Place) → Part (comment_at false) (λ _. blank_now) p bytes.old bytes.new (S.left source.old) (S.left source.new) result }
-    ensures count { S.faults source.old ≤ S.faults source.new }
-    ensures cause { IsErrOf result ReadError.ReadFault → Rose (S.faults source.old) (S.faults source.new) }
+    ensures part { (p : specs.Place) → Part (comment_at false) (λ _. blank_now) p bytes.old bytes.new (S.supply source.old).left (S.supply source.new).left result }
+    ensures count { (S.supply source.old).faults ≤ (S.supply source.new).faults }
+    ensures cause { IsErrOf result ReadError.ReadFault → Rose (S.supply source.old).faults (S.supply source.new).faults }
     ensures never_spent { IsErrOf result ReadError.Spent → ⊥ }
     ensures bounded { OnText result (λ t. bytes.new.place.offset ≤ t.stop) }
 {
@@ -139,9 +139,9 @@ fn comment<S: Source>(bytes: &mut Bytes, source: &mut S) -> Result<(), ReadError
 pub fn slash<S: Source>(bytes: &mut Bytes, source: &mut S) -> Result<Spot, ReadError>
     requires ahead { (byte : ℕ) × (tail : List ℕ) × (bytes.old.held ≡ byte ∷ tail) }
     requires within { bytes.old.place.offset ≤ LIMIT }
-    ensures reads { Reads (λ bs. slash_by (first (drop 1 bs)) (drop 2 bs)) bytes.old bytes.new (S.left source.old) (S.left source.new) result }
-    ensures count { S.faults source.old ≤ S.faults source.new }
-    ensures cause { IsErrOf result ReadError.ReadFault → Rose (S.faults source.old) (S.faults source.new) }
+    ensures reads { Reads (λ bs. slash_by (first (drop 1 bs)) (drop 2 bs)) bytes.old bytes.new (S.supply source.old).left (S.supply source.new).left result }
+    ensures count { (S.supply source.old).faults ≤ (S.supply source.new).faults }
+    ensures cause { IsErrOf result ReadError.ReadFault → Rose (S.supply source.old).faults (S.supply source.new).faults }
     ensures never_spent { IsErrOf result ReadError.Spent → ⊥ }
     ensures bounded { OnText result (λ t. bytes.new.place.offset ≤ t.stop) }
     ensures ended { IfOk result (λ x. bytes.new.place.offset ≤ x.stop) }

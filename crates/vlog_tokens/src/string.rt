@@ -57,10 +57,10 @@ fn escaped_by(b: u8) -> Escaped
 
 /// Reads the further digits of an octal code, at most two. It answers no value where the next digit takes it above 255.
 fn code<S: Source>(bytes: &mut Bytes, begun: u8, source: &mut S) -> Result<Option<u8>, Halt>
-    ensures codes { Codes begun bytes.old bytes.new (S.left source.old) (S.left source.new) result }
+    ensures codes { Codes begun bytes.old bytes.new (S.supply source.old).left (S.supply source.new).left result }
     ensures limit { bytes.old.place.offset ≤ LIMIT + 1 → bytes.new.place.offset ≤ LIMIT + 1 }
-    ensures count { S.faults source.old ≤ S.faults source.new }
-    ensures cause { IsErrOf result Halt.Failed → Rose (S.faults source.old) (S.faults source.new) }
+    ensures count { (S.supply source.old).faults ≤ (S.supply source.new).faults }
+    ensures cause { IsErrOf result Halt.Failed → Rose (S.supply source.old).faults (S.supply source.new).faults }
 {
     let mut code = begun;
     let mut more: u8 = 2;
@@ -109,10 +109,10 @@ fn escape<S: Source>(
 ) -> Result<(), ReadError>
     requires ahead { (tail : List ℕ) × (bytes.old.held ≡ 92 ∷ tail) }
     requires within { bytes.old.place.offset ≤ LIMIT }
-    ensures part { Part (string_at Parts value.old.items) (λ _. string_at Parts value.new.items) place bytes.old bytes.new (S.left source.old) (S.left source.new) result }
+    ensures part { Part (string_at Parts value.old.items) (λ _. string_at Parts value.new.items) place bytes.old bytes.new (S.supply source.old).left (S.supply source.new).left result }
     ensures moved { OnOk result (bytes.old.place.offset < bytes.new.place.offset) }
-    ensures count { S.faults source.old ≤ S.faults source.new }
-    ensures cause { IsErrOf result ReadError.ReadFault → Rose (S.faults source.old) (S.faults source.new) }
+    ensures count { (S.supply source.old).faults ≤ (S.supply source.new).faults }
+    ensures cause { IsErrOf result ReadError.ReadFault → Rose (S.supply source.old).faults (S.supply source.new).faults }
     ensures never_spent { IsErrOf result ReadError.Spent → ⊥ }
     ensures bounded { OnText result (λ t. bytes.new.place.offset ≤ t.stop) }
 {
@@ -151,11 +151,11 @@ fn parts<S: Source>(
     value: &mut Vec<u8>,
     source: &mut S,
 ) -> Result<(), ReadError>
-    ensures part { Part (string_at Parts value.old.items) (λ _. string_at Parts value.new.items) place bytes.old bytes.new (S.left source.old) (S.left source.new) result }
+    ensures part { Part (string_at Parts value.old.items) (λ _. string_at Parts value.new.items) place bytes.old bytes.new (S.supply source.old).left (S.supply source.new).left result }
     ensures quote { OnOk result ((rest : List ℕ) × (bytes.new.held ≡ 34 ∷ rest)) }
     ensures within { OnOk result (bytes.new.place.offset ≤ LIMIT) }
-    ensures count { S.faults source.old ≤ S.faults source.new }
-    ensures cause { IsErrOf result ReadError.ReadFault → Rose (S.faults source.old) (S.faults source.new) }
+    ensures count { (S.supply source.old).faults ≤ (S.supply source.new).faults }
+    ensures cause { IsErrOf result ReadError.ReadFault → Rose (S.supply source.old).faults (S.supply source.new).faults }
     ensures never_spent { IsErrOf result ReadError.Spent → ⊥ }
     ensures bounded { OnText result (λ t. bytes.new.place.offset ≤ t.stop) }
 {
@@ -187,9 +187,9 @@ pub fn string<S: Source>(
 ) -> Result<Spot, ReadError>
     requires ahead { (quote : ℕ) × (tail : List ℕ) × (bytes.old.held ≡ quote ∷ tail) }
     requires within { bytes.old.place.offset ≤ LIMIT }
-    ensures reads { Reads string_spelled bytes.old bytes.new (S.left source.old) (S.left source.new) result }
-    ensures count { S.faults source.old ≤ S.faults source.new }
-    ensures cause { IsErrOf result ReadError.ReadFault → Rose (S.faults source.old) (S.faults source.new) }
+    ensures reads { Reads string_spelled bytes.old bytes.new (S.supply source.old).left (S.supply source.new).left result }
+    ensures count { (S.supply source.old).faults ≤ (S.supply source.new).faults }
+    ensures cause { IsErrOf result ReadError.ReadFault → Rose (S.supply source.old).faults (S.supply source.new).faults }
     ensures never_spent { IsErrOf result ReadError.Spent → ⊥ }
     ensures bounded { OnText result (λ t. bytes.new.place.offset ≤ t.stop) }
     ensures ended { IfOk result (λ x. bytes.new.place.offset ≤ x.stop) }

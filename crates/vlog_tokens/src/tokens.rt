@@ -30,7 +30,8 @@ impl Model for VTokens {
 }
 
 impl VTokens {
-    ghost use Rattle.readers.specs.Sources.{ReadsToken, Supply, supply};
+    ghost use Rattle.nl_io.specs.Sources.{Supply};
+    ghost use Rattle.readers.specs.Sources.{ReadsToken};
     ghost use Rattle.vlog_tokens.specs.declared.token.VToken.TheVariants.{Punct};
     ghost use Rattle.vlog_tokens.specs.Language.{vlog, fresh};
     ghost use Rattle.vlog_tokens.specs.Held.{held_mark, past_mark, held_word, past_word};
@@ -138,7 +139,7 @@ impl VTokens {
         alloc: Global,
         source: &mut S,
     ) -> Result<Option<VFound>, ReadError>
-        ensures { ReadsToken vlog result self.old.window self.old.spent self.new.window self.new.spent (supply S.left S.faults source.old) (supply S.left S.faults source.new) }
+        ensures { ReadsToken vlog result self.old.window self.old.spent self.new.window self.new.spent (S.supply source.old) (S.supply source.new) }
     {
         if self.spent {
             return Err(ReadError::Spent);

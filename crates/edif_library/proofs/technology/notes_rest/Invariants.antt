@@ -1,5 +1,4 @@
 use Rattle.std.specs.Prelude.{[]}
-use Rattle.readers.specs.Sources.{supply}
 use Rattle.readers.specs.Readers.{room}
 use Rattle.readers.proofs.Loops.{Goes}
 use Rattle.edif_keywords.specs.Language.{edif}
@@ -7,7 +6,7 @@ use Rattle.edif_library.specs.Grammar.{notes_rest}
 use Rattle.edif_library.proofs.technology.notes_rest.Given as goal
 
 abbrev pub invariant-loop-items : goal.invariant-loop-items
-invariant-loop-items g l = Goes edif (notes_rest []) (notes_rest l.items) l.cursor l.fn.cursor (supply g.S.Source.left g.S.Source.faults l.source) (supply g.S.Source.left g.S.Source.faults l.fn.source)
+invariant-loop-items g l = Goes edif (notes_rest []) (notes_rest l.items) l.cursor l.fn.cursor (g.S.Source.supply l.source) (g.S.Source.supply l.fn.source)
 
 abbrev pub decreases-loop-items : goal.decreases-loop-items
 decreases-loop-items g l = room l.cursor

@@ -1,5 +1,4 @@
 use Rattle.std.specs.Prelude.{[]}
-use Rattle.readers.specs.Sources.{supply}
 use Rattle.readers.specs.Readers.{room}
 use Rattle.readers.proofs.Loops.{Goes}
 use Rattle.edif_keywords.specs.Language.{edif}
@@ -7,7 +6,7 @@ use Rattle.edif_names.specs.Grammar.{tails}
 use Rattle.edif_names.proofs.property.read_tails.Given as goal
 
 abbrev pub invariant-loop-tail : goal.invariant-loop-tail
-invariant-loop-tail g l = Goes edif (tails []) (tails l.tail) l.cursor l.fn.cursor (supply g.S.Source.left g.S.Source.faults l.source) (supply g.S.Source.left g.S.Source.faults l.fn.source)
+invariant-loop-tail g l = Goes edif (tails []) (tails l.tail) l.cursor l.fn.cursor (g.S.Source.supply l.source) (g.S.Source.supply l.fn.source)
 
 abbrev pub decreases-loop-tail : goal.decreases-loop-tail
 decreases-loop-tail g l = room l.cursor

@@ -1,5 +1,4 @@
 use Rattle.std.specs.Prelude.{[]}
-use Rattle.readers.specs.Sources.{supply}
 use Rattle.readers.specs.Readers.{room}
 use Rattle.readers.proofs.Loops.{Goes}
 use Rattle.edif_keywords.specs.Language.{edif}
@@ -7,7 +6,7 @@ use Rattle.edif_nets.specs.Grammar.{joined_rest}
 use Rattle.edif_nets.proofs.net.joined_rest.Given as goal
 
 abbrev pub invariant-loop-references : goal.invariant-loop-references
-invariant-loop-references g l = Goes edif (joined_rest []) (joined_rest l.references) l.cursor l.fn.cursor (supply g.S.Source.left g.S.Source.faults l.source) (supply g.S.Source.left g.S.Source.faults l.fn.source)
+invariant-loop-references g l = Goes edif (joined_rest []) (joined_rest l.references) l.cursor l.fn.cursor (g.S.Source.supply l.source) (g.S.Source.supply l.fn.source)
 
 abbrev pub decreases-loop-references : goal.decreases-loop-references
 decreases-loop-references g l = room l.cursor

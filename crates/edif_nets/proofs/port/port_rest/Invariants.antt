@@ -1,5 +1,4 @@
 use Rattle.std.specs.Prelude.{◌≡◌, []}
-use Rattle.readers.specs.Sources.{supply}
 use Rattle.readers.specs.Readers.{room}
 use Rattle.readers.proofs.Loops.{Goes}
 use Rattle.edif_keywords.specs.Language.{edif}
@@ -8,7 +7,7 @@ use Rattle.edif_nets.proofs.port.port_rest.Given as goal
 
 abbrev pub invariant-loop-items : goal.invariant-loop-items
 invariant-loop-items g l =
-    Goes edif (port_rest []) (port_rest l.items) l.cursor l.fn.cursor (supply g.S.Source.left g.S.Source.faults l.source) (supply g.S.Source.left g.S.Source.faults l.fn.source)
+    Goes edif (port_rest []) (port_rest l.items) l.cursor l.fn.cursor (g.S.Source.supply l.source) (g.S.Source.supply l.fn.source)
     × (l.directed ≡ has_direction l.items)
 
 abbrev pub decreases-loop-items : goal.decreases-loop-items

@@ -1,5 +1,4 @@
 use Rattle.std.proofs.Common.{◌+◌, ◌*◌, []}
-use Rattle.readers.specs.Sources.{supply}
 use Rattle.readers.specs.Readers.{room}
 use Rattle.readers.proofs.Loops.{Goes}
 use Rattle.edif_keywords.specs.Language.{edif}
@@ -16,7 +15,7 @@ abbrev pub decreases-read_list : goal.decreases-read_list
 decreases-read_list g l = 3 * l.room + 3
 
 abbrev pub invariant-read_trees-loop-trees : goal.invariant-read_trees-loop-trees
-invariant-read_trees-loop-trees g l = Goes edif (trees l.room []) (trees l.room l.trees) l.cursor l.fn.cursor (supply g.S.Source.left g.S.Source.faults l.source) (supply g.S.Source.left g.S.Source.faults l.fn.source)
+invariant-read_trees-loop-trees g l = Goes edif (trees l.room []) (trees l.room l.trees) l.cursor l.fn.cursor (g.S.Source.supply l.source) (g.S.Source.supply l.fn.source)
 
 abbrev pub decreases-read_trees-loop-trees : goal.decreases-read_trees-loop-trees
 decreases-read_trees-loop-trees g l = room l.cursor

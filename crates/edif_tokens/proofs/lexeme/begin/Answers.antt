@@ -7,11 +7,10 @@ use Rattle.edif_tokens.proofs.lexeme.begin.Goals as goal
 
 pub returns-clause-begins : goal.returns-clause-begins
 returns-clause-begins g c =
-    let left = g.S.Source.left in
     let b = c.in-Some.b in
     let lead : c.args.lead ≡ true = search (rules, c.if-not-lead.false) in
-    let ahead : IsAhead c.peek.new.self (left c.peek.new.source) (Some b) = rw c.in-Some.is at c.in_ok-next.ensures.ahead in
+    let ahead : IsAhead c.peek.new.self (g.S.Source.supply c.peek.new.source).left (Some b) = rw c.in-Some.is at c.in_ok-next.ensures.ahead in
     let inside : in_class c.args.class b ≡ true = search (rules, c.contains.ensures, c.if-not-contains.false) in
-    let first_used = Uses-byte c.args.bytes.now c.advance.new.self (left c.args.source.now) c.args.byte c.requires.ahead.0 c.requires.ahead.1 c.advance.ensures.held c.advance.ensures.place in
+    let first_used = Uses-byte c.args.bytes.now c.advance.new.self (g.S.Source.supply c.args.source.now).left c.args.byte c.requires.ahead.0 c.requires.ahead.1 c.advance.ensures.held c.advance.ensures.place in
     let text = c.in_ok-push-2.ensures.items ∙ ap (λ (xs : List ℕ). xs ++ b ∷ []) (c.in_ok-push.ensures.items ∙ ap (λ (xs : List ℕ). xs ++ c.args.byte ∷ []) c.requires.empty) in
     rw lead (begin_led first_used c.peek.ensures.none_used ahead.1 c.advance-2.ensures.held c.advance-2.ensures.place inside text)

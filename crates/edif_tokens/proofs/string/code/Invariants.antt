@@ -7,10 +7,10 @@ use Rattle.edif_tokens.proofs.string.code.Given as goal
 abbrev pub invariant-loop-next : goal.invariant-loop-next
 invariant-loop-next g l = record {
   used : List ℕ;
-  uses : Uses l.fn.bytes l.bytes (g.S.Source.left l.fn.source) (g.S.Source.left l.source) used;
+  uses : Uses l.fn.bytes l.bytes (g.S.Source.supply l.fn.source).left (g.S.Source.supply l.source).left used;
   digits : Digits l.begun used l.code;
   below : l.code ≤ 255;
-  count : g.S.Source.faults l.fn.source ≤ g.S.Source.faults l.source;
+  count : (g.S.Source.supply l.fn.source).faults ≤ (g.S.Source.supply l.source).faults;
 }
 
 abbrev pub decreases-loop-next : goal.decreases-loop-next

@@ -6,8 +6,8 @@ use Rattle.edif_tokens.proofs.string.escape.Given as goal
 
 abbrev pub invariant-loop-next : goal.invariant-loop-next
 invariant-loop-next g l = record {
-  part : ReadsPart (λ s. Escape s false) (λ s. Escape s l.coded) l.place l.start l.fn.bytes l.bytes (g.S.Source.left l.fn.source) (g.S.Source.left l.source) l.fn.value.items l.value.items (Ok tt);
-  count : g.S.Source.faults l.fn.source ≤ g.S.Source.faults l.source;
+  part : ReadsPart (λ s. Escape s false) (λ s. Escape s l.coded) l.place l.start l.fn.bytes l.bytes (g.S.Source.supply l.fn.source).left (g.S.Source.supply l.source).left l.fn.value.items l.value.items (Ok tt);
+  count : (g.S.Source.supply l.fn.source).faults ≤ (g.S.Source.supply l.source).faults;
 }
 
 abbrev pub decreases-loop-next : goal.decreases-loop-next

@@ -6,8 +6,8 @@ use Rattle.edif_tokens.proofs.string.parts.Given as goal
 
 abbrev pub invariant-parts : goal.invariant-parts
 invariant-parts g l = record {
-  part : ReadsPart (λ s. Parts) (λ s. Parts) l.place l.place l.fn.bytes l.bytes (g.S.Source.left l.fn.source) (g.S.Source.left l.source) l.fn.value.items l.value.items (Ok tt);
-  count : g.S.Source.faults l.fn.source ≤ g.S.Source.faults l.source;
+  part : ReadsPart (λ s. Parts) (λ s. Parts) l.place l.place l.fn.bytes l.bytes (g.S.Source.supply l.fn.source).left (g.S.Source.supply l.source).left l.fn.value.items l.value.items (Ok tt);
+  count : (g.S.Source.supply l.fn.source).faults ≤ (g.S.Source.supply l.source).faults;
 }
 
 abbrev pub decreases-parts : goal.decreases-parts

@@ -1,5 +1,4 @@
 use Rattle.std.proofs.Common.{refl, Some}
-use Rattle.readers.specs.Sources.{supply}
 use Rattle.netlist_cli.proofs.Ends.{asked_fits, takes_none}
 use Rattle.netlist_cli.proofs.run.perform.Goals as goal
 
@@ -11,7 +10,7 @@ returns-in-Err g c =
     let asked = rw c.in-Err.is at c.of.ensures in
     record {
       performs = record { asked = Some asked.0; is_asked = asked.1; performed = ((tt, refl), λ unread. (refl, tt)) };
-      taken = takes_none (supply g.S.Source.left g.S.Source.faults c.args.input.now);
+      taken = takes_none (g.S.Source.supply c.args.input.now);
     }
 
 pub carry_out_asked-result-requires : goal.carry_out_asked-result-requires

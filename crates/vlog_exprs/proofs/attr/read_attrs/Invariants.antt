@@ -1,5 +1,4 @@
 use Rattle.std.specs.Prelude.{[]}
-use Rattle.readers.specs.Sources.{supply}
 use Rattle.readers.specs.Readers.{room}
 use Rattle.readers.proofs.Loops.{Goes}
 use Rattle.vlog_tokens.specs.Language.{vlog}
@@ -7,7 +6,7 @@ use Rattle.vlog_exprs.specs.Grammar.{groups}
 use Rattle.vlog_exprs.proofs.attr.read_attrs.Given as goal
 
 abbrev pub invariant-loop-attrs : goal.invariant-loop-attrs
-invariant-loop-attrs g l = Goes vlog (groups []) (groups l.attrs) l.cursor l.fn.cursor (supply g.S.Source.left g.S.Source.faults l.source) (supply g.S.Source.left g.S.Source.faults l.fn.source)
+invariant-loop-attrs g l = Goes vlog (groups []) (groups l.attrs) l.cursor l.fn.cursor (g.S.Source.supply l.source) (g.S.Source.supply l.fn.source)
 
 abbrev pub decreases-loop-attrs : goal.decreases-loop-attrs
 decreases-loop-attrs g l = room l.cursor

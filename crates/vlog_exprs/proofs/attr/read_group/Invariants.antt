@@ -1,4 +1,3 @@
-use Rattle.readers.specs.Sources.{supply}
 use Rattle.readers.specs.Readers.{room}
 use Rattle.readers.proofs.Loops.{Goes}
 use Rattle.vlog_tokens.specs.Language.{vlog}
@@ -6,7 +5,7 @@ use Rattle.vlog_exprs.specs.Grammar.{commas, attr, group_end, group}
 use Rattle.vlog_exprs.proofs.attr.read_group.Given as goal
 
 abbrev pub invariant-loop-attrs : goal.invariant-loop-attrs
-invariant-loop-attrs g l = Goes vlog (group l.fn.attrs) (commas attr group_end l.attrs) l.cursor l.fn.cursor (supply g.S.Source.left g.S.Source.faults l.source) (supply g.S.Source.left g.S.Source.faults l.fn.source)
+invariant-loop-attrs g l = Goes vlog (group l.fn.attrs) (commas attr group_end l.attrs) l.cursor l.fn.cursor (g.S.Source.supply l.source) (g.S.Source.supply l.fn.source)
 
 abbrev pub decreases-loop-attrs : goal.decreases-loop-attrs
 decreases-loop-attrs g l = room l.cursor

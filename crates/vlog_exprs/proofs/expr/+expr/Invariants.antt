@@ -1,5 +1,4 @@
 use Rattle.std.proofs.Common.{◌+◌, ◌*◌, [], ◌∷◌}
-use Rattle.readers.specs.Sources.{supply}
 use Rattle.readers.specs.Readers.{room}
 use Rattle.readers.proofs.Loops.{Goes}
 use Rattle.vlog_tokens.specs.Language.{vlog}
@@ -28,7 +27,7 @@ abbrev pub decreases-read_braced : goal.decreases-read_braced
 decreases-read_braced g l = 7 * l.room + 6
 
 abbrev pub invariant-read_list-loop-exprs : goal.invariant-read_list-loop-exprs
-invariant-read_list-loop-exprs g l = Goes vlog (commas (expr l.left l.room) (mark 125) (l.fn.first ∷ [])) (commas (expr l.left l.room) (mark 125) l.exprs) l.cursor l.fn.cursor (supply g.S.Source.left g.S.Source.faults l.source) (supply g.S.Source.left g.S.Source.faults l.fn.source)
+invariant-read_list-loop-exprs g l = Goes vlog (commas (expr l.left l.room) (mark 125) (l.fn.first ∷ [])) (commas (expr l.left l.room) (mark 125) l.exprs) l.cursor l.fn.cursor (g.S.Source.supply l.source) (g.S.Source.supply l.fn.source)
 
 abbrev pub decreases-read_list-loop-exprs : goal.decreases-read_list-loop-exprs
 decreases-read_list-loop-exprs g l = room l.cursor

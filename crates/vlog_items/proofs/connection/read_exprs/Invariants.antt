@@ -1,4 +1,3 @@
-use Rattle.readers.specs.Sources.{supply}
 use Rattle.readers.specs.Readers.{room}
 use Rattle.readers.proofs.Loops.{Goes}
 use Rattle.vlog_tokens.specs.Language.{vlog}
@@ -6,7 +5,7 @@ use Rattle.vlog_exprs.specs.Grammar.{mark, commas, list, maybe_expr}
 use Rattle.vlog_items.proofs.connection.read_exprs.Given as goal
 
 abbrev pub invariant-loop-exprs : goal.invariant-loop-exprs
-invariant-loop-exprs g l = Goes vlog (list maybe_expr (mark 41)) (commas maybe_expr (mark 41) l.exprs) l.cursor l.fn.cursor (supply g.S.Source.left g.S.Source.faults l.source) (supply g.S.Source.left g.S.Source.faults l.fn.source)
+invariant-loop-exprs g l = Goes vlog (list maybe_expr (mark 41)) (commas maybe_expr (mark 41) l.exprs) l.cursor l.fn.cursor (g.S.Source.supply l.source) (g.S.Source.supply l.fn.source)
 
 abbrev pub decreases-loop-exprs : goal.decreases-loop-exprs
 decreases-loop-exprs g l = room l.cursor

@@ -1,4 +1,3 @@
-use Rattle.readers.specs.Sources.{supply}
 use Rattle.readers.specs.Readers.{room}
 use Rattle.readers.proofs.Loops.{Goes}
 use Rattle.vlog_tokens.specs.Language.{vlog}
@@ -7,7 +6,7 @@ use Rattle.vlog_items.specs.Grammar.{named}
 use Rattle.vlog_items.proofs.connection.read_more_named.Given as goal
 
 abbrev pub invariant-loop-conns : goal.invariant-loop-conns
-invariant-loop-conns g l = Goes vlog (commas named (mark 41) l.fn.conns) (commas named (mark 41) l.conns) l.cursor l.fn.cursor (supply g.S.Source.left g.S.Source.faults l.source) (supply g.S.Source.left g.S.Source.faults l.fn.source)
+invariant-loop-conns g l = Goes vlog (commas named (mark 41) l.fn.conns) (commas named (mark 41) l.conns) l.cursor l.fn.cursor (g.S.Source.supply l.source) (g.S.Source.supply l.fn.source)
 
 abbrev pub decreases-loop-conns : goal.decreases-loop-conns
 decreases-loop-conns g l = room l.cursor

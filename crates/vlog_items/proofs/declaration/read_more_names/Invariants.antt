@@ -1,4 +1,3 @@
-use Rattle.readers.specs.Sources.{supply}
 use Rattle.readers.specs.Readers.{room}
 use Rattle.readers.proofs.Loops.{Goes}
 use Rattle.vlog_tokens.specs.Language.{vlog}
@@ -6,7 +5,7 @@ use Rattle.vlog_exprs.specs.Grammar.{name, mark, commas}
 use Rattle.vlog_items.proofs.declaration.read_more_names.Given as goal
 
 abbrev pub invariant-loop-names : goal.invariant-loop-names
-invariant-loop-names g l = Goes vlog (commas name (mark l.close) l.fn.names) (commas name (mark l.close) l.names) l.cursor l.fn.cursor (supply g.S.Source.left g.S.Source.faults l.source) (supply g.S.Source.left g.S.Source.faults l.fn.source)
+invariant-loop-names g l = Goes vlog (commas name (mark l.close) l.fn.names) (commas name (mark l.close) l.names) l.cursor l.fn.cursor (g.S.Source.supply l.source) (g.S.Source.supply l.fn.source)
 
 abbrev pub decreases-loop-names : goal.decreases-loop-names
 decreases-loop-names g l = room l.cursor

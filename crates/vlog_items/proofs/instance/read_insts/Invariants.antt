@@ -1,4 +1,3 @@
-use Rattle.readers.specs.Sources.{supply}
 use Rattle.readers.specs.Readers.{room}
 use Rattle.readers.proofs.Loops.{Goes}
 use Rattle.vlog_tokens.specs.Language.{vlog}
@@ -7,7 +6,7 @@ use Rattle.vlog_items.specs.Grammar.{instance}
 use Rattle.vlog_items.proofs.instance.read_insts.Given as goal
 
 abbrev pub invariant-loop-insts : goal.invariant-loop-insts
-invariant-loop-insts g l = Goes vlog (list instance (mark 59)) (commas instance (mark 59) l.insts) l.cursor l.fn.cursor (supply g.S.Source.left g.S.Source.faults l.source) (supply g.S.Source.left g.S.Source.faults l.fn.source)
+invariant-loop-insts g l = Goes vlog (list instance (mark 59)) (commas instance (mark 59) l.insts) l.cursor l.fn.cursor (g.S.Source.supply l.source) (g.S.Source.supply l.fn.source)
 
 abbrev pub decreases-loop-insts : goal.decreases-loop-insts
 decreases-loop-insts g l = room l.cursor

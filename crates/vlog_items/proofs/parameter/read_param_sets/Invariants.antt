@@ -1,4 +1,3 @@
-use Rattle.readers.specs.Sources.{supply}
 use Rattle.readers.specs.Readers.{room}
 use Rattle.readers.proofs.Loops.{Goes}
 use Rattle.vlog_tokens.specs.Language.{vlog}
@@ -7,7 +6,7 @@ use Rattle.vlog_items.specs.Grammar.{param_set}
 use Rattle.vlog_items.proofs.parameter.read_param_sets.Given as goal
 
 abbrev pub invariant-loop-sets : goal.invariant-loop-sets
-invariant-loop-sets g l = Goes vlog (list param_set (mark 59)) (commas param_set (mark 59) l.sets) l.cursor l.fn.cursor (supply g.S.Source.left g.S.Source.faults l.source) (supply g.S.Source.left g.S.Source.faults l.fn.source)
+invariant-loop-sets g l = Goes vlog (list param_set (mark 59)) (commas param_set (mark 59) l.sets) l.cursor l.fn.cursor (g.S.Source.supply l.source) (g.S.Source.supply l.fn.source)
 
 abbrev pub decreases-loop-sets : goal.decreases-loop-sets
 decreases-loop-sets g l = room l.cursor

@@ -1,4 +1,3 @@
-use Rattle.readers.specs.Sources.{supply}
 use Rattle.readers.specs.Readers.{room}
 use Rattle.readers.proofs.Loops.{Goes}
 use Rattle.vlog_tokens.specs.Language.{vlog}
@@ -6,7 +5,7 @@ use Rattle.vlog_modules.specs.Grammar.{pieces, file}
 use Rattle.vlog_modules.proofs.file.read_file.Given as goal
 
 abbrev pub invariant-loop-so_far : goal.invariant-loop-so_far
-invariant-loop-so_far g l = Goes vlog file (pieces l.so_far) l.cursor l.fn.cursor (supply g.S.Source.left g.S.Source.faults l.source) (supply g.S.Source.left g.S.Source.faults l.fn.source)
+invariant-loop-so_far g l = Goes vlog file (pieces l.so_far) l.cursor l.fn.cursor (g.S.Source.supply l.source) (g.S.Source.supply l.fn.source)
 
 abbrev pub decreases-loop-so_far : goal.decreases-loop-so_far
 decreases-loop-so_far g l = room l.cursor

@@ -1,4 +1,3 @@
-use Rattle.readers.specs.Sources.{supply}
 use Rattle.readers.specs.Readers.{room}
 use Rattle.readers.proofs.Loops.{Goes}
 use Rattle.vlog_tokens.specs.Language.{vlog}
@@ -6,7 +5,7 @@ use Rattle.vlog_modules.specs.Grammar.{port_decls}
 use Rattle.vlog_modules.proofs.header.read_port_decls.Given as goal
 
 abbrev pub invariant-loop-decls : goal.invariant-loop-decls
-invariant-loop-decls g l = Goes vlog (port_decls l.fn.first) (port_decls l.decls) l.cursor l.fn.cursor (supply g.S.Source.left g.S.Source.faults l.source) (supply g.S.Source.left g.S.Source.faults l.fn.source)
+invariant-loop-decls g l = Goes vlog (port_decls l.fn.first) (port_decls l.decls) l.cursor l.fn.cursor (g.S.Source.supply l.source) (g.S.Source.supply l.fn.source)
 
 abbrev pub decreases-loop-decls : goal.decreases-loop-decls
 decreases-loop-decls g l = room l.cursor

@@ -1,4 +1,3 @@
-use Rattle.readers.specs.Sources.{supply}
 use Rattle.readers.specs.Readers.{room}
 use Rattle.readers.proofs.Loops.{Goes}
 use Rattle.vlog_tokens.specs.Language.{vlog}
@@ -6,7 +5,7 @@ use Rattle.vlog_modules.specs.Grammar.{param_groups}
 use Rattle.vlog_modules.proofs.parameter.read_param_groups.Given as goal
 
 abbrev pub invariant-loop-groups : goal.invariant-loop-groups
-invariant-loop-groups g l = Goes vlog (param_groups l.fn.first) (param_groups l.groups) l.cursor l.fn.cursor (supply g.S.Source.left g.S.Source.faults l.source) (supply g.S.Source.left g.S.Source.faults l.fn.source)
+invariant-loop-groups g l = Goes vlog (param_groups l.fn.first) (param_groups l.groups) l.cursor l.fn.cursor (g.S.Source.supply l.source) (g.S.Source.supply l.fn.source)
 
 abbrev pub decreases-loop-groups : goal.decreases-loop-groups
 decreases-loop-groups g l = room l.cursor

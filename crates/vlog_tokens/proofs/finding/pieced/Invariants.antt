@@ -5,8 +5,8 @@ use Rattle.vlog_tokens.proofs.finding.pieced.Given as goal
 
 abbrev pub invariant-items : goal.invariant-items
 invariant-items g l = record {
-  passes : Passes l.fn.bytes l.bytes (g.S.Source.left l.fn.source) (g.S.Source.left l.source);
-  count : g.S.Source.faults l.fn.source ≤ g.S.Source.faults l.source;
+  passes : Passes l.fn.bytes l.bytes (g.S.Source.supply l.fn.source).left (g.S.Source.supply l.source).left;
+  count : (g.S.Source.supply l.fn.source).faults ≤ (g.S.Source.supply l.source).faults;
 }
 
 abbrev pub decreases-items : goal.decreases-items

@@ -26,13 +26,13 @@ pub returns-then-is_slash-clause-part : goal.returns-then-is_slash-clause-part
 returns-then-is_slash-clause-part g c =
     let skips = rw c.in-Some.is at c.in_ok-next.ensures.skips in
     let s = steps (skips.ahead.1) (c.advance.ensures.held) (c.advance.ensures.place) in
-    let slash = slash_ahead c.peek.new.self (g.S.Source.left c.peek.new.source) _ c.in_ok-after.ensures.ahead (sym c.is_slash.ensures ∙ c.if-is_slash.true) in
+    let slash = slash_ahead c.peek.new.self (g.S.Source.supply c.peek.new.source).left _ c.in_ok-after.ensures.ahead (sym c.is_slash.ensures ∙ c.if-is_slash.true) in
     let t = steps (slash.1) (c.advance-then-is_slash.ensures.held) (c.advance-then-is_slash.ensures.place) in
     λ q. part_then (part_then (part_then (c.comment.invariant.part q) (comment_part skips q)) (star_part q s skips.longest c.in_ok-after.ensures.none_used)) (comment_closed q _ t)
 
 pub advance-requires-then-is_slash-clause-held : goal.advance-requires-then-is_slash-clause-held
 advance-requires-then-is_slash-clause-held g c =
-    let slash = slash_ahead c.peek.new.self (g.S.Source.left c.peek.new.source) _ c.in_ok-after.ensures.ahead (sym c.is_slash.ensures ∙ c.if-is_slash.true) in
+    let slash = slash_ahead c.peek.new.self (g.S.Source.supply c.peek.new.source).left _ c.in_ok-after.ensures.ahead (sym c.is_slash.ensures ∙ c.if-is_slash.true) in
     rw slash.1 (omega arith)
 
 pub comment-smaller : goal.comment-smaller

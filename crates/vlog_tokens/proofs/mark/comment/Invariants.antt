@@ -7,8 +7,8 @@ use Rattle.vlog_tokens.proofs.mark.comment.Given as goal
 
 abbrev pub invariant-comment : goal.invariant-comment
 invariant-comment g l = record {
-  part : (p : Place) → Part {X = Unit {0}} (comment_at false) (λ _. comment_at false) p l.fn.bytes l.bytes (g.S.Source.left l.fn.source) (g.S.Source.left l.source) (Ok tt);
-  count : g.S.Source.faults l.fn.source ≤ g.S.Source.faults l.source;
+  part : (p : Place) → Part {X = Unit {0}} (comment_at false) (λ _. comment_at false) p l.fn.bytes l.bytes (g.S.Source.supply l.fn.source).left (g.S.Source.supply l.source).left (Ok tt);
+  count : (g.S.Source.supply l.fn.source).faults ≤ (g.S.Source.supply l.source).faults;
 }
 
 abbrev pub decreases-comment : goal.decreases-comment

@@ -6,8 +6,8 @@ use Rattle.vlog_tokens.proofs.scan.rest.Given as goal
 
 abbrev pub invariant-loop-text : goal.invariant-loop-text
 invariant-loop-text g l = record {
-  part : Part {X = Unit {0}} (scan_at l.fn.begins l.fn.text.items) (λ _. scan_at l.phase l.text.items) l.place l.fn.bytes l.bytes (g.S.Source.left l.fn.source) (g.S.Source.left l.source) (Ok tt);
-  count : g.S.Source.faults l.fn.source ≤ g.S.Source.faults l.source;
+  part : Part {X = Unit {0}} (scan_at l.fn.begins l.fn.text.items) (λ _. scan_at l.phase l.text.items) l.place l.fn.bytes l.bytes (g.S.Source.supply l.fn.source).left (g.S.Source.supply l.source).left (Ok tt);
+  count : (g.S.Source.supply l.fn.source).faults ≤ (g.S.Source.supply l.source).faults;
 }
 
 abbrev pub decreases-loop-text : goal.decreases-loop-text

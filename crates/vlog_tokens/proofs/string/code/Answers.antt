@@ -9,7 +9,7 @@ use Rattle.vlog_tokens.proofs.string.code.Goals as goal
 pub returns-then-more-eq0-clause-codes : goal.returns-then-more-eq0-clause-codes
 returns-then-more-eq0-clause-codes g c =
     let i = c.digits.invariant in
-    record { used = i.used; code = c.digits.code; more = c.digits.more; uses = i.uses; digits = i.digits; both = i.both; ends = (refl, closes_full c.digits.code c.digits.more c.digits.bytes (g.S.Source.left c.digits.source) c.if-more-eq0.true); too_long = λ h. absurd cc; used_up = λ h. absurd cc }
+    record { used = i.used; code = c.digits.code; more = c.digits.more; uses = i.uses; digits = i.digits; both = i.both; ends = (refl, closes_full c.digits.code c.digits.more c.digits.bytes (g.S.Source.supply c.digits.source).left c.if-more-eq0.true); too_long = λ h. absurd cc; used_up = λ h. absurd cc }
 
 pub returns-in_default-clause-codes : goal.returns-in_default-clause-codes
 returns-in_default-clause-codes g c =
@@ -21,7 +21,7 @@ returns-in_default-clause-codes g c =
       uses = Uses-looked i.uses c.peek.ensures.none_used;
       digits = i.digits;
       both = i.both;
-      ends = (refl, closes_end c.digits.code c.digits.more c.peek.new.self (g.S.Source.left c.peek.new.source) (rw c.in_default.is at c.in_ok-next.ensures.ahead));
+      ends = (refl, closes_end c.digits.code c.digits.more c.peek.new.self (g.S.Source.supply c.peek.new.source).left (rw c.in_default.is at c.in_ok-next.ensures.ahead));
       too_long = λ h. absurd cc;
       used_up = λ h. absurd cc;
     }
@@ -37,7 +37,7 @@ returns-then-not-is_octal-clause-codes g c =
       uses = Uses-looked i.uses c.peek.ensures.none_used;
       digits = i.digits;
       both = i.both;
-      ends = (refl, closes_other c.digits.code c.digits.more c.in-Some.b c.peek.new.self (g.S.Source.left c.peek.new.source) (rw c.in-Some.is at c.in_ok-next.ensures.ahead) other);
+      ends = (refl, closes_other c.digits.code c.digits.more c.in-Some.b c.peek.new.self (g.S.Source.supply c.peek.new.source).left (rw c.in-Some.is at c.in_ok-next.ensures.ahead) other);
       too_long = λ h. absurd cc;
       used_up = λ h. absurd cc;
     }
@@ -60,14 +60,13 @@ returns-then-value-gt255-clause-codes g c =
 
 pub digits-preserved : goal.digits-preserved
 digits-preserved g c =
-    let left = g.S.Source.left in
     let i = c.digits.invariant in
     let b = c.in-Some.b in
-    let ahead : IsAhead c.peek.new.self (left c.peek.new.source) (Some b) = rw c.in-Some.is at c.in_ok-next.ensures.ahead in
+    let ahead : IsAhead c.peek.new.self (g.S.Source.supply c.peek.new.source).left (Some b) = rw c.in-Some.is at c.in_ok-next.ensures.ahead in
     let octal : is_octal b ≡ true = search (rules, c.is_octal.ensures, c.if-not-is_octal.false) in
     record {
       used = i.used ++ b ∷ [];
-      uses = Uses-next _ c.digits.bytes c.peek.new.self c.advance.new.self _ (left c.digits.source) _ i.used b ahead.0 i.uses c.peek.ensures.none_used ahead.1 c.advance.ensures.held c.advance.ensures.place;
+      uses = Uses-next _ c.digits.bytes c.peek.new.self c.advance.new.self _ (g.S.Source.supply c.digits.source).left _ i.used b ahead.0 i.uses c.peek.ensures.none_used ahead.1 c.advance.ensures.held c.advance.ensures.place;
       digits = digits_push c.args.begun i.used c.digits.code c.digits.more b _ i.digits (omega (arith, c.if-more-eq0.false)) octal (omega (arith, c.from.ensures, c.from-in-digits.ensures, c.if-value-gt255.false)) (omega (arith, c.from.ensures, c.from-in-digits.ensures));
       both = omega (arith, length-append i.used (b ∷ []), i.both, c.if-more-eq0.false);
       below = omega (arith, c.if-value-gt255.false);

@@ -6,8 +6,8 @@ use Rattle.vlog_tokens.proofs.string.parts.Given as goal
 
 abbrev pub invariant-parts : goal.invariant-parts
 invariant-parts g l = record {
-  part : Part {X = Unit {0}} (string_at Parts l.fn.value.items) (λ _. string_at Parts l.value.items) l.place l.fn.bytes l.bytes (g.S.Source.left l.fn.source) (g.S.Source.left l.source) (Ok tt);
-  count : g.S.Source.faults l.fn.source ≤ g.S.Source.faults l.source;
+  part : Part {X = Unit {0}} (string_at Parts l.fn.value.items) (λ _. string_at Parts l.value.items) l.place l.fn.bytes l.bytes (g.S.Source.supply l.fn.source).left (g.S.Source.supply l.source).left (Ok tt);
+  count : (g.S.Source.supply l.fn.source).faults ≤ (g.S.Source.supply l.source).faults;
 }
 
 abbrev pub decreases-parts : goal.decreases-parts

@@ -7,9 +7,9 @@ use Rattle.nl_bytes.proofs.bytes.Bytes.skip.Given as goal
 abbrev pub invariant-loop-next : goal.invariant-loop-next
 invariant-loop-next g l = record {
   used : List ℕ;
-  uses : Uses l.fn.self l.self (g.S.Source.left l.fn.source) (g.S.Source.left l.source) used;
+  uses : Uses l.fn.self l.self (g.S.Source.supply l.fn.source).left (g.S.Source.supply l.source).left used;
   each : AreIn l.class used;
-  count : g.S.Source.faults l.fn.source ≤ g.S.Source.faults l.source;
+  count : (g.S.Source.supply l.fn.source).faults ≤ (g.S.Source.supply l.source).faults;
 }
 
 abbrev pub decreases-loop-next : goal.decreases-loop-next
