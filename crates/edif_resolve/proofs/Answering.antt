@@ -55,13 +55,6 @@ recursion_answered cells fit n i first cell is items are inner there =
     (ap (λ those. slice_get those i) (sym are)
     ∙ (slice_get-get_or items i inner (subst (λ those. i < length those) (sym are) (inner_within cells n i first.closing cell is)) ∙ ap Some (sym there)))
 
-pub first_reaches : (graph : List (List ℕ)) (n i : ℕ) → IsFirstRecursion graph n i → ReachesItself graph n
-first_reaches graph n i first = record {
-  below = first.closing.inner;
-  first = record { numbers = first.closing.numbers; are_below = first.closing.are_below; place = i; is_there = first.closing.is_there };
-  back = first.closing.closes;
-}
-
 pub too_big_answered : (cells : List HCell) → (x : ℕ) × CellsFit cells x → (count : ℕ) → IsTooBig cells count → IsTooBigFrom cells count
 too_big_answered cells fit count big = record {
   no_recursion = no_recursion_refusals cells (good_in_range cells fit.1.good_cells) big.no_recursion;
@@ -69,9 +62,10 @@ too_big_answered cells fit count big = record {
   passes = big.passes;
 }
 
-pub ordered_answered : (cells : List HCell) (top : ℕ) (props : List HProp) (design : Design) → CellsFit cells top → ((number : ℕ) → ¬ ReachesItself (cells_below cells) number) → IsBuilt cells top props design → IsDesignFrom cells top props design
-ordered_answered cells top props design fit free built = record {
-  no_recursion = no_recursion_refusals cells (good_in_range cells fit.good_cells) free;
+-- the design that was built is of the cells
+pub built_answered : (cells : List HCell) (top : ℕ) (props : List HProp) (design : Design) → CellsFit cells top → IsBuilt cells top props design → IsDesignFrom cells top props design
+built_answered cells top props design fit built = record {
+  no_recursion = no_recursion_refusals cells (good_in_range cells fit.good_cells) (subst (λ those. (number : ℕ) → ¬ ReachesItself (cells_below those) number) built.same_cells built.is_hier.valid.no_recursion);
   same_cells = built.same_cells;
   same_top = built.same_top;
   same_props = built.same_props;
@@ -104,7 +98,7 @@ module _ (file : EdifFile) (clean : refusals file ≡ []) (cells : List HCell) (
     is_hier = from.is_hier;
   }
 
-  fault_answered : (fault : ResolveError) → IsFaultFrom cells fault → IsFaultOf file fault
+  pub fault_answered : (fault : ResolveError) → IsFaultFrom cells fault → IsFaultOf file fault
   fault_answered (Refused refusal) h = first_of_design file clean ∙ (ap (λ those. slice_get (recursion_refusals those) 0) (sym are) ∙ h)
   fault_answered (TooBig count) h = record { no_refusal = first_none h.no_recursion; is_count = h.is_count ∙ ap units are; passes = h.passes }
   fault_answered NoMemory h = h

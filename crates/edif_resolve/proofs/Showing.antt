@@ -20,7 +20,7 @@ use Rattle.edif_design.specs.Parts.{instances, numbered}
 use Rattle.edif_design.specs.Reach.{cells_below, is_reached, those_meant}
 use Rattle.edif_design.specs.References.{CellPlace, all_cells, cell_meant, linked_cell, number_meant, numbers_meant, top}
 use Rattle.edif_resolve.specs.Answers.{HasDesign, IsDesignFrom}
-use Rattle.edif_resolve.proofs.Answering.{answered, ordered_answered}
+use Rattle.edif_resolve.proofs.Answering.{answered, built_answered}
 use Rattle.edif_resolve.proofs.Clean.{map_get, top_there}
 use Rattle.edif_resolve.proofs.FewParts.{cells_fit}
 use Rattle.edif_resolve.proofs.Linking.{instance_meant, instance_number}
@@ -103,7 +103,7 @@ module _ (file : EdifFile) (clean : refusals file ≡ []) (start : ℕ × CellPl
       let design : Design = record { cells = edif_cells file; top = edif_top file; props = edif_properties file; order = map renumbered order } in
       let ordered = subst (λ m. IsPostorder (design_below (edif_cells file)) m (map renumbered order)) top_is (order_there order visits) in
       let built = hier.built (edif_cells file) (edif_top file) (edif_properties file) (map renumbered order) fit (record { no_recursion = none; few_units = few; postorder = ordered }) in
-      let from : IsDesignFrom (edif_cells file) (edif_top file) (edif_properties file) design = ordered_answered (edif_cells file) (edif_top file) (edif_properties file) design fit none built in
+      let from : IsDesignFrom (edif_cells file) (edif_top file) (edif_properties file) design = built_answered (edif_cells file) (edif_top file) (edif_properties file) design fit built in
       record {
         design = design;
         is_design = answered file clean (edif_cells file) refl (edif_top file) (edif_properties file) (Ok design) refl refl from;

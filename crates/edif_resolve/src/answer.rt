@@ -1,16 +1,16 @@
 // The design of a file, or why it has none.
 ghost use Rattle.std.specs.Prelude.{ℕ, ◌≡◌, ◌≤◌, [], Some, MatchResult, IfOk, slice_get};
-ghost use Rattle.net_graph.specs.Graph.{IsFirstRecursion, ReachesItself};
+ghost use Rattle.net_graph.specs.Graph.{IsFirstRecursion};
 ghost use Rattle.net_hier.specs.Design.{cells_below};
-ghost use Rattle.net_hier.specs.Units.{units};
-ghost use Rattle.net_hier.specs.Valid.{CellsFit, count_limit, unit_limit};
+ghost use Rattle.net_hier.specs.Valid.{CellsFit, count_limit};
 ghost use Rattle.edif_values.specs.Sizes.{edif_size};
+ghost use Rattle.edif_design.specs.Design.{edif_cells, numbers_in_design};
 ghost use Rattle.edif_design.specs.FileRules.{recursion_refusals, refusals};
 ghost use Rattle.edif_design.specs.Parts.{designs};
 ghost use Rattle.edif_design.specs.Tables.{seen};
 ghost use Rattle.net_hier.specs.Build.{IsFaultOf as IsBuildFault};
 ghost use Rattle.edif_resolve.specs.declared.answer.ResolveError.TheVariants.{NoMemory};
-ghost use Rattle.edif_resolve.specs.Answers.{IsDesignFrom, IsDesignOf, IsFaultFrom, IsFaultOf};
+ghost use Rattle.edif_resolve.specs.Answers.{IsDesignOf, IsFaultFrom, IsFaultOf};
 
 use crate::cells::{design_cells, design_top, designs_properties};
 use crate::counts::counts_of;
@@ -19,9 +19,9 @@ use crate::scene::Scene;
 use crate::top::designs_of;
 use edif_lookup::{one_name, refusal};
 use edif_values::{Design, EdifFile};
-use net_hier::build::{BuildFault, order_of};
-use net_hier::{HCell, HProp, Hier};
-use nl_base::{NoMemory, Refusal, Rule, Seq};
+use net_hier::build::BuildFault;
+use net_hier::{HCell, Hier};
+use nl_base::{NoMemory, Refusal, Rule};
 use std::alloc::Global;
 
 /// Why a file has no design.
@@ -61,57 +61,42 @@ fn recursion_refusal(
     Ok(made)
 }
 
-// Why cells that fit are no design.
-fn fault_of(alloc: Global, cells: &[HCell], fault: BuildFault) -> ResolveError
-    requires fit { (top : ℕ) × CellsFit cells.now top }
-    requires fault { IsBuildFault cells.now fault }
-    ensures { IsFaultFrom cells.now result }
+// E13 of a file. Its cells are made again: `Hier::build` takes those that it judges.
+fn file_recursion(
+    alloc: Global,
+    scene: &Scene<'_>,
+    numbers: &[u32],
+    cell: u32,
+    instance: u32,
+) -> Result<Refusal, NoMemory>
+    requires clean { refusals scene.now ≡ [] }
+    requires small { edif_size scene.now ≤ count_limit }
+    requires numbers { numbers.now ≡ numbers_in_design scene.now }
+    requires first { IsFirstRecursion (cells_below (edif_cells scene.now)) cell instance }
+    ensures { IfOk result (λ made. slice_get (recursion_refusals (edif_cells scene.now)) 0 ≡ Some made) }
+{
+    let cells = design_cells(alloc, scene, numbers)?;
+    let made = recursion_refusal(alloc, cells.items(), cell, instance)?;
+    Ok(made)
+}
+
+// Why the cells of a file are no design.
+fn fault_of(alloc: Global, scene: &Scene<'_>, numbers: &[u32], fault: BuildFault) -> ResolveError
+    requires clean { refusals scene.now ≡ [] }
+    requires small { edif_size scene.now ≤ count_limit }
+    requires numbers { numbers.now ≡ numbers_in_design scene.now }
+    requires fault { IsBuildFault (edif_cells scene.now) fault }
+    ensures { IsFaultFrom (edif_cells scene.now) result }
 {
     match fault {
         BuildFault::Recursion { cell, instance } => {
-            match recursion_refusal(alloc, cells, cell, instance) {
+            match file_recursion(alloc, scene, numbers, cell, instance) {
                 Ok(refusal) => ResolveError::Refused(refusal),
                 Err(_) => ResolveError::NoMemory,
             }
         }
         BuildFault::TooBig(units) => ResolveError::TooBig(units),
         BuildFault::NoMemory => ResolveError::NoMemory,
-    }
-}
-
-// The design of cells of which none reaches itself, and whose units are within the limit.
-fn ordered(alloc: Global, cells: Seq<HCell>, top: u32, props: Seq<HProp>) -> Result<Hier, NoMemory>
-    requires fit { CellsFit cells top }
-    requires no_recursion { (number : ℕ) → ¬ ReachesItself (cells_below cells) number }
-    requires few_units { units cells ≤ unit_limit }
-    ensures { IfOk result (IsDesignFrom cells top props) }
-{
-    match Hier::build(alloc, cells, top, props) {
-        Ok(hier) => Ok(hier),
-        Err(fault) => match fault {
-            BuildFault::Recursion { .. } => unreachable!(),
-            BuildFault::TooBig(_) => unreachable!(),
-            BuildFault::NoMemory => Err(NoMemory),
-        },
-    }
-}
-
-// The design of cells that fit, or why they are none.
-fn built(
-    alloc: Global,
-    cells: Seq<HCell>,
-    top: u32,
-    props: Seq<HProp>,
-) -> Result<Hier, ResolveError>
-    requires { CellsFit cells top }
-    ensures { MatchResult result (IsDesignFrom cells top props) (IsFaultFrom cells) }
-{
-    match order_of(alloc, &cells, top) {
-        Ok(_) => {
-            let hier = ordered(alloc, cells, top, props)?;
-            Ok(hier)
-        }
-        Err(fault) => Err(fault_of(alloc, cells.items(), fault)),
     }
 }
 
@@ -126,11 +111,15 @@ pub(crate) fn design_of(
     requires designs { seen found.now ≡ designs scene.now }
     ensures { MatchResult result (IsDesignOf scene.now) (IsFaultOf scene.now) }
 {
-    let numbers = counts_of(alloc, scene.marks())?;
-    let cells = design_cells(alloc, scene, numbers.as_slice())?;
-    let top = design_top(scene, numbers.as_slice());
+    let counts = counts_of(alloc, scene.marks())?;
+    let numbers = counts.as_slice();
+    let cells = design_cells(alloc, scene, numbers)?;
+    let top = design_top(scene, numbers);
     let props = designs_properties(alloc, found)?;
-    built(alloc, cells, top, props)
+    match Hier::build(alloc, cells, top, props) {
+        Ok(hier) => Ok(hier),
+        Err(fault) => Err(fault_of(alloc, scene, numbers, fault)),
+    }
 }
 
 /// The design of a file of at most 268,435,456 items (EDIF 2 0 0, edif), in which every reference has to mean something.
