@@ -9,7 +9,7 @@ use Rattle.vlog_ties.specs.Ties.{modules_in}
 use Rattle.vlog_values.specs.declared.module.Module.{Module}
 
 -- what is found behind an empty list
-behind : {A : Type 0} (xs ys : List A) (found : Option A) → None ≡ first_of xs → found ≡ first_of ys → found ≡ first_of (xs ++ ys)
+pub behind : {A : Type 0} (xs ys : List A) (found : Option A) → None ≡ first_of xs → found ≡ first_of ys → found ≡ first_of (xs ++ ys)
 behind xs ys found none is = is ∙ sym (first_behind xs ys none)
 
 ok_behind : {A E : Type 0} (xs ys : List A) → None ≡ first_of xs → (result : Result (Option A) E) → IfOk result (λ found. found ≡ first_of ys) → IfOk result (λ found. found ≡ first_of (xs ++ ys))

@@ -2,7 +2,8 @@
 //
 // The public contract in plain words: `examined` answers `Refused` only with the first object of the least rule that is broken
 // (`first_G`), and `Clean` only where no rule is broken; then the names and the tables are those of the modules that are reached from
-// the top, in file order, and the number is that of the top among them. Want of memory is the one free answer.
+// the top, in file order, the number is that of the top among them, and the bits of the left sides of all that is tied are told, which
+// no count of joins passes. Want of memory is the one free answer.
 #![tactic(auto)]
 
 pub mod looked;

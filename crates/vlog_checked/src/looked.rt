@@ -19,9 +19,11 @@ use vlog_reach::reached_modules;
 use vlog_rules::library::Library;
 use vlog_rules::passes::Scope;
 use vlog_scopes::library::library_of;
+use vlog_ties::sides::{Sides, sides_of};
 use vlog_values::{Module, VlogFile};
 
-/// The modules that are reached, in file order: their names, the tables of their names, and the number of the top.
+/// The modules that are reached, in file order: their names, the tables of their names, the number of the top, and at most how many
+/// joins they have.
 #[derive(Drop)]
 pub struct Checked<'a> {
     /// The names of the modules.
@@ -30,6 +32,8 @@ pub struct Checked<'a> {
     pub scopes: Vec<Scope<'a>>,
     /// The number of the top.
     pub top: u32,
+    /// The bits of the left sides of all that is tied, or 2^64-1 where there are more: there are no more joins.
+    pub most: u64,
 }
 
 /// What the rules say of a file.
@@ -68,13 +72,21 @@ fn examined_tables<'a>(
     ensures { IfOk result (IsLooked file.now top.now) }
 {
     let number = number_in(&library.names, top);
-    if let Some(refusal) = first_in_tables(alloc, &library, &scopes, number)? {
+    let tables = scopes.as_slice();
+    let sides = sides_of(alloc, &library.names, tables)?;
+    let Sides {
+        unequal,
+        loose,
+        most,
+    } = sides;
+    if let Some(refusal) = first_in_tables(alloc, &library, tables, number, unequal, loose)? {
         return Ok(Looked::Refused(refusal));
     }
     Ok(Looked::Clean(Checked {
         names: library.names,
         scopes,
         top: number,
+        most,
     }))
 }
 

@@ -1,9 +1,10 @@
 // The rules on modules with the tables of their names.
-ghost use Rattle.std.specs.Prelude.{◌≡◌, ◌≤◌, ◌<◌, length, map, IfOk};
+ghost use Rattle.std.specs.Prelude.{◌≡◌, ◌≤◌, ◌<◌, ◌++◌, length, map, IfOk};
 ghost use Rattle.std.specs.List.{AllByRecursion};
+ghost use Rattle.nl_base.specs.declared.rule.Rule.TheVariants.{G6, G7, G8, G13};
 ghost use Rattle.vlog_checked.specs.Groups.{connection_refusals, design_refusals, name_refusals, table_refusals, width_refusals};
 ghost use Rattle.vlog_checked.specs.Tabled.{CanHaveTables};
-ghost use Rattle.vlog_design.specs.Rules.{first_of};
+ghost use Rattle.vlog_design.specs.Rules.{bad_selects, first_of, in_modules, unequal_widths, unknown_names, unsized};
 ghost use Rattle.vlog_design.specs.Tables.{modules_of};
 ghost use Rattle.vlog_scopes.specs.Distinct.{AreDeclaredOnce};
 ghost use Rattle.vlog_ties.specs.Ties.{modules_in};
@@ -18,10 +19,10 @@ use vlog_rules::module_rules::{BadSelects, TooWide, UnknownInstances, UnknownNam
 use vlog_rules::modules::ParamsTwice;
 use vlog_rules::passes::{EachStatement, Scope, first_in_modules, first_in_scopes};
 use vlog_rules::statements::EachInstance;
+use vlog_rules::wrong_uses::have_wrong_use;
 use vlog_scopes::recursion::first_recursion;
 use vlog_scopes::redeclared::Redeclared;
 use vlog_scopes::scopes::scope_of;
-use vlog_ties::rules::{unequal_width, unsized_literal};
 use vlog_values::Module;
 
 /// The modules with the tables of their names, in their order.
@@ -40,23 +41,34 @@ pub(crate) fn scopes_of<'a>(
     Ok(scopes)
 }
 
-/// The first name, select or width that breaks a rule.
-fn first_in_names(
-    alloc: Global,
-    names: &Names,
-    scopes: &[Scope],
-) -> Result<Option<Refusal>, NoMemory>
-    requires named { names.now ≡ map (λ m. m.name) (modules_in scopes.now) }
-    requires kept { CanHaveTables (modules_in scopes.now) }
-    ensures { IfOk result (λ found. found ≡ first_of (name_refusals (modules_in scopes.now))) }
+/// The first name in an expression that is no port and no net, or else the first select that means no bits. Where there is none, each
+/// name is looked up once.
+fn first_in_uses(alloc: Global, scopes: &[Scope]) -> Result<Option<Refusal>, NoMemory>
+    ensures { IfOk result (λ found. found ≡ first_of (in_modules G6 unknown_names (modules_in scopes.now) ++ in_modules G7 bad_selects (modules_in scopes.now))) }
 {
+    let wrong = have_wrong_use(alloc, scopes)?;
+    if !wrong {
+        return Ok(None);
+    }
     if let Some(refusal) = first_in_scopes(alloc, &UnknownNames, scopes)? {
         return Ok(Some(refusal));
     }
-    if let Some(refusal) = first_in_scopes(alloc, &BadSelects, scopes)? {
+    first_in_scopes(alloc, &BadSelects, scopes)
+}
+
+/// The first name, select or width that breaks a rule, by the first of the two sides of two widths.
+fn first_in_names(
+    alloc: Global,
+    scopes: &[Scope],
+    unequal: Option<Refusal>,
+) -> Result<Option<Refusal>, NoMemory>
+    requires { unequal ≡ first_of (in_modules G8 (unequal_widths (modules_in scopes.now)) (modules_in scopes.now)) }
+    ensures { IfOk result (λ found. found ≡ first_of (name_refusals (modules_in scopes.now))) }
+{
+    if let Some(refusal) = first_in_uses(alloc, scopes)? {
         return Ok(Some(refusal));
     }
-    unequal_width(alloc, names, scopes)
+    Ok(unequal)
 }
 
 /// The first connection that breaks a rule.
@@ -85,22 +97,21 @@ fn first_in_connections(alloc: Global, library: &Library) -> Result<Option<Refus
     first_in_modules(alloc, &extra, &library.modules)
 }
 
-/// The first port, net, literal or parameter that breaks a rule.
+/// The first port, net, literal or parameter that breaks a rule, by the first of the two sides with an unsized literal.
 fn first_in_widths(
     alloc: Global,
-    names: &Names,
     modules: &[&Module],
     scopes: &[Scope],
+    loose: Option<Refusal>,
 ) -> Result<Option<Refusal>, NoMemory>
-    requires named { names.now ≡ map (λ m. m.name) (modules_in scopes.now) }
     requires same { modules_of modules.now ≡ modules_in scopes.now }
-    requires kept { CanHaveTables (modules_in scopes.now) }
+    requires loose { loose ≡ first_of (in_modules G13 (unsized (modules_in scopes.now)) (modules_in scopes.now)) }
     ensures { IfOk result (λ found. found ≡ first_of (width_refusals (modules_in scopes.now))) }
 {
     if let Some(refusal) = first_in_scopes(alloc, &TooWide, scopes)? {
         return Ok(Some(refusal));
     }
-    if let Some(refusal) = unsized_literal(alloc, names, scopes)? {
+    if let Some(refusal) = loose {
         return Ok(Some(refusal));
     }
     let twice = EachStatement { rule: ParamsTwice };
@@ -128,25 +139,29 @@ fn first_in_instances(
     first_in_modules(alloc, &UnknownInstances, modules)
 }
 
-/// The first object of modules that breaks a rule on what their names stand for.
+/// The first object of modules that breaks a rule on what their names stand for, by the first of the two sides that break one.
 pub(crate) fn first_in_tables(
     alloc: Global,
     library: &Library,
     scopes: &[Scope],
     top: u32,
+    unequal: Option<Refusal>,
+    loose: Option<Refusal>,
 ) -> Result<Option<Refusal>, NoMemory>
     requires same { modules_in scopes.now ≡ modules_of library.now.modules.items }
     requires kept { CanHaveTables (modules_of library.now.modules.items) }
     requires within { top < length library.now.modules.items }
+    requires unequal { unequal ≡ first_of (in_modules G8 (unequal_widths (modules_in scopes.now)) (modules_in scopes.now)) }
+    requires loose { loose ≡ first_of (in_modules G13 (unsized (modules_in scopes.now)) (modules_in scopes.now)) }
     ensures { IfOk result (λ found. found ≡ first_of (table_refusals (modules_of library.now.modules.items))) }
 {
-    if let Some(refusal) = first_in_names(alloc, &library.names, scopes)? {
+    if let Some(refusal) = first_in_names(alloc, scopes, unequal)? {
         return Ok(Some(refusal));
     }
     if let Some(refusal) = first_in_connections(alloc, library)? {
         return Ok(Some(refusal));
     }
-    if let Some(refusal) = first_in_widths(alloc, &library.names, &library.modules, scopes)? {
+    if let Some(refusal) = first_in_widths(alloc, &library.modules, scopes, loose)? {
         return Ok(Some(refusal));
     }
     first_in_instances(alloc, &library.names, &library.modules, top)

@@ -55,7 +55,7 @@ bits_more table i limit bits more lt are is = by table lt are is
         let f : sum_by signal_width (take (i + 1) (d ∷ rest)) ≡ sum_by signal_width (take i (d ∷ rest)) + signal_width (get_or (d ∷ rest) i d) = sum_by_more signal_width (d ∷ rest) i d lt in
         grind arith
 
-scopes_more : (scopes : List Scope) (i : ℕ) (x : Scope) → i < length scopes → x ≡ get_or scopes i x → modules_in (take (i + 1) scopes) ≡ modules_in (take i scopes) ++ x.module.now ∷ []
+pub scopes_more : (scopes : List Scope) (i : ℕ) (x : Scope) → i < length scopes → x ≡ get_or scopes i x → modules_in (take (i + 1) scopes) ≡ modules_in (take i scopes) ++ x.module.now ∷ []
 scopes_more scopes i x lt is =
     ap modules_in (take_more scopes i x lt ∙ ap (λ s. take i scopes ++ s ∷ []) (sym is)) ∙ map-append (λ (scope : Scope). scope.module.now) (take i scopes) (x ∷ [])
 

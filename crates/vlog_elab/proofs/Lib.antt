@@ -1,4 +1,5 @@
 pub mod Answering
+pub mod FewUnits
 pub mod Fitting
 pub mod Joins
 pub mod Nodes

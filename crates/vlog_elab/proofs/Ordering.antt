@@ -6,7 +6,7 @@ use Rattle.std.proofs.lemmas.Bool.{false≢true}
 use Rattle.std.proofs.lemmas.Bool.Decides.{Decides-eqb}
 use Rattle.std.proofs.lemmas.Map.Made.{is_member-Decides}
 use Rattle.std.specs.Set.{is_member}
-use Rattle.net_graph.specs.Graph.{HasList, IsAbove, IsInRange, IsPostorder, IsReached, ReachesItself, Visits, VisitsEach, again, first, none, next}
+use Rattle.net_graph.specs.Graph.{IsAbove, IsInRange, IsPostorder, IsReached, ReachesItself, Visits, VisitsEach, again, first, none, next}
 use Rattle.net_graph.specs.Walks.{Leads}
 use Rattle.net_graph.proofs.ListLaws.{element_there}
 use Rattle.net_graph.proofs.OrderLaws.{StandsIn}

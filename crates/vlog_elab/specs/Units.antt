@@ -10,9 +10,13 @@ use Rattle.vlog_values.specs.declared.module.Module.{Module}
 abbrev pub signal_width : Signal → ℕ
 signal_width signal = width_of signal.slot.range
 
+-- the bits of the ports and nets of a module
+abbrev pub module_bits : Module → ℕ
+module_bits m = sum_by signal_width (signals m)
+
 -- the bits of the ports and nets of a module, and its joins
 abbrev pub module_units : List Module → Module → ℕ
-module_units modules m = sum_by signal_width (signals m) + length (module_joins modules m)
+module_units modules m = module_bits m + length (module_joins modules m)
 
 -- the cells of the modules
 abbrev pub cells_from : List Module → List HCell

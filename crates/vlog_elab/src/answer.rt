@@ -1,5 +1,5 @@
 // The design of a file, or why it has none.
-ghost use Rattle.std.specs.Prelude.{ℕ, ◌≡◌, ◌≤◌, IfOk, MatchResult};
+ghost use Rattle.std.specs.Prelude.{ℕ, ◌≡◌, ◌≤◌, ◌-◌, ◌^◌, min, sum_by, IfOk, MatchResult};
 ghost use Rattle.net_graph.specs.Graph.{ReachesItself};
 ghost use Rattle.net_hier.specs.Design.{cells_below};
 ghost use Rattle.net_hier.specs.Units.{units};
@@ -8,12 +8,12 @@ ghost use Rattle.vlog_elab.specs.Answers.{HasDesign, IsDesignFrom, IsDesignOf, I
 ghost use Rattle.vlog_elab.specs.Ready.{AreReady};
 ghost use Rattle.vlog_elab.specs.Units.{cells_from};
 ghost use Rattle.vlog_elab.specs.declared.answer.ResolveError.TheVariants.{NoMemory};
-ghost use Rattle.vlog_ties.specs.Ties.{modules_in};
+ghost use Rattle.vlog_ties.specs.Ties.{modules_in, most_joins};
 ghost use Rattle.vlog_values.specs.Sizes.{vlog_size};
 ghost use Rattle.vlog_values.specs.Values.{IsVlogValue};
 
 use crate::cells::cells_of;
-use crate::units::units_of;
+use crate::units::{shows_few, units_of};
 use net_hier::build::{BuildFault, UNIT_LIMIT};
 use net_hier::{HCell, Hier};
 use nl_base::{NoMemory, Refusal, Seq, Text};
@@ -59,11 +59,16 @@ fn built(alloc: Global, cells: Seq<HCell>, top: u32) -> Result<Hier, NoMemory>
     }
 }
 
-// Whether the units of modules are within the limit of a design.
-fn few_units(alloc: Global, names: &Names, scopes: &[Scope]) -> Result<(), ResolveError>
-    requires { AreReady names.now (modules_in scopes.now) }
+// Whether the units of modules are within the limit of a design. The joins are counted only where the bits of all left sides, which are
+// no fewer, pass it.
+fn few_units(alloc: Global, names: &Names, scopes: &[Scope], most: u64) -> Result<(), ResolveError>
+    requires ready { AreReady names.now (modules_in scopes.now) }
+    requires most { most ≡ min (2 ^ 64 - 1) (sum_by (most_joins (modules_in scopes.now)) (modules_in scopes.now)) }
     ensures { MatchResult result (λ done. units (cells_from (modules_in scopes.now)) ≤ unit_limit) (IsFaultFrom (cells_from (modules_in scopes.now))) }
 {
+    if shows_few(scopes, most) {
+        return Ok(());
+    }
     let count = units_of(alloc, names, scopes)?;
     if count > UNIT_LIMIT {
         return Err(ResolveError::TooBig(count));
@@ -72,13 +77,20 @@ fn few_units(alloc: Global, names: &Names, scopes: &[Scope]) -> Result<(), Resol
 }
 
 // The design of modules whose cells fit and of which none reaches itself.
-fn design_of(alloc: Global, names: &Names, scopes: &[Scope], top: u32) -> Result<Hier, ResolveError>
+fn design_of(
+    alloc: Global,
+    names: &Names,
+    scopes: &[Scope],
+    top: u32,
+    most: u64,
+) -> Result<Hier, ResolveError>
     requires ready { AreReady names.now (modules_in scopes.now) }
+    requires most { most ≡ min (2 ^ 64 - 1) (sum_by (most_joins (modules_in scopes.now)) (modules_in scopes.now)) }
     requires fit { CellsFit (cells_from (modules_in scopes.now)) top }
     requires no_recursion { (number : ℕ) → ¬ ReachesItself (cells_below (cells_from (modules_in scopes.now))) number }
     ensures { MatchResult result (IsDesignFrom (cells_from (modules_in scopes.now)) top) (IsFaultFrom (cells_from (modules_in scopes.now))) }
 {
-    few_units(alloc, names, scopes)?;
+    few_units(alloc, names, scopes, most)?;
     let cells = cells_of(alloc, names, scopes)?;
     let hier = built(alloc, cells, top)?;
     Ok(hier)
@@ -96,7 +108,13 @@ pub fn elaborate(alloc: Global, file: &VlogFile, top: &Text) -> Result<Hier, Res
 {
     match examined(alloc, file, top.bytes())? {
         Looked::Refused(refusal) => Err(ResolveError::Refused(refusal)),
-        Looked::Clean(clean) => design_of(alloc, &clean.names, &clean.scopes, clean.top),
+        Looked::Clean(clean) => design_of(
+            alloc,
+            &clean.names,
+            &clean.scopes,
+            clean.top,
+            clean.most,
+        ),
     }
 }
 
@@ -112,6 +130,6 @@ pub fn check(alloc: Global, file: &VlogFile, top: &Text) -> Result<(), ResolveEr
 {
     match examined(alloc, file, top.bytes())? {
         Looked::Refused(refusal) => Err(ResolveError::Refused(refusal)),
-        Looked::Clean(clean) => few_units(alloc, &clean.names, &clean.scopes),
+        Looked::Clean(clean) => few_units(alloc, &clean.names, &clean.scopes, clean.most),
     }
 }

@@ -1,11 +1,13 @@
-// The units of a design, counted by tables and ties before any net is made.
-ghost use Rattle.std.specs.Prelude.{◌≡◌, ◌-◌, ◌^◌, min, sum_by, slice_get, map, IfOk};
+// The units of a design, counted by tables and ties before any net is made, and whether they are shown to be few without a count.
+ghost use Rattle.std.specs.Prelude.{◌≡◌, ◌≤◌, ◌-◌, ◌^◌, true, min, sum_by, slice_get, map, IfOk};
 ghost use Rattle.std.specs.Option.{option_map_or};
 ghost use Rattle.net_hier.specs.Units.{units};
+ghost use Rattle.net_hier.specs.Valid.{unit_limit};
 ghost use Rattle.vlog_elab.specs.Ready.{AreReady, IsReady};
-ghost use Rattle.vlog_elab.specs.Units.{cells_from, module_units, signal_width};
-ghost use Rattle.vlog_ties.specs.Ties.{modules_in};
+ghost use Rattle.vlog_elab.specs.Units.{cells_from, module_bits, module_units, signal_width};
+ghost use Rattle.vlog_ties.specs.Ties.{modules_in, most_joins};
 
+use net_hier::build::UNIT_LIMIT;
 use nl_base::NoMemory;
 use std::alloc::Global;
 use vlog_design::names::Names;
@@ -61,4 +63,24 @@ pub(crate) fn units_of(alloc: Global, names: &Names, scopes: &[Scope]) -> Result
         count = count.saturating_add(more);
     }
     Ok(count)
+}
+
+/// How many bits the ports and nets of all modules have, or 2^64-1 where there are more.
+fn bits_of(scopes: &[Scope]) -> u64
+    ensures { result ≡ min (2 ^ 64 - 1) (sum_by module_bits (modules_in scopes.now)) }
+{
+    let mut bits: u64 = 0;
+    for scope in scopes {
+        bits = bits.saturating_add(table_bits(&scope.table));
+    }
+    bits
+}
+
+/// Whether it shows, with no join counted, that the units of the cells of the modules are within the limit of a design, by the bits of
+/// their left sides: `false` says nothing.
+pub(crate) fn shows_few(scopes: &[Scope], most: u64) -> bool
+    requires { most ≡ min (2 ^ 64 - 1) (sum_by (most_joins (modules_in scopes.now)) (modules_in scopes.now)) }
+    ensures { result ≡ true → units (cells_from (modules_in scopes.now)) ≤ unit_limit }
+{
+    bits_of(scopes).saturating_add(most) <= UNIT_LIMIT
 }

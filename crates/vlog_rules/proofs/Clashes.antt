@@ -1,12 +1,13 @@
 -- The first declaration that clashes with one before it.
 use Rattle.std.specs.Borrow.{Bor}
 use Rattle.vlog_design.specs.Tables.{names_of}
-use Rattle.std.proofs.Common.{not, bytes_eq, if◌then◌else◌, ◌≡◌, ℕ, ◌+◌, ◌<◌, ◌≤◌, List, [], ◌∷◌, ◌++◌, Bool, true, false, cond, Some, None, drop, get_or, length, map, take, ap, refl, sym, ◌∙◌, add-one, drop-cons, drop_of_length-le}
+use Rattle.std.proofs.Common.{not, bytes_eq, if◌then◌else◌, ◌≡◌, ℕ, ◌+◌, ◌<◌, ◌≤◌, List, [], ◌∷◌, ◌++◌, Bool, true, false, cond, Some, None, drop, get_or, length, map, take, ap, refl, sym, ◌∙◌, add-one, arith, drop-cons, drop_of_length-le}
 use Rattle.std.specs.List.{list_any}
 use Rattle.std.proofs.Math.Seq.{take-suc}
 use Rattle.std.proofs.lemmas.List.{map-append}
 use Rattle.vlog_design.specs.Names.{clashing, has_name}
 use Rattle.vlog_design.specs.Rules.{first_of}
+use Rattle.vlog_values.specs.declared.statement.NamedConn.{NamedConn}
 
 first_if : {A : Type 0} (b : Bool) (x : A) (xs : List A) → first_of (cond b (x ∷ xs) xs) ≡ cond b (Some x) (first_of xs)
 first_if true x xs = refl
@@ -71,3 +72,26 @@ among_there keys i d h e = front_there (λ k. k.now) bytes_eq keys i d h e
 
 pub among_none : (keys : List (Bor (List ℕ))) (i : ℕ) → length keys ≤ i → first_of (clashing bytes_eq (names_of (take i keys)) (names_of (drop i keys))) ≡ None
 among_none keys i h = clash_none (λ k. k.now) bytes_eq (names_of (take i keys)) keys i h
+
+-- the same of the ports that connections name
+
+abbrev ports_of : List NamedConn → List (List ℕ)
+ports_of = map (λ conn. conn.port)
+
+module _ (conns : List NamedConn) (i : ℕ) (d : NamedConn) (port : List ℕ) (named : port ≡ (get_or conns i d).port) (h : i < length conns) where
+  pub port_here : true ≡ has_name (ports_of (take i conns)) port → first_of (clashing bytes_eq (ports_of (take i conns)) (ports_of (drop i conns))) ≡ Some port
+  port_here e = clash_here (λ (x : NamedConn). x.port) bytes_eq (ports_of (take i conns)) conns i d h (e ∙ ap (has_name (ports_of (take i conns))) named) ∙ ap Some (sym named)
+
+  pub port_there : false ≡ has_name (ports_of (take i conns)) port
+      → first_of (clashing bytes_eq (ports_of (take (i + 1) conns)) (ports_of (drop (i + 1) conns))) ≡ first_of (clashing bytes_eq (ports_of (take i conns)) (ports_of (drop i conns)))
+  port_there e = front_there (λ (x : NamedConn). x.port) bytes_eq conns i d h (e ∙ ap (has_name (ports_of (take i conns))) named)
+
+pub port_none : (conns : List NamedConn) (i : ℕ) → length conns ≤ i → first_of (clashing bytes_eq (ports_of (take i conns)) (ports_of (drop i conns))) ≡ None
+port_none conns i h = clash_none (λ (x : NamedConn). x.port) bytes_eq (ports_of (take i conns)) conns i h
+
+-- a name alone is not repeated
+pub alone : (names : List (List ℕ)) → length names < 2 → first_of (clashing bytes_eq [] names) ≡ None
+unfolding clashing
+alone [] h = refl
+alone (x ∷ []) h = refl
+alone (x ∷ y ∷ names) h = absurd (omega (arith, h))

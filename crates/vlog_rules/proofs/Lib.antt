@@ -7,3 +7,4 @@ pub mod LibraryLaws
 pub mod SetLaws
 pub mod WideLaws
 pub mod PortLaws
+pub mod UseLaws

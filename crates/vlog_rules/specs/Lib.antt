@@ -3,3 +3,4 @@ pub mod Kinds
 pub mod Redeclared
 pub mod Seen
 pub mod Wide
+pub mod WrongUses

@@ -1,27 +1,48 @@
 // The connections of instances.
-ghost use Rattle.std.specs.Prelude.{◌≡◌, [], ◌∷◌, not, find, map, option_copied, option_map};
+ghost use Rattle.std.specs.Prelude.{◌≡◌, [], ◌∷◌, not, find, length, map, nat_lt, option_copied, option_map};
 ghost use Rattle.vlog_design.specs.Names.{has_name};
 ghost use Rattle.vlog_design.specs.Rules.{conn_count, conn_names, ports_named};
 ghost use Rattle.vlog_design.specs.Tables.{modules_of};
 
 use crate::library::Library;
 use crate::refusals::{refuse, refuse_two};
-use crate::repeats::{first_repeated, names_of_ports};
+use crate::repeats::repeated_port;
 use crate::statements::InstanceRule;
 use nl_base::{NoMemory, Refusal, Rule};
 use std::alloc::Global;
+use vlog_design::names::Names;
 use vlog_values::{Conns, NamedConn, VInst};
 
-/// The first port that connections name and the module of this name has not.
-fn unknown_named<'a>(library: &Library, of: &[u8], conns: &'a [NamedConn]) -> Option<&'a [u8]>
-    ensures { option_copied result ≡ find (λ port. not (has_name (ports_named (modules_of library.now.modules.items) of.now) port)) (map (λ conn. conn.port) conns.now) }
+/// The first port that connections name and that is none of these.
+fn first_outside<'a>(ports: &Names, conns: &'a [NamedConn]) -> Option<&'a [u8]>
+    ensures { option_copied result ≡ find (λ port. not (has_name ports.now port)) (map (λ conn. conn.port) conns.now) }
 {
     for conn in conns {
-        if !library.has_port(of, conn.port.bytes()) {
+        if !ports.has(conn.port.bytes()) {
             return Some(conn.port.bytes());
         }
     }
     None
+}
+
+/// The port that the first connection names.
+fn first_named<'a>(conns: &'a [NamedConn]) -> Option<&'a [u8]>
+    ensures { option_copied result ≡ find (λ port. not (has_name [] port)) (map (λ conn. conn.port) conns.now) }
+{
+    match conns {
+        [] => None,
+        [first, ..] => Some(first.port.bytes()),
+    }
+}
+
+/// The first port that connections name and the module of this name has not. The module is looked up once.
+fn unknown_named<'a>(library: &Library, of: &[u8], conns: &'a [NamedConn]) -> Option<&'a [u8]>
+    ensures { option_copied result ≡ find (λ port. not (has_name (ports_named (modules_of library.now.modules.items) of.now) port)) (map (λ conn. conn.port) conns.now) }
+{
+    match library.ports(of) {
+        None => first_named(conns),
+        Some(ports) => first_outside(ports, conns),
+    }
 }
 
 fn unknown_port<'a>(library: &Library, of: &[u8], conns: &'a Conns) -> Option<&'a [u8]>
@@ -81,8 +102,7 @@ impl InstanceRule for PortsTwice {
         of: &[u8],
         instance: &VInst,
     ) -> Result<Option<Refusal>, NoMemory> {
-        let names = names_of_ports(alloc, &instance.conns)?;
-        let repeated = first_repeated(alloc, &names)?;
+        let repeated = repeated_port(alloc, &instance.conns)?;
         match repeated {
             None => Ok(None),
             Some(port) => Ok(Some(refuse_two(
@@ -96,13 +116,13 @@ impl InstanceRule for PortsTwice {
     }
 }
 
-/// How many connections in order there are.
-fn count_in_order(conns: &Conns) -> usize
-    ensures { result ≡ conn_count conns.now }
+/// Whether there are more connections in order than the module of this name has ports.
+fn has_extra(library: &Library, of: &[u8], conns: &Conns) -> bool
+    ensures { result ≡ nat_lt (length (ports_named (modules_of library.now.modules.items) of.now)) (conn_count conns.now) }
 {
     match conns {
-        Conns::Named(_) => 0,
-        Conns::Order(values) => values.len(),
+        Conns::Named(_) => false,
+        Conns::Order(values) => library.port_count(of) < values.len(),
     }
 }
 
@@ -128,7 +148,7 @@ impl<'a> InstanceRule for ExtraConnections<'a> {
         of: &[u8],
         instance: &VInst,
     ) -> Result<Option<Refusal>, NoMemory> {
-        if self.library.port_count(of) < count_in_order(&instance.conns) {
+        if has_extra(self.library, of, &instance.conns) {
             return Ok(Some(refuse(alloc, Rule::G11, cell, instance.name.bytes())?));
         }
         Ok(None)

@@ -23,3 +23,4 @@ pub mod selects;
 pub mod statements;
 pub mod unknown_names;
 pub mod wide;
+pub mod wrong_uses;

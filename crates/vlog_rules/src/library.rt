@@ -1,6 +1,6 @@
 // The modules of a design by their names, with their ports.
 ghost use Rattle.std.specs.Prelude.{◌≡◌, map, is_some, length, Some, None, option_map, MatchOption};
-ghost use Rattle.vlog_design.specs.Names.{has_name, port_names};
+ghost use Rattle.vlog_design.specs.Names.{port_names};
 ghost use Rattle.vlog_design.specs.Reach.{module_named};
 ghost use Rattle.vlog_design.specs.Rules.{ports_named};
 ghost use Rattle.vlog_design.specs.Tables.{modules_of};
@@ -20,7 +20,7 @@ pub struct Library<'a> {
 
 impl<'a> Library<'a> {
     /// The ports of the module of this name, where it is there.
-    fn ports(&self, name: &[u8]) -> Option<&Names<'a>>
+    pub fn ports(&self, name: &[u8]) -> Option<&Names<'a>>
         ensures { MatchOption result (module_named (modules_of self.now.modules.items) name.now ≡ None) (λ ports. option_map port_names (module_named (modules_of self.now.modules.items) name.now) ≡ Some ports.now) }
     {
         match self.names.place(name) {
@@ -36,16 +36,6 @@ impl<'a> Library<'a> {
         match self.ports(name) {
             None => false,
             Some(_) => true,
-        }
-    }
-
-    /// Whether the module of this name has this port.
-    pub fn has_port(&self, name: &[u8], port: &[u8]) -> bool
-        ensures { result ≡ has_name (ports_named (modules_of self.now.modules.items) name.now) port.now }
-    {
-        match self.ports(name) {
-            None => false,
-            Some(ports) => ports.has(port),
         }
     }
 

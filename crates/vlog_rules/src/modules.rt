@@ -4,7 +4,7 @@ ghost use Rattle.vlog_design.specs.Reach.{module_named};
 ghost use Rattle.vlog_design.specs.Rules.{first_of, modules_twice, no_top};
 
 use crate::refusals::{refuse, refuse_in_statement};
-use crate::repeats::{first_repeated, names_of_modules, names_of_params};
+use crate::repeats::{first_repeated, names_of_modules, repeated_param};
 use crate::statements::StatementRule;
 use nl_base::{NoMemory, Refusal, Rule};
 use std::alloc::Global;
@@ -60,8 +60,7 @@ impl StatementRule for ParamsTwice {
         cell: &[u8],
         statement: &Instances,
     ) -> Result<Option<Refusal>, NoMemory> {
-        let names = names_of_params(alloc, statement.params.items())?;
-        let repeated = first_repeated(alloc, &names)?;
+        let repeated = repeated_param(alloc, statement.params.items())?;
         let insts = statement.insts.items();
         match repeated {
             None => Ok(None),

@@ -72,7 +72,7 @@ pub fn names_of_modules<'a>(alloc: Global, modules: &'a [Module]) -> Result<Vec<
 }
 
 /// The names of parameters.
-pub fn names_of_params<'a>(alloc: Global, sets: &'a [ParamSet]) -> Result<Vec<&'a [u8]>, NoMemory>
+fn names_of_params<'a>(alloc: Global, sets: &'a [ParamSet]) -> Result<Vec<&'a [u8]>, NoMemory>
     ensures { IfOk result (λ names. names_of names.items ≡ map (λ set. set.name) sets.now) }
 {
     let mut names = Vec::new(alloc);
@@ -80,6 +80,43 @@ pub fn names_of_params<'a>(alloc: Global, sets: &'a [ParamSet]) -> Result<Vec<&'
         names.push(set.name.bytes())?;
     }
     Ok(names)
+}
+
+/// The first parameter that is given again.
+pub fn repeated_param<'a>(alloc: Global, sets: &'a [ParamSet]) -> Result<Option<&'a [u8]>, NoMemory>
+    ensures { IfOk result (λ found. option_copied found ≡ first_of (clashing bytes_eq [] (map (λ set. set.name) sets.now))) }
+{
+    if sets.len() < 2 {
+        return Ok(None);
+    }
+    let names = names_of_params(alloc, sets)?;
+    let found = first_repeated(alloc, &names)?;
+    Ok(found)
+}
+
+/// Whether one of the connections names the port.
+fn is_named(conns: &[NamedConn], port: &[u8]) -> bool
+    ensures { result ≡ has_name (map (λ conn. conn.port) conns.now) port.now }
+{
+    for conn in conns {
+        if port == conn.port.bytes() {
+            return true;
+        }
+    }
+    false
+}
+
+/// The first port that a few connections name again, found without a list of the ports.
+fn first_named_again<'a>(conns: &'a [NamedConn]) -> Option<&'a [u8]>
+    ensures { option_copied result ≡ first_of (clashing bytes_eq [] (map (λ conn. conn.port) conns.now)) }
+{
+    for place in 0..conns.len() {
+        let port = conns[place].port.bytes();
+        if is_named(&conns[..place], port) {
+            return Some(port);
+        }
+    }
+    None
 }
 
 fn names_of_named<'a>(alloc: Global, conns: &'a [NamedConn]) -> Result<Vec<&'a [u8]>, NoMemory>
@@ -92,12 +129,27 @@ fn names_of_named<'a>(alloc: Global, conns: &'a [NamedConn]) -> Result<Vec<&'a [
     Ok(names)
 }
 
-/// The ports that connections name.
-pub fn names_of_ports<'a>(alloc: Global, conns: &'a Conns) -> Result<Vec<&'a [u8]>, NoMemory>
-    ensures { IfOk result (λ names. names_of names.items ≡ conn_names conns.now) }
+fn repeated_in_named<'a>(
+    alloc: Global,
+    conns: &'a [NamedConn],
+) -> Result<Option<&'a [u8]>, NoMemory>
+    ensures { IfOk result (λ found. option_copied found ≡ first_of (clashing bytes_eq [] (map (λ conn. conn.port) conns.now))) }
+{
+    if conns.len() <= FEW {
+        return Ok(first_named_again(conns));
+    }
+    let names = names_of_named(alloc, conns)?;
+    let found = first_in_set(alloc, &names)?;
+    Ok(found)
+}
+
+/// The first port that connections name again.
+#[tactic(auto, unfolding(vlog_design::specs::Names::clashing))]
+pub fn repeated_port<'a>(alloc: Global, conns: &'a Conns) -> Result<Option<&'a [u8]>, NoMemory>
+    ensures { IfOk result (λ found. option_copied found ≡ first_of (clashing bytes_eq [] (conn_names conns.now))) }
 {
     match conns {
-        Conns::Named(conns) => names_of_named(alloc, conns.items()),
-        Conns::Order(_) => Ok(Vec::new(alloc)),
+        Conns::Named(conns) => repeated_in_named(alloc, conns.items()),
+        Conns::Order(_) => Ok(None),
     }
 }

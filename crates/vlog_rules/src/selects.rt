@@ -16,7 +16,7 @@ use vlog_values::{Module, Select};
 
 /// Whether the select means bits of the range.
 #[tactic(auto, unfolding(vlog_design::specs::Ranges::selected))]
-fn is_selected(range: Option<Range>, select: Select) -> bool
+pub(crate) fn is_selected(range: Option<Range>, select: Select) -> bool
     ensures { result ≡ is_some (selected range select) }
 {
     match select {

@@ -107,7 +107,7 @@ undeclared_has declared (u ∷ us) name =
     ∙ (ap (λ there. cond kept (bytes_eq name u.name || there) there) (undeclared_has declared us name)
     ∙ one_more (is_whole u.select) (has_name declared u.name) (bytes_eq name u.name) (has_name declared name) more (λ e. ap (has_name declared) ((bytes_eq-Decides name u.name).0 e)))
 
-none_kept : (test : Name → Bool) (xs : List Name) → ((name : Name) → test name ≡ false) → filter test xs ≡ []
+pub none_kept : (test : Name → Bool) (xs : List Name) → ((name : Name) → test name ≡ false) → filter test xs ≡ []
 none_kept test [] h = refl
 none_kept test (x ∷ xs) h = rw (h x) (none_kept test xs h)
 

@@ -2,6 +2,7 @@ pub mod Declarations
 pub mod DistinctLaws
 pub mod FewNames
 pub mod ImplicitLaws
+pub mod KnownLaws
 pub mod ModuleLaws
 pub mod RangeLaws
 pub mod RecursionLaws

@@ -1,6 +1,6 @@
 -- The ports and nets of a module, as they are listed.
-use Rattle.std.proofs.Common.{◌≡◌, ℕ, ◌+◌, Bool, true, false, not, ◌&&◌, ◌||◌, cond, List, [], ◌∷◌, ◌++◌, Option, None, Some, filter, find, flat_map, map, bytes_eq, option_map, refl, sym, ap, subst, ◌∙◌, append_assoc}
-use Rattle.std.proofs.lemmas.Bool.{both_ways, false_from_ne_true, false≢true, not-true, or_from}
+use Rattle.std.proofs.Common.{◌≡◌, ℕ, ◌+◌, Bool, true, false, not, ◌&&◌, ◌||◌, cond, List, [], ◌∷◌, ◌++◌, Option, None, Some, filter, find, flat_map, map, bytes_eq, option_map, refl, sym, ap, subst, ◌∙◌, append_assoc, append-nil, inl, inr}
+use Rattle.std.proofs.lemmas.Bool.{both_ways, false_from_ne_true, false≢true, not-true, or_cases, or_from}
 use Rattle.std.proofs.lemmas.List.{map-append}
 use Rattle.std.proofs.lemmas.List.Elements.{filter-append}
 use Rattle.net_hier.specs.Cells.{width_of}
@@ -8,10 +8,11 @@ use Rattle.nl_base.specs.Ranges.{Bounds}
 use Rattle.vlog_design.specs.Names.{Name, Signal, Wire, decl_wires, has_name, implicit_names, is_declared, is_implicit, module_uses, net_decls, net_names, net_signals, port_names, port_range, port_signals, signal_named, signals, wires}
 use Rattle.vlog_design.specs.Rules.{declared_twice}
 use Rattle.vlog_design.specs.declared.signals.Place.TheVariants.{AtNet}
+use Rattle.vlog_scopes.specs.Signals.{declared_nets, declared_signals}
 use Rattle.vlog_scopes.specs.Distinct.{Distinct, signal_names}
 use Rattle.vlog_scopes.specs.Ranged.{RangedName, net_slots, number_behind, of_range, plain_names, port_slots, range_named, ranged_nets}
 use Rattle.vlog_scopes.proofs.Declarations.{net_declared, nets_distinct, port_declared, ports_distinct}
-use Rattle.vlog_scopes.proofs.DistinctLaws.{distinct_append, distinct_filter, distinct_first, has_all, has_append, has_first, has_passed}
+use Rattle.vlog_scopes.proofs.DistinctLaws.{distinct_append, distinct_filter, distinct_first, distinct_left, has_all, has_append, has_first, has_passed}
 use Rattle.vlog_values.specs.declared.declaration.NetDecl.{NetDecl}
 use Rattle.vlog_values.specs.declared.module.Module.{Module}
 
@@ -65,9 +66,7 @@ module _ (m : Module) where
       ∙ (λ j. decls_plain (net_decls m) j ++ single_plain (implicit_names m) j)
 
   -- the signals: ports, declared nets that are no ports, and implicit nets
-  pub signals_are : signals m ≡ (port_signals m 0 (port_names m)
-      ++ net_slots 0 (filter (λ one. not (has_name (port_names m) one.name)) (flat_map ranged_nets (net_decls m))))
-      ++ net_slots (number_behind 0 (filter (λ one. not (has_name (port_names m) one.name)) (flat_map ranged_nets (net_decls m)))) (of_range None (implicit_names m))
+  pub signals_are : signals m ≡ declared_signals m ++ net_slots (number_behind 0 (declared_nets m)) (of_range None (implicit_names m))
   unfolding signals
   signals_are =
       ap (λ nets. port_signals m 0 (port_names m) ++ nets) (wires_slots 0 (wires m) ∙ (ap (net_slots 0) wires_plain
@@ -112,6 +111,19 @@ module _ (m : Module) where
       ∙ (map-append (λ (one : RangedName). one.name) (filter (λ one. not (has_name (port_names m) one.name)) (flat_map ranged_nets (net_decls m))) (of_range None (implicit_names m))
       ∙ (λ k. (plain_passed (flat_map ranged_nets (net_decls m)) ∙ ap (filter (λ name. not (has_name (port_names m) name))) (plain_decls (net_decls m))) k ++ plain_of_range None (implicit_names m) k))))) j)
 
+  -- a port or declared net is declared
+  pub declared_known : (name : Name) → has_name (signal_names (declared_signals m)) name ≡ true → is_declared m name ≡ true
+  declared_known name h =
+      let nets = filter (λ n. not (has_name (port_names m) n)) (net_names m) in
+      let names : signal_names (declared_signals m) ≡ port_names m ++ nets =
+      map-append (λ (s : Signal). s.name) (port_signals m 0 (port_names m)) (net_slots 0 (declared_nets m))
+      ∙ (λ j. port_signal_names 0 (port_names m) j
+      ++ (net_slot_names 0 (declared_nets m) ∙ (plain_passed (flat_map ranged_nets (net_decls m)) ∙ ap (filter (λ n. not (has_name (port_names m) n))) (plain_decls (net_decls m)))) j) in
+      elim (or_cases (has_name (port_names m) name) (has_name nets name) (sym (has_append (port_names m) nets name) ∙ (ap (λ those. has_name those name) (sym names) ∙ h))) [
+        | inl port ↦ port_declared m name port
+        | inr net ↦ net_declared m name (has_all (λ n. not (has_name (port_names m) n)) (net_names m) name net)
+      ]
+
   -- an implicit net is not declared
   not_declared : (name : Name) → has_name (implicit_names m) name ≡ true → is_declared m name ≡ false
   unfolding implicit_names is_implicit
@@ -142,6 +154,17 @@ module _ (m : Module) where
       (false_from_ne_true (has_name (filter (λ n. not (has_name (port_names m) n)) (net_names m)) name)
       (λ f. both_ways (has_name (port_names m) name) (not-true (has_name (port_names m) name) (has_passed (λ n. not (has_name (port_names m) n)) (net_names m) name f)) e))
       (no_implicit name (port_declared m name e))))
+
+  -- the names of the ports and declared nets differ too
+  pub declared_distinct : declared_twice m ≡ [] → Distinct (signal_names (declared_signals m))
+  declared_distinct once =
+      let behind = net_slots (number_behind 0 (declared_nets m)) (of_range None (implicit_names m)) in
+      distinct_left (signal_names (declared_signals m)) (signal_names behind)
+      (subst Distinct (ap signal_names signals_are ∙ map-append (λ (s : Signal). s.name) (declared_signals m) behind) (names_distinct once))
+
+  -- without implicit nets there are no other signals
+  pub all_declared : implicit_names m ≡ [] → declared_signals m ≡ signals m
+  all_declared none = sym (signals_are ∙ (ap (λ names. declared_signals m ++ net_slots (number_behind 0 (declared_nets m)) (of_range None names)) none ∙ append-nil (declared_signals m)))
 
 -- a name that is none of a table's is new
 pub unnamed : (table : List Signal) (name : Name) → has_name (signal_names table) name ≡ false → signal_named table name ≡ None

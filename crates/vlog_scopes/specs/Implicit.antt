@@ -1,6 +1,6 @@
 -- Nets without a declaration (IEEE 1364-2005, 4.5).
-use Rattle.std.specs.Prelude.{Bool, not, ◌&&◌, List, [], ◌∷◌, ◌++◌, map, filter, if◌then◌else◌}
-use Rattle.vlog_design.specs.Names.{Declaration, Name, Use, has_name, is_whole}
+use Rattle.std.specs.Prelude.{Bool, not, ◌&&◌, List, [], ◌∷◌, ◌++◌, map, filter, is_none, if◌then◌else◌}
+use Rattle.vlog_design.specs.Names.{Declaration, Name, Signal, Use, has_name, is_whole, signal_named}
 
 -- the names that are declared
 abbrev pub declared_names : List Declaration → List Name
@@ -22,3 +22,7 @@ new_place test before name = if test name && not (has_name before name) then nam
 abbrev pub new_places : (Name → Bool) → List Name → List Name → List Name
 new_places test before [] = []
 new_places test before (name ∷ names) = new_place test before name ++ new_places test (before ++ new_place test before name) names
+
+-- the name stands whole and is none of these
+abbrev pub is_unknown : List Signal → Use → Bool
+is_unknown signals u = is_whole u.select && is_none (signal_named signals u.name)

@@ -1,10 +1,11 @@
 // What the names of a module stand for, in order: the ports, the declared nets that are no ports, and the nets without a declaration.
-ghost use Rattle.std.specs.Prelude.{◌≡◌, ◌≤◌, ◌++◌, ◌∷◌, [], flat_map, filter, not, length, IfOk, OnOk, None, ◌^◌};
-ghost use Rattle.vlog_design.specs.Names.{has_name, implicit_names, net_decls, port_names, port_signals, signals};
+ghost use Rattle.std.specs.Prelude.{◌≡◌, ◌≤◌, ◌++◌, ◌∷◌, [], length, IfOk, OnOk, None, ◌^◌};
+ghost use Rattle.vlog_design.specs.Names.{implicit_names, port_names, port_signals};
 ghost use Rattle.net_hier.specs.Cells.{width_of};
 ghost use Rattle.vlog_design.specs.Rules.{declared_twice};
 ghost use Rattle.vlog_design.specs.Tables.{names_of, signals_of};
-ghost use Rattle.vlog_scopes.specs.Ranged.{lent_names, net_slots, number_behind, of_range, port_slots, ranged_names, ranged_nets};
+ghost use Rattle.vlog_scopes.specs.Signals.{declared_nets, declared_signals};
+ghost use Rattle.vlog_scopes.specs.Ranged.{lent_names, net_slots, number_behind, of_range, port_slots, ranged_names};
 ghost use Rattle.vlog_values.specs.Sizes.{module_size};
 
 use crate::implicit::implicit_in;
@@ -99,8 +100,8 @@ fn push_net_entries<'a>(
 ) -> Result<u64, NoMemory>
     requires once { declared_twice m.now ≡ [] }
     requires small { module_size m.now ≤ 268435456 }
-    ensures added { OnOk result (signals_of out.new.items ≡ signals_of out.old.items ++ net_slots 0 (filter (λ one. not (has_name (port_names m.now) one.name)) (flat_map ranged_nets (net_decls m.now)))) }
-    ensures behind { IfOk result (λ next. next ≡ number_behind 0 (filter (λ one. not (has_name (port_names m.now) one.name)) (flat_map ranged_nets (net_decls m.now)))) }
+    ensures added { OnOk result (signals_of out.new.items ≡ signals_of out.old.items ++ net_slots 0 (declared_nets m.now)) }
+    ensures behind { IfOk result (λ next. next ≡ number_behind 0 (declared_nets m.now)) }
     ensures bound { IfOk result (λ next. next ≤ 2 ^ 60) }
 {
     let ports = port_set(alloc, m)?;
@@ -131,7 +132,7 @@ fn push_single<'a>(
 }
 
 /// Adds the nets of the module that no declaration declares, of which the first has this number.
-fn push_implicit_entries<'a>(
+pub(crate) fn push_implicit_entries<'a>(
     alloc: Global,
     m: &'a Module,
     first: u64,
@@ -145,15 +146,19 @@ fn push_implicit_entries<'a>(
     Ok(())
 }
 
-/// The names of the module with what they stand for, in their order.
-pub fn entries_in<'a>(alloc: Global, m: &'a Module) -> Result<Vec<(&'a [u8], Slot)>, NoMemory>
+/// Adds the ports and the declared nets of the module, in their order, and answers the number behind the last bit of the nets.
+pub(crate) fn push_declared_entries<'a>(
+    alloc: Global,
+    m: &'a Module,
+    out: &mut Vec<(&'a [u8], Slot)>,
+) -> Result<u64, NoMemory>
     requires once { declared_twice m.now ≡ [] }
     requires small { module_size m.now ≤ 268435456 }
-    ensures { IfOk result (λ found. signals_of found.items ≡ signals m.now) }
+    ensures added { OnOk result (signals_of out.new.items ≡ signals_of out.old.items ++ declared_signals m.now) }
+    ensures behind { IfOk result (λ next. next ≡ number_behind 0 (declared_nets m.now)) }
+    ensures bound { IfOk result (λ next. next ≤ 2 ^ 60) }
 {
-    let mut found = Vec::new(alloc);
-    push_port_entries(alloc, m, &mut found)?;
-    let next = push_net_entries(alloc, m, &mut found)?;
-    push_implicit_entries(alloc, m, next, &mut found)?;
-    Ok(found)
+    push_port_entries(alloc, m, out)?;
+    let next = push_net_entries(alloc, m, out)?;
+    Ok(next)
 }

@@ -15,7 +15,7 @@ use vlog_design::uses::{UseOf, uses_in};
 use vlog_rules::lists::name_set;
 use vlog_values::{Module, Select};
 
-fn is_whole(select: Select) -> bool
+pub(crate) fn is_whole(select: Select) -> bool
     ensures { result ≡ is_whole select }
 {
     match select {

@@ -7,6 +7,7 @@
 
 pub mod entries;
 pub mod implicit;
+mod known;
 pub mod library;
 pub mod lists;
 pub mod ranged;

@@ -6,13 +6,12 @@ use Rattle.std.proofs.lemmas.Bool.Decides.{nat_tests}
 use Rattle.std.proofs.lemmas.List.{map-append}
 use Rattle.vlog_design.specs.Design.{Pairing, pairing_of_assign, pairings}
 use Rattle.vlog_design.specs.Names.{Name, Signal, Use, signals, uses}
-use Rattle.vlog_design.specs.Rules.{first_of, in_modules, refused, unequal_widths, unsized}
+use Rattle.vlog_design.specs.Rules.{first_of, refused, unequal_widths, unsized}
 use Rattle.vlog_design.proofs.Steps.{flat_map_left}
 use Rattle.vlog_rules.proofs.RuleLaws.{first_map}
 use Rattle.vlog_rules.specs.declared.passes.Scope.{Scope}
 use Rattle.vlog_values.specs.declared.expression.Expr.{Expr}
 use Rattle.vlog_values.specs.declared.module.Module.{Module}
-use Rattle.nl_base.specs.declared.rule.Refusal.{Refusal}
 use Rattle.nl_base.specs.declared.rule.Rule.{Rule}
 use Rattle.vlog_ties.specs.Ties.{Tied, Pin, Assign, Supply, broken_objects, is_broken, any_pairing, is_unequal, is_unsized, module_ties, modules_in, pairing_of_pin, rule_number, tied_names, tied_pairings}
 use Rattle.vlog_ties.specs.declared.rules.TieRule.{TieRule}
@@ -67,21 +66,6 @@ broken_first rule modules m table ts found e f g =
     ∙ (ap (option_map (refused (rule_number rule) m.name)) (objects_first rule modules m)
     ∙ (twice (rule_number rule) m.name (find (any_pairing (is_broken rule) (signals m)) (module_ties modules m))
     ∙ ap (option_map (λ t. refused (rule_number rule) m.name (tied_names t))) (ap (λ names. find (any_pairing (is_broken rule) names) (module_ties modules m)) (sym e) ∙ (ap (find (any_pairing (is_broken rule) table)) (sym f) ∙ sym g))))
-
--- one module after the other
-
-abbrev pub refusals_in : TieRule → List Module → List Module → List Refusal
-refusals_in rule modules = in_modules (rule_number rule) (broken_objects rule modules)
-
-pub scope_left : (rule : TieRule) (modules : List Module) (scopes : List Scope) (i : ℕ) (scope : Scope) → scope ≡ get_or scopes i scope → i < length scopes →
-    refusals_in rule modules (modules_in (drop i scopes)) ≡ map (refused (rule_number rule) scope.module.now.name) (broken_objects rule modules scope.module.now) ++ refusals_in rule modules (modules_in (drop (i + 1) scopes))
-scope_left rule modules scopes i scope is h =
-    let f : Scope → List Refusal = λ s. map (refused (rule_number rule) s.module.now.name) (broken_objects rule modules s.module.now) in
-    by (drop i scopes) ∙ (flat_map_left f scopes i scope h ∙ (ap (λ s. f s ++ flat_map f (drop (i + 1) scopes)) (sym is) ∙ ap (λ l. f scope ++ l) (sym (by (drop (i + 1) scopes)))))
-  where
-    by : (ss : List Scope) → refusals_in rule modules (modules_in ss) ≡ flat_map (λ s. map (refused (rule_number rule) s.module.now.name) (broken_objects rule modules s.module.now)) ss
-    by [] = refl
-    by (s ∷ ss) = ap (λ l. map (refused (rule_number rule) s.module.now.name) (broken_objects rule modules s.module.now) ++ l) (by ss)
 
 -- what holds of all modules holds of that of a scope
 pub of_scope : (P : Module → Type 0) (scopes : List Scope) (i : ℕ) (scope : Scope) → scope ≡ get_or scopes i scope → i < length scopes → AllByRecursion P (modules_in scopes) → P scope.module.now

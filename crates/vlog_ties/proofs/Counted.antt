@@ -54,11 +54,11 @@ one_width left right loose h k = by (nat_eq left right) refl (ap (λ b. not (nat
 
 -- the joins of one tie
 
-length-range : (first count : ℕ) → length (range_with_len first count) ≡ count
+pub length-range : (first count : ℕ) → length (range_with_len first count) ≡ count
 length-range first zero = refl
 length-range first (suc count) = ap suc (length-range (first + 1) count)
 
-slot_counted : (constant : Node) (o : Option Slot) → length (option_map_or (slot_joins constant) o []) ≡ option_map_or (λ slot. width_of slot.range) o 0
+pub slot_counted : (constant : Node) (o : Option Slot) → length (option_map_or (slot_joins constant) o []) ≡ option_map_or (λ slot. width_of slot.range) o 0
 slot_counted constant None = refl
 slot_counted constant (Some slot) = length-map (range_with_len 0 (width_of slot.range)) _ ∙ length-range 0 (width_of slot.range)
 

@@ -3,8 +3,10 @@ pub mod Connected
 pub mod Counted
 pub mod Live
 pub mod ModuleLaws
+pub mod MostJoins
 pub mod Narrow
 pub mod Places
 pub mod Ranges
+pub mod SideLaws
 pub mod Spelled
 pub mod Valid

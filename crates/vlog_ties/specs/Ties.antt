@@ -1,6 +1,6 @@
 -- What is tied to what in a Verilog module, without its bits: pins and expressions, the sides of assignments, supply nets and constants
 -- (IEEE 1364-2005, 4.6.6, 6.1 and 12.3).
-use Rattle.std.specs.Prelude.{⊤, ℕ, ◌+◌, ◌^◌, ◌<◌, Bool, false, not, ◌&&◌, nat_eq, List, [], ◌∷◌, ◌++◌, map, flat_map, slice_get, codes, Option, Some, None}
+use Rattle.std.specs.Prelude.{⊤, ℕ, ◌+◌, ◌^◌, ◌<◌, Bool, false, not, ◌&&◌, nat_eq, List, [], ◌∷◌, ◌++◌, map, flat_map, sum_by, slice_get, codes, Option, Some, None}
 use Rattle.std.specs.List.{range_with_len}
 use Rattle.std.specs.Option.{option_map_or}
 use Rattle.net_hier.specs.Cells.{width_of}
@@ -12,7 +12,7 @@ use Rattle.nl_base.specs.declared.rule.Rule.{Rule}
 use Rattle.nl_base.specs.declared.rule.Rule.TheVariants.{G8, G13}
 use Rattle.vlog_design.specs.Design.{Connection, Pairing, connections, first_use, instance_count, joins_between, pairing_of_assign, slot_joins, supply_node}
 use Rattle.vlog_design.specs.Exprs.{bits, has_loose, literals, live_width, width}
-use Rattle.vlog_design.specs.Names.{Name, Signal, signal_named}
+use Rattle.vlog_design.specs.Names.{Name, Signal, signal_named, signals}
 use Rattle.vlog_design.specs.Reach.{module_named}
 use Rattle.vlog_design.specs.Rules.{Objects, unequal_widths, unsized}
 use Rattle.vlog_design.specs.declared.signals.Place.{Place}
@@ -209,3 +209,13 @@ abbrev pub tied_count : List Signal → Tied → ℕ
 tied_count names (Pin instance number port port_number size value) = live_width names value
 tied_count names (Assign left right) = live_width names right
 tied_count names (Supply name constant) = option_map_or (λ slot. width_of slot.range) (signal_named names name) 0
+
+-- how many joins there are at most: the bits of the left side
+abbrev pub tied_most : List Signal → Tied → ℕ
+tied_most names (Pin instance number port port_number size value) = size
+tied_most names (Assign left right) = width names left
+tied_most names (Supply name constant) = option_map_or (λ slot. width_of slot.range) (signal_named names name) 0
+
+-- how many joins a module has at most: the bits of the left sides of what it ties
+unfoldable pub most_joins : List Module → Module → ℕ
+most_joins modules m = sum_by (tied_most (signals m)) (module_ties modules m)

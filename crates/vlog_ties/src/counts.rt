@@ -1,12 +1,12 @@
-// The number of joins of a module, before any is made.
-ghost use Rattle.std.specs.Prelude.{◌≡◌, ◌≤◌, ◌-◌, ◌^◌, [], All, count_by, flat_map, length, map, min, replicate, sum, IfOk};
+// The number of joins of a module before any is made, and how many there are at most.
+ghost use Rattle.std.specs.Prelude.{◌≡◌, ◌≤◌, ◌-◌, ◌^◌, [], All, count_by, flat_map, length, map, min, replicate, sum, sum_by, IfOk};
 ghost use Rattle.vlog_design.specs.Design.{module_joins};
 ghost use Rattle.vlog_design.specs.Exprs.{is_live, literals, live_width};
 ghost use Rattle.vlog_design.specs.Numbers.{HasDigits};
 ghost use Rattle.vlog_design.specs.Rules.{unequal_widths, unsized};
 ghost use Rattle.vlog_values.specs.Sizes.{module_size};
 ghost use Rattle.vlog_values.specs.Values.{IsModule};
-ghost use Rattle.vlog_ties.specs.Ties.{all_tied, modules_in, tie_literals, tied, tied_count};
+ghost use Rattle.vlog_ties.specs.Ties.{all_tied, modules_in, tie_literals, tied, tied_count, tied_most};
 
 use crate::tie::Tie;
 use crate::ties::ties_of;
@@ -14,7 +14,7 @@ use nl_base::NoMemory;
 use std::alloc::Global;
 use vlog_design::names::Names;
 use vlog_design::table::Table;
-use vlog_design::widths::{range_width, selected_width, times};
+use vlog_design::widths::{expr_width, range_width, selected_width, times};
 use vlog_literals::filled_bits_of;
 use vlog_rules::passes::Scope;
 use vlog_values::{Bit, Expr};
@@ -132,4 +132,29 @@ pub fn join_count(
     let ties = ties_of(alloc, names, scopes, scope.module)?;
     let count = ties_count(alloc, &scope.table, &ties)?;
     Ok(count)
+}
+
+/// How many bits the left side of a tie has, or 2^64-1 where there are more: it has no more joins.
+fn left_bits(table: &Table, tie: &Tie) -> u64
+    ensures { result ≡ min (2 ^ 64 - 1) (tied_most table.now (tied tie.now)) }
+{
+    match *tie {
+        Tie::Pin { width, .. } => u64::from(width),
+        Tie::Assign { left, .. } => expr_width(table, left),
+        Tie::Supply { name, .. } => match table.find(name) {
+            None => 0,
+            Some(slot) => range_width(slot.range),
+        },
+    }
+}
+
+/// How many joins ties have at most, or 2^64-1 where there are more.
+pub(crate) fn most_joins(table: &Table, ties: &[Tie]) -> u64
+    ensures { result ≡ min (2 ^ 64 - 1) (sum_by (tied_most table.now) (all_tied ties.now)) }
+{
+    let mut most: u64 = 0;
+    for tie in ties {
+        most = most.saturating_add(left_bits(table, tie));
+    }
+    most
 }

@@ -2,9 +2,9 @@
 //
 // The public contract in plain words: `ties_of` answers what a module ties, one tie for each connection of a port, each assignment and
 // each name of a supply net, in the order of the text and without bits. `push_ties` adds the joins of ties, bit by bit, and `joins_of`
-// answers those of a module; `join_count` answers how many these are before any is made. `unequal_width` answers the first connection or
-// assignment whose two sides have two widths, and `unsized_literal` the first with an unsized literal, as a refusal, or nothing exactly
-// where the rule is kept.
+// answers those of a module; `join_count` answers how many these are before any is made. `sides_of` answers the first connection or
+// assignment whose two sides have two widths and the first with an unsized literal, as refusals, or nothing exactly where the rule is
+// kept, and the bits of all left sides, which no count of joins passes.
 #![tactic(auto)]
 
 pub mod connections;
@@ -12,5 +12,6 @@ pub mod counts;
 pub mod expressions;
 pub mod joins;
 pub mod rules;
+pub mod sides;
 pub mod tie;
 pub mod ties;

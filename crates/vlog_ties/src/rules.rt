@@ -1,19 +1,13 @@
-// The rules on the two sides of connections and assignments.
-ghost use Rattle.std.specs.Prelude.{◌≡◌, ◌≤◌, ◌∷◌, All, codes, map, find, option_map, IfOk};
+// The rules on the two sides of connections and assignments: the first tie that breaks one, and its refusal.
+ghost use Rattle.std.specs.Prelude.{◌≡◌, ◌∷◌, All, codes, find, option_map, IfOk};
 ghost use Rattle.vlog_design.specs.Design.{first_use};
-ghost use Rattle.std.specs.List.{AllByRecursion};
-ghost use Rattle.nl_base.specs.declared.rule.Rule.TheVariants.{G8, G13};
-ghost use Rattle.vlog_design.specs.Rules.{first_of, in_modules, refused, unequal_widths, unsized};
-ghost use Rattle.vlog_values.specs.Sizes.{module_size};
-ghost use Rattle.vlog_values.specs.Values.{IsModule};
-ghost use Rattle.vlog_ties.specs.Ties.{HasNarrowLeft, all_tied, broken_objects, is_broken, any_pairing, is_unequal, is_unsized, modules_in, rule_number, tied, tied_names};
+ghost use Rattle.vlog_design.specs.Rules.{refused};
+ghost use Rattle.vlog_ties.specs.Ties.{HasNarrowLeft, all_tied, is_broken, any_pairing, is_unequal, is_unsized, rule_number, tied, tied_names};
 
 use crate::expressions::{first_use, has_loose};
 use crate::tie::Tie;
-use crate::ties::ties_of;
 use nl_base::{NoMemory, Refusal, Rule};
 use std::alloc::Global;
-use vlog_design::names::Names;
 use vlog_design::table::Table;
 use vlog_design::widths::expr_width;
 use vlog_rules::passes::Scope;
@@ -110,73 +104,21 @@ fn refuse_tie(alloc: Global, rule: Rule, cell: &[u8], tie: &Tie) -> Result<Refus
     }
 }
 
-/// The first object of a module that breaks the rule.
-fn first_in_scope(
+/// The refusal of the first of the ties of a scope that breaks the rule.
+pub(crate) fn first_refusal(
     alloc: Global,
     rule: TieRule,
-    names: &Names,
-    scopes: &[Scope],
     scope: &Scope,
+    ties: &[Tie],
 ) -> Result<Option<Refusal>, NoMemory>
-    requires named { names.now ≡ map (λ m. m.name) (modules_in scopes.now) }
-    requires valid { IsModule scope.now.module.now }
-    requires small { module_size scope.now.module.now ≤ 268435456 }
-    ensures { IfOk result (λ found. found ≡ first_of (map (refused (rule_number rule) scope.now.module.now.name) (broken_objects rule (modules_in scopes.now) scope.now.module.now))) }
+    requires { All (λ tie. HasNarrowLeft scope.now.table (tied tie)) ties.now }
+    ensures { IfOk result (λ found. found ≡ option_map (λ t. refused (rule_number rule) scope.now.module.now.name (tied_names t)) (find (any_pairing (is_broken rule) scope.now.table) (all_tied ties.now))) }
 {
-    let ties = ties_of(alloc, names, scopes, scope.module)?;
-    match first_broken(rule, &scope.table, &ties) {
+    match first_broken(rule, &scope.table, ties) {
         None => Ok(None),
         Some(tie) => {
             let cell = scope.module.name.bytes();
             Ok(Some(refuse_tie(alloc, rule_number(rule), cell, &tie)?))
         }
     }
-}
-
-/// The first object of the modules that breaks the rule.
-fn first_in_scopes(
-    alloc: Global,
-    rule: TieRule,
-    names: &Names,
-    scopes: &[Scope],
-) -> Result<Option<Refusal>, NoMemory>
-    requires named { names.now ≡ map (λ m. m.name) (modules_in scopes.now) }
-    requires valid { AllByRecursion IsModule (modules_in scopes.now) }
-    requires small { AllByRecursion (λ m. module_size m ≤ 268435456) (modules_in scopes.now) }
-    ensures { IfOk result (λ found. found ≡ first_of (in_modules (rule_number rule) (broken_objects rule (modules_in scopes.now)) (modules_in scopes.now))) }
-{
-    for scope in scopes {
-        if let Some(refusal) = first_in_scope(alloc, rule, names, scopes, scope)? {
-            return Ok(Some(refusal));
-        }
-    }
-    Ok(None)
-}
-
-/// The first connection or assignment whose two sides have two widths, where `scopes` are the modules and `names` their names.
-pub fn unequal_width(
-    alloc: Global,
-    names: &Names,
-    scopes: &[Scope],
-) -> Result<Option<Refusal>, NoMemory>
-    requires named { names.now ≡ map (λ m. m.name) (modules_in scopes.now) }
-    requires valid { AllByRecursion IsModule (modules_in scopes.now) }
-    requires small { AllByRecursion (λ m. module_size m ≤ 268435456) (modules_in scopes.now) }
-    ensures { IfOk result (λ found. found ≡ first_of (in_modules G8 (unequal_widths (modules_in scopes.now)) (modules_in scopes.now))) }
-{
-    first_in_scopes(alloc, TieRule::EqualWidths, names, scopes)
-}
-
-/// The first connection or assignment with an unsized literal, where `scopes` are the modules and `names` their names.
-pub fn unsized_literal(
-    alloc: Global,
-    names: &Names,
-    scopes: &[Scope],
-) -> Result<Option<Refusal>, NoMemory>
-    requires named { names.now ≡ map (λ m. m.name) (modules_in scopes.now) }
-    requires valid { AllByRecursion IsModule (modules_in scopes.now) }
-    requires small { AllByRecursion (λ m. module_size m ≤ 268435456) (modules_in scopes.now) }
-    ensures { IfOk result (λ found. found ≡ first_of (in_modules G13 (unsized (modules_in scopes.now)) (modules_in scopes.now))) }
-{
-    first_in_scopes(alloc, TieRule::SizedLiterals, names, scopes)
 }

@@ -11,21 +11,21 @@ pub returns-in-Some : goal.returns-in-Some
 unfolding width_refusals
 returns-in-Some c = four_first (in_modules G12 too_wide (modules_in c.args.scopes.now)) (in_modules G13 (unsized (modules_in c.args.scopes.now)) (modules_in c.args.scopes.now)) c.in_ok-refusal.field-0 (c.in_ok-refusal.ensures ∙ ap first_of (in_scopes (λ m. map (refused G12 m.name) (too_wide m)) c.args.scopes.now)) (in_modules G14 params_twice (modules_in c.args.scopes.now)) (in_modules G15 other_ranges (modules_in c.args.scopes.now)) c.in-Some.refusal c.in-Some.is
 
-pub returns-in-Some-2 : goal.returns-in-Some-2
+pub returns-in-Some-loose : goal.returns-in-Some-loose
 unfolding width_refusals
-returns-in-Some-2 c =
+returns-in-Some-loose c =
     four_second (in_modules G12 too_wide (modules_in c.args.scopes.now)) (in_modules G13 (unsized (modules_in c.args.scopes.now)) (modules_in c.args.scopes.now)) c.in_ok-refusal.field-0 (c.in_ok-refusal.ensures ∙ ap first_of (in_scopes (λ m. map (refused G12 m.name) (too_wide m)) c.args.scopes.now)) (in_modules G14 params_twice (modules_in c.args.scopes.now)) c.in_default.is
-    c.in_ok-refusal-2.field-0 c.in_ok-refusal-2.ensures (in_modules G15 other_ranges (modules_in c.args.scopes.now)) c.in-Some-2.refusal c.in-Some-2.is
+    c.args.loose c.requires.loose (in_modules G15 other_ranges (modules_in c.args.scopes.now)) c.in-Some-loose.refusal c.in-Some-loose.is
 
-pub returns-in-Some-3 : goal.returns-in-Some-3
+pub returns-in-Some-2 : goal.returns-in-Some-2
 unfolding width_refusals params_twice
-returns-in-Some-3 c =
+returns-in-Some-2 c =
     four_third (in_modules G12 too_wide (modules_in c.args.scopes.now)) (in_modules G13 (unsized (modules_in c.args.scopes.now)) (modules_in c.args.scopes.now)) c.in_ok-refusal.field-0 (c.in_ok-refusal.ensures ∙ ap first_of (in_scopes (λ m. map (refused G12 m.name) (too_wide m)) c.args.scopes.now)) (in_modules G14 params_twice (modules_in c.args.scopes.now)) c.in_default.is
-    c.in_ok-refusal-2.field-0 c.in_ok-refusal-2.ensures (in_modules G15 other_ranges (modules_in c.args.scopes.now)) c.in_default-2.is c.in_ok-refusal-3.field-0 (c.in_ok-refusal-3.ensures ∙ ap (λ modules. first_of (in_modules G14 params_twice modules)) c.requires.same) c.in-Some-3.refusal c.in-Some-3.is
+    c.args.loose c.requires.loose (in_modules G15 other_ranges (modules_in c.args.scopes.now)) c.in_default-loose.is c.in_ok-refusal-2.field-0 (c.in_ok-refusal-2.ensures ∙ ap (λ modules. first_of (in_modules G14 params_twice modules)) c.requires.same) c.in-Some-2.refusal c.in-Some-2.is
 
 pub returns : goal.returns
 unfolding width_refusals params_twice
 returns c =
     four_last (in_modules G12 too_wide (modules_in c.args.scopes.now)) (in_modules G13 (unsized (modules_in c.args.scopes.now)) (modules_in c.args.scopes.now)) c.in_ok-refusal.field-0 (c.in_ok-refusal.ensures ∙ ap first_of (in_scopes (λ m. map (refused G12 m.name) (too_wide m)) c.args.scopes.now)) (in_modules G14 params_twice (modules_in c.args.scopes.now)) c.in_default.is
-    c.in_ok-refusal-2.field-0 c.in_ok-refusal-2.ensures (in_modules G15 other_ranges (modules_in c.args.scopes.now)) c.in_default-2.is c.in_ok-refusal-3.field-0 (c.in_ok-refusal-3.ensures ∙ ap (λ modules. first_of (in_modules G14 params_twice modules)) c.requires.same) c.in_default-3.is c.first_in_scopes-2.result
+    c.args.loose c.requires.loose (in_modules G15 other_ranges (modules_in c.args.scopes.now)) c.in_default-loose.is c.in_ok-refusal-2.field-0 (c.in_ok-refusal-2.ensures ∙ ap (λ modules. first_of (in_modules G14 params_twice modules)) c.requires.same) c.in_default-2.is c.first_in_scopes-2.result
     (subst (λ those. IfOk c.first_in_scopes-2.result (λ found. found ≡ first_of those)) (in_scopes (λ m. map (refused G15 m.name) (other_ranges m)) c.args.scopes.now) c.first_in_scopes-2.ensures)

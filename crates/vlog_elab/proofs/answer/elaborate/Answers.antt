@@ -1,8 +1,8 @@
-use Rattle.std.proofs.Common.{◌≡◌, ◌∙◌, ap, subst, Some}
+use Rattle.std.proofs.Common.{◌≡◌, ◌-◌, ◌^◌, ◌∙◌, ap, min, subst, sum_by, sym, Some}
 use Rattle.std.specs.Prelude.{MatchResult}
 use Rattle.vlog_checked.specs.Looks.{IsChecked, IsLooked}
 use Rattle.vlog_design.specs.Rules.{first_G}
-use Rattle.vlog_ties.specs.Ties.{modules_in}
+use Rattle.vlog_ties.specs.Ties.{modules_in, most_joins}
 use Rattle.vlog_elab.specs.Answers.{IsDesignOf, IsFaultOf}
 use Rattle.vlog_elab.proofs.Answering.{answered_for, fit_for, free_for, ready_for}
 use Rattle.vlog_elab.proofs.answer.elaborate.Goals as goal
@@ -14,6 +14,11 @@ pub design_of-requires-clause-ready : goal.design_of-requires-clause-ready
 design_of-requires-clause-ready c =
     let looked : IsChecked c.args.file.now c.bytes.result.now c.in-Clean.clean = subst (IsLooked c.args.file.now c.bytes.result.now) c.in-Clean.is c.in_ok-refusal.ensures in
     ready_for c.args.file.now c.bytes.result.now c.requires.value c.requires.small looked.no_refusals (modules_in c.deref.result.now) (ap modules_in c.deref.ensures.value ∙ looked.modules_are) c.in-Clean.clean.names looked.names_are
+
+pub design_of-requires-clause-most : goal.design_of-requires-clause-most
+design_of-requires-clause-most c =
+    let looked : IsChecked c.args.file.now c.bytes.result.now c.in-Clean.clean = subst (IsLooked c.args.file.now c.bytes.result.now) c.in-Clean.is c.in_ok-refusal.ensures in
+    looked.most_is ∙ ap (λ modules. min (2 ^ 64 - 1) (sum_by (most_joins modules) modules)) (sym (ap modules_in c.deref.ensures.value ∙ looked.modules_are))
 
 pub design_of-requires-clause-fit : goal.design_of-requires-clause-fit
 design_of-requires-clause-fit c =

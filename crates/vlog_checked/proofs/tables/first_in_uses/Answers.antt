@@ -1,0 +1,29 @@
+use Rattle.std.proofs.Common.{◌≡◌, ◌++◌, ◌∙◌, [], ap, map, subst, sym}
+use Rattle.std.specs.Prelude.{IfOk}
+use Rattle.nl_base.specs.declared.rule.Rule.TheVariants.{G6, G7}
+use Rattle.vlog_design.specs.Rules.{bad_selects, first_of, in_modules, refused, unknown_names}
+use Rattle.vlog_rules.proofs.UseLaws.{none_refused}
+use Rattle.vlog_ties.specs.Ties.{modules_in}
+use Rattle.vlog_checked.proofs.Firsts.{in_scopes, two_first, two_last}
+use Rattle.vlog_checked.proofs.tables.first_in_uses.Goals as goal
+
+pub returns-then-not-wrong : goal.returns-then-not-wrong
+returns-then-not-wrong c =
+    let scopes = c.args.scopes.now in
+    let none = none_refused scopes (sym c.in_ok-wrong.ensures ∙ c.if-not-wrong.true) in
+    let unknown : in_modules G6 unknown_names (modules_in scopes) ≡ [] = sym (in_scopes (λ m. map (refused G6 m.name) (unknown_names m)) scopes) ∙ none.0 in
+    let bad : in_modules G7 bad_selects (modules_in scopes) ≡ [] = sym (in_scopes (λ m. map (refused G7 m.name) (bad_selects m)) scopes) ∙ none.1 in
+    sym (λ j. first_of (unknown j ++ bad j))
+
+pub returns-in-Some : goal.returns-in-Some
+returns-in-Some c =
+    let modules = modules_in c.args.scopes.now in
+    two_first (in_modules G6 unknown_names modules) (in_modules G7 bad_selects modules) c.in_ok-refusal.field-0
+    (c.in_ok-refusal.ensures ∙ ap first_of (in_scopes (λ m. map (refused G6 m.name) (unknown_names m)) c.args.scopes.now)) c.in-Some.refusal c.in-Some.is
+
+pub returns : goal.returns
+returns c =
+    let modules = modules_in c.args.scopes.now in
+    two_last (in_modules G6 unknown_names modules) (in_modules G7 bad_selects modules) c.in_ok-refusal.field-0
+    (c.in_ok-refusal.ensures ∙ ap first_of (in_scopes (λ m. map (refused G6 m.name) (unknown_names m)) c.args.scopes.now)) c.in_default.is c.first_in_scopes-2.result
+    (subst (λ those. IfOk c.first_in_scopes-2.result (λ found. found ≡ first_of those)) (in_scopes (λ m. map (refused G7 m.name) (bad_selects m)) c.args.scopes.now) c.first_in_scopes-2.ensures)

@@ -1,0 +1,45 @@
+// Whether a module has nets that no declaration declares.
+ghost use Rattle.std.specs.Prelude.{◌≡◌, ◌&&◌, [], true, is_none, IfOk};
+ghost use Rattle.std.specs.List.{list_any};
+ghost use Rattle.vlog_design.specs.Names.{implicit_names, is_whole, signal_named};
+ghost use Rattle.vlog_design.specs.Uses.{use_of, uses_of};
+ghost use Rattle.vlog_scopes.specs.Signals.{declared_signals};
+ghost use Rattle.vlog_scopes.specs.Implicit.{is_unknown};
+
+use crate::implicit::is_whole;
+use crate::targets::targets_in;
+use nl_base::NoMemory;
+use std::alloc::Global;
+use vlog_design::table::Table;
+use vlog_design::uses::UseOf;
+use vlog_values::Module;
+
+/// Whether the name stands whole and is none of the table.
+fn is_unknown(table: &Table, u: &UseOf) -> bool
+    ensures { result ≡ is_unknown table.now (use_of u.now) }
+{
+    is_whole(u.select) && table.find(u.name).is_none()
+}
+
+fn any_unknown(table: &Table, uses: &[UseOf]) -> bool
+    ensures { result ≡ list_any (is_unknown table.now) (uses_of uses.now) }
+{
+    for u in uses {
+        if is_unknown(table, u) {
+            return true;
+        }
+    }
+    false
+}
+
+/// Whether it shows, by the table of its ports and declared nets, that the module has no other nets: `false` says nothing.
+pub(crate) fn shows_none(alloc: Global, m: &Module, table: &Table) -> Result<bool, NoMemory>
+    requires { table.now ≡ declared_signals m.now }
+    ensures { IfOk result (λ shown. shown ≡ true → implicit_names m.now ≡ []) }
+{
+    if !m.implicit {
+        return Ok(true);
+    }
+    let uses = targets_in(alloc, m)?;
+    Ok(!any_unknown(table, &uses))
+}

@@ -1,0 +1,65 @@
+-- What the rules on two sides say of one module, and of modules one after the other.
+use Rattle.std.proofs.Common.{◌≡◌, ◌+◌, ◌-◌, ◌^◌, ◌<◌, ◌≤◌, ℕ, List, [], ◌∷◌, ◌++◌, None, Option, ap, append-nil, arith, find, get_or, length, map, min, option_map, refl, subst, sum_by, sym, take, ◌∙◌}
+use Rattle.std.specs.Option.{option_or}
+use Rattle.std.proofs.lemmas.List.{map_more, take_all}
+use Rattle.std.proofs.lemmas.List.Concat.{flat_map-append}
+use Rattle.std.proofs.lemmas.List.Sums.{sum_by-append}
+use Rattle.nl_base.specs.declared.rule.Refusal.{Refusal}
+use Rattle.nl_base.specs.declared.rule.Rule.{Rule}
+use Rattle.nl_base.specs.declared.rule.Rule.TheVariants.{G8, G13}
+use Rattle.vlog_design.specs.Names.{Signal, signals}
+use Rattle.vlog_design.specs.Rules.{Objects, first_of, in_modules, refused, unequal_widths, unsized}
+use Rattle.vlog_rules.specs.declared.passes.Scope.{Scope}
+use Rattle.vlog_values.specs.declared.module.Module.{Module}
+use Rattle.vlog_ties.specs.Sides.{AreSides}
+use Rattle.vlog_ties.specs.Ties.{Tied, any_pairing, broken_objects, is_broken, module_ties, modules_in, most_joins, rule_number, tied_names}
+use Rattle.vlog_ties.specs.declared.rules.TieRule.{TieRule}
+use Rattle.vlog_ties.specs.declared.sides.Sides.{Sides}
+use Rattle.vlog_ties.proofs.Broken.{broken_first}
+
+-- the first refusal of one module, by the first of its ties that breaks the rule
+pub module_first : (rule : TieRule) (modules : List Module) (m : Module) (table : List Signal) (ts : List Tied) (found : Option Refusal) → table ≡ signals m → ts ≡ module_ties modules m
+    → found ≡ option_map (λ t. refused (rule_number rule) m.name (tied_names t)) (find (any_pairing (is_broken rule) table) ts) → found ≡ first_of (in_modules (rule_number rule) (broken_objects rule modules) (m ∷ []))
+module_first rule modules m table ts found e f is =
+    is
+    ∙ (sym (broken_first rule modules m table ts (find (any_pairing (is_broken rule) table) ts) e f refl)
+    ∙ ap first_of (sym (append-nil (map (refused (rule_number rule) m.name) (broken_objects rule modules m)))))
+
+first_both : {A : Type 0} (xs ys : List A) → first_of (xs ++ ys) ≡ option_or (first_of xs) (first_of ys)
+first_both [] ys = refl
+first_both (x ∷ xs) ys = refl
+
+modules_first : (rule : Rule) (objects : Module → Objects) (front back : List Module) (one other both : Option Refusal) → one ≡ first_of (in_modules rule objects front) → other ≡ first_of (in_modules rule objects back)
+    → both ≡ option_or one other → both ≡ first_of (in_modules rule objects (front ++ back))
+modules_first rule objects front back one other both e f is =
+    is
+    ∙ ((λ j. option_or (e j) (f j))
+    ∙ sym (ap first_of (flat_map-append (λ m. map (refused rule m.name) (objects m)) front back) ∙ first_both (in_modules rule objects front) (in_modules rule objects back)))
+
+module _ (modules : List Module) where
+  most_both : (front back : List Module) (limit one other both : ℕ) → one ≡ min limit (sum_by (most_joins modules) front) → other ≡ min limit (sum_by (most_joins modules) back) → both ≡ min (one + other) limit
+      → both ≡ min limit (sum_by (most_joins modules) (front ++ back))
+  most_both front back limit one other both e f is =
+      let sums : sum_by (most_joins modules) (front ++ back) ≡ sum_by (most_joins modules) front + sum_by (most_joins modules) back = sum_by-append (most_joins modules) front back in
+      grind arith
+
+  module _ (scopes : List Scope) where
+    -- before the first module
+    pub sides_begun : AreSides modules (modules_in (take 0 scopes)) (record { unequal = None; loose = None; most = 0 })
+    sides_begun = record { unequal_is = refl; loose_is = refl; most_is = refl }
+
+    -- one more module
+    pub sides_more : (i : ℕ) (scope : Scope) → scope ≡ get_or scopes i scope → i < length scopes → (front back both : Sides) → AreSides modules (modules_in (take i scopes)) front → AreSides modules (scope.module.now ∷ []) back
+        → both.unequal ≡ option_or front.unequal back.unequal → both.loose ≡ option_or front.loose back.loose → both.most ≡ min (front.most + back.most) (2 ^ 64 - 1) → AreSides modules (modules_in (take (i + 1) scopes)) both
+    sides_more i scope is lt front back both a b unequal loose most =
+        let those : List Module = modules_in (take i scopes) in
+        let more : modules_in (take (i + 1) scopes) ≡ those ++ scope.module.now ∷ [] = map_more (λ (s : Scope). s.module.now) scopes i scope lt ∙ ap (λ (s : Scope). those ++ s.module.now ∷ []) (sym is) in
+        subst (λ all. AreSides modules all both) (sym more) (record {
+          unequal_is = modules_first G8 (unequal_widths modules) those (scope.module.now ∷ []) front.unequal back.unequal both.unequal a.unequal_is b.unequal_is unequal;
+          loose_is = modules_first G13 (unsized modules) those (scope.module.now ∷ []) front.loose back.loose both.loose a.loose_is b.loose_is loose;
+          most_is = most_both those (scope.module.now ∷ []) (2 ^ 64 - 1) front.most back.most both.most a.most_is b.most_is most;
+        })
+
+    -- behind the last module
+    pub sides_done : (i : ℕ) (sides : Sides) → length scopes ≤ i → AreSides modules (modules_in (take i scopes)) sides → AreSides modules (modules_in scopes) sides
+    sides_done i sides le are = subst (λ those. AreSides modules (modules_in those) sides) (take_all i scopes le) are
