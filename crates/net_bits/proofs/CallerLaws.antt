@@ -9,9 +9,9 @@ use Rattle.net_hier.specs.declared.nodes.Node.{Node}
 use Rattle.net_bits.specs.Classes.{AreClasses, ClassTable, class_of, is_number, members_of}
 use Rattle.net_bits.specs.Names.{AreUsed, IsFresh, NameSet, alike, has_name, numbered, with_name}
 use Rattle.net_bits.specs.Neighbours.{ends}
-use Rattle.net_bits.proofs.EndSets.{any-insert_key}
 use Rattle.net_bits.proofs.FreshLaws.{alike_laws, used_more}
 use Rattle.net_bits.proofs.Items.{Contains-filter, Contains-from_filter}
+use Rattle.net_bits.proofs.NameSets.{any-insert_key}
 use Rattle.net_bits.proofs.Transport.{step_back, step_joined}
 
 -- a node of a class is joined

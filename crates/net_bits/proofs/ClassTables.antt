@@ -1,28 +1,27 @@
 -- tables of classes
-use Rattle.std.proofs.Common.{Vec, Global, ◌≡◌, ℕ, zero, suc, ◌+◌, ◌<◌, ◌≤◌, ◌++◌, Bool, cond, List, [], ◌∷◌, Option, Some, None, length, get_or, set, take, replicate, map, filter, position, slice_get, refl, sym, ◌∙◌, ap, subst, arith, All, eqb, nat_lt, length-set}
-use Rattle.std.specs.List.Sorted.{IsStrictlySortedBy}
+use Rattle.std.proofs.Common.{◌≡◌, ℕ, zero, suc, ◌+◌, ◌-◌, ◌<◌, Bool, true, false, List, [], ◌∷◌, Option, Some, None, length, get_or, map, position, slice_get, refl, sym, ◌∙◌, ap, subst, arith, inl, inr, All, HoldsAt, IsSorted, Ordering, Less, Equal, Greater, is_eq, is_lt, is_some, nat_lt, IfSome, option_and_then, option_copied, Bor}
+use Rattle.std.specs.List.Sorted.{IsNonDecreasingBy, IsPartitionPoint, IsStrictlySortedBy}
 use Rattle.std.specs.List.{position_or_len}
-use Rattle.std.specs.Borrow.{Bor}
-use Rattle.std.specs.Option.{IfSome, is_some, option_and_then, option_copied}
+use Rattle.std.specs.Ordering.{ordering_index, ordering_reverse}
+use Rattle.std.proofs.lemmas.Bool.{cases_lt}
 use Rattle.std.proofs.lemmas.Bool.Decides.{nat_tests}
-use Rattle.std.proofs.lemmas.Grind.{common_steps}
-use Rattle.std.proofs.lemmas.List.{take_more, take_all, length-map, map-set, get_or-map, get_or-replicate, length-replicate}
-use Rattle.std.proofs.lemmas.List.Elements.{filter-append}
+use Rattle.std.proofs.lemmas.List.{length-map}
 use Rattle.std.proofs.lemmas.List.Quantifiers.{position-Some}
+use Rattle.std.proofs.lemmas.List.Sorted.{searchable_from_sorted}
 use Rattle.std.proofs.lemmas.List.Sums.{position_or_len_is}
 use Rattle.std.proofs.lemmas.Map.Keys.{Less-from_sorted}
 use Rattle.std.proofs.lemmas.Option.{slice_get-get_or, slice_get_past, slice_get_within, get_or_from_slice_get}
-use Rattle.net_hier.specs.Nodes.{node_cmp}
-use Rattle.net_hier.specs.NodeTies.{node_ties}
-use Rattle.net_hier.specs.contracts.nodes.NodePartialEq.TheImpl.{eq-value}
+use Rattle.net_hier.specs.Nodes.{node_cmp, node_cmp_total}
 use Rattle.net_hier.specs.declared.cells.HCell.{HCell}
 use Rattle.net_hier.specs.declared.nodes.Node.{Node}
 use Rattle.net_hier.specs.declared.nodes.Node.TheVariants.{Zero}
-use Rattle.net_bits.specs.Classes.{AreClasses, AreMembers, ClassTable, class_of, is_number}
+use Rattle.net_bits.specs.Classes.{AreClasses, AreMembers, ClassTable, HasMembers, class_of, is_number}
 use Rattle.net_bits.specs.Flood.{AreNumbered, IsNext, number}
 use Rattle.net_bits.specs.Neighbours.{AreNeighbours, Neighbours, same_node}
+use Rattle.net_bits.specs.Parts.{AreGroups, AreStarts, part, parts}
 use Rattle.net_bits.proofs.Items.{place_of, Contains-place}
 use Rattle.net_bits.proofs.Nodes.{once, same_node-Decides, same_node-other}
+use Rattle.net_bits.proofs.PartLaws.{items_picked, length-parts, part-map, part_at, picked_passes}
 use Rattle.net_bits.proofs.Transport.{links_of_nodes}
 
 pub number-some : (numbers : List ℕ) (i : ℕ) → number (map Some numbers) i ≡ slice_get numbers i
@@ -57,62 +56,89 @@ module _ (table : ClassTable) (sorted : IsStrictlySortedBy node_cmp table.nodes)
           let found = position-Some (same_node x) table.nodes i x e in
           (i, slice_get-get_or table.nodes i x found.0 ∙ ap Some (sym ((same_node-Decides x (get_or table.nodes i x)).0 found.1)), h)
 
--- the class of a node by the test that the set of nodes uses
-pub class_by_eq : (table : ClassTable) (node : Node) → option_and_then (slice_get table.numbers) (position (eq-value.it node) table.nodes) ≡ class_of table node
-class_by_eq table node = λ i. option_and_then (slice_get table.numbers) (position (λ y. node_ties node y i) table.nodes)
-
 -- each class is below the number of classes
 pub numbers_below : (step : ℕ → ℕ → Type 0) (numbers : List ℕ) (count : ℕ) → AreNumbered step (map Some numbers) count → All (λ n. n < count) numbers
 numbers_below step numbers count by k d h =
     let n = by.all k (omega (arith, h, length-map numbers Some)) in
     subst (λ t. t < count) (same_some_number (slice_get numbers k) n.0 (get_or numbers k d) (sym (number-some numbers k) ∙ n.2) (slice_get-get_or numbers k d h)) n.1
 
--- the nodes before the place `i` stand in the lists of their classes
-pub record HasMembers (table : ClassTable) (i : ℕ) (lists : List (List Node)) : Type 0 where
-  pub len : length lists ≡ table.count
-  pub members : (class : ℕ) → class < table.count → get_or lists class [] ≡ filter (λ node. is_number class (class_of table node)) (take i table.nodes)
-
-abbrev grow : List (List Node) → ℕ → Node → List (List Node)
-grow lists a x = set lists a (get_or lists a [] ++ x ∷ [])
-
-grow-at : (lists : List (List Node)) (a n : ℕ) (x : Node) → a < length lists → get_or (grow lists a x) n [] ≡ get_or lists n [] ++ cond (eqb a n) (x ∷ []) []
-grow-at lists a n x h = grind (arith, common_steps)
-
-filter-one : {X : Type 0} (p : X → Bool) (x : X) (b : Bool) → p x ≡ b → filter p (x ∷ []) ≡ cond b (x ∷ []) []
-filter-one p x b e = ap (λ t. cond t (x ∷ []) []) e
-
-pub members-more : (table : ClassTable) → IsStrictlySortedBy node_cmp table.nodes → (i a : ℕ) (x : Node) (lists : List (List Node))
-    → slice_get table.nodes i ≡ Some x → slice_get table.numbers i ≡ Some a → a < table.count → HasMembers table i lists → HasMembers table (i + 1) (grow lists a x)
-members-more table sorted i a x lists hx ha below has =
-    let in_a : a < length lists = omega (arith, has.len) in
-    let at = class_at table sorted i x hx ∙ ha in
-    let in' = slice_get_within table.nodes i x hx in
+-- the nodes at the places of each class are its members
+pub members_there : (table : ClassTable) → IsStrictlySortedBy node_cmp table.nodes → (starts places : List ℕ) (members : List Node) → length table.numbers ≡ length table.nodes
+    → AreGroups table.numbers table.count starts places → members ≡ map (λ k. get_or table.nodes k Zero) places → AreMembers table (parts starts members)
+members_there table sorted starts places members len grouped is =
+    let node_at : ℕ → Node = λ k. get_or table.nodes k Zero in
     record {
-      len = length-set lists a (get_or lists a [] ++ x ∷ []) ∙ has.len;
-      members = λ class l.
+      len = length-parts starts members ∙ (let l = grouped.sums.len in omega (arith, l));
+      members = λ class h.
           let p : Node → Bool = λ node. is_number class (class_of table node) in
-          grow-at lists a class x in_a
-          ∙ (ap (λ t. t ++ cond (eqb a class) (x ∷ []) []) (has.members class l)
-          ∙ (ap (λ t. filter p (take i table.nodes) ++ t) (sym (filter-one p x (eqb a class) (ap (is_number class) at)))
-          ∙ (sym (filter-append p (take i table.nodes) (x ∷ []))
-          ∙ ap (filter p) (sym (take_more table.nodes i x in' ∙ ap (λ z. take i table.nodes ++ z ∷ []) (get_or_from_slice_get table.nodes i x x hx))))));
+          let here = items_picked node_at 0 table.numbers table.nodes class (sym len) (λ k x e. let none : 0 + k ≡ k = omega arith in ap node_at none ∙ get_or_from_slice_get table.nodes k x Zero e) in
+          let passes = picked_passes p table.numbers table.nodes class (sym len) (λ k n x e f. ap (is_number class) (class_at table sorted k x e ∙ f)) in
+          part_at starts members class (omega (arith, h, grouped.sums.len))
+          ∙ (ap (λ ms. part starts ms class) is
+          ∙ (part-map node_at starts places class
+          ∙ (ap (map node_at) (grouped.each class h) ∙ (here ∙ passes))));
     }
 
-pub members-none : (table : ClassTable) → HasMembers table 0 (replicate table.count [])
-members-none table = record { len = length-replicate table.count []; members = λ class l. get_or-replicate table.count class [] [] l }
+-- what a table of these nodes keeps
+pub has_members : (nodes kept : List Node) (numbers lent starts places lent_places : List ℕ) (members : List Node) (count : ℕ) → IsStrictlySortedBy node_cmp nodes → kept ≡ nodes
+    → length numbers ≡ length nodes → lent ≡ numbers → count < 4294967296 → AreGroups lent count starts places → lent_places ≡ places
+    → members ≡ map (λ k. get_or nodes k Zero) lent_places → HasMembers (record { nodes = kept; numbers = numbers; count = length starts - 1 }) starts members
+has_members nodes kept numbers lent starts places lent_places members count sorted same len e few grouped f is =
+    let table : List Node → ClassTable = λ ns. record { nodes = ns; numbers = numbers; count = length starts - 1 } in
+    let counted : count ≡ length starts - 1 = let l = grouped.sums.len in omega (arith, l) in
+    let groups = subst (λ n. AreGroups numbers n starts places) counted (subst (λ l. AreGroups l count starts places) e grouped) in
+    let all = is ∙ ap (map (λ k. get_or nodes k Zero)) f in
+    let long : length members ≡ length places = ap length all ∙ length-map places (λ k. get_or nodes k Zero) in
+    subst (λ ns. HasMembers (table ns) starts members) (sym same) (record {
+      in_order = sorted;
+      few = let l = grouped.sums.len in omega (arith, l, few);
+      are_starts = subst (AreStarts starts) (sym long) groups.are_starts;
+      are_members = members_there (table nodes) sorted starts places members len groups all;
+    })
 
-pub members-all : (table : ClassTable) (i : ℕ) (lists : List (List Node)) → length table.nodes ≤ i → HasMembers table i lists → AreMembers table lists
-members-all table i lists h has = record {
-  len = has.len;
-  members = λ class l. has.members class l ∙ ap (filter (λ node. is_number class (class_of table node))) (take_all i table.nodes h);
-}
+-- the class of the node that a search found
+pub class_found : (table : ClassTable) → IsStrictlySortedBy node_cmp table.nodes → (node : Node) (i : ℕ) → i < length table.nodes → HoldsAt (λ y. node_cmp y node ≡ Equal) table.nodes i
+    → class_of table node ≡ slice_get table.numbers i
+class_found table sorted node i h holds =
+    let x = get_or table.nodes i Zero in
+    let same : x ≡ node = (same_node-Decides x node).0 (ap is_eq (holds Zero)) in
+    class_at table sorted i node (slice_get-get_or table.nodes i Zero h ∙ ap Some same)
 
--- a push onto the list at `a`, seen through the lists
-pub members_view : (vs : List (Vec Node Global)) (a : ℕ) (x : Node) (old new : Vec Node Global) → a < length vs → old ≡ get_or vs a old → new.items ≡ old.items ++ x ∷ []
-    → map (λ v. v.items) (set vs a new) ≡ grow (map (λ v. v.items) vs) a x
-members_view vs a x old new h o n =
-    map-set (λ (v : Vec Node Global). v.items) vs a new
-    ∙ ap (λ t. set (map (λ v. v.items) vs) a t) (n ∙ ap (λ t. t ++ x ∷ []) (ap (λ (v : Vec Node Global). v.items) o ∙ sym (get_or-map (λ (v : Vec Node Global). v.items) vs a old [] h)))
+equal_of_test : (o : Ordering) → is_eq o ≡ true → o ≡ Equal
+equal_of_test Less e = cc
+equal_of_test Equal e = refl
+equal_of_test Greater e = cc
+
+not_less : (a b : Ordering) → a ≡ Less → b ≡ ordering_reverse a → is_lt b ≡ false
+not_less a b e f = ap is_lt (f ∙ ap ordering_reverse e)
+
+-- nodes in order are sorted
+pub is_sorted : (nodes : List Node) → IsStrictlySortedBy node_cmp nodes → IsSorted node_cmp nodes
+is_sorted nodes sorted k d h l = not_less (node_cmp (get_or nodes k d) (get_or nodes (k + 1) d)) (node_cmp (get_or nodes (k + 1) d) (get_or nodes k d))
+    (Less-from_sorted node_cmp nodes k (k + 1) d sorted (omega arith) l) (node_cmp_total.antisymm (get_or nodes (k + 1) d) (get_or nodes k d))
+
+-- a node that a search did not find has no class
+pub class_missing : (table : ClassTable) → IsStrictlySortedBy node_cmp table.nodes → (node : Node) (i : ℕ)
+    → (IsNonDecreasingBy (λ y. ordering_index (node_cmp y node)) table.nodes → IsPartitionPoint (λ y. node_cmp y node ≡ Less) (λ y. node_cmp y node ≡ Greater) table.nodes i)
+    → class_of table node ≡ None
+class_missing table sorted node i search = by (position (same_node node) table.nodes) refl
+  where
+    point : IsPartitionPoint (λ y. node_cmp y node ≡ Less) (λ y. node_cmp y node ≡ Greater) table.nodes i
+    point = search (searchable_from_sorted node_cmp_total (λ x. x) table.nodes node (is_sorted table.nodes sorted))
+
+    no_place : (k : ℕ) → k < length table.nodes → same_node node (get_or table.nodes k node) ≡ true → ⊥
+    no_place k h e =
+        let x = get_or table.nodes k node in
+        let same : node ≡ x = (same_node-Decides node x).0 e in
+        let equal : node_cmp x node ≡ Equal = equal_of_test (node_cmp x node) ((same_node-Decides x node).1 (sym same)) in
+        elim (cases_lt k i) as (λ _. ⊥) [
+          | inl before ↦ let less = point.0 k node (omega arith) before in let bad = sym equal ∙ less in cc
+          | inr behind ↦ let greater = point.1 k node behind h in let bad = sym equal ∙ greater in cc
+        ]
+
+    by : (o : Option ℕ) → position (same_node node) table.nodes ≡ o → class_of table node ≡ None
+    by None e = ap (option_and_then (slice_get table.numbers)) e
+    by (Some k) e = let found = position-Some (same_node node) table.nodes k node e in absurd (no_place k found.0 found.1)
 
 -- the numbers of the neighbour lists are the classes of the cell
 pub are_classes : (cell : HCell) (neighbours : Neighbours) → AreNeighbours cell neighbours → (numbers : List ℕ) (count : ℕ) → length numbers ≡ length neighbours.nodes

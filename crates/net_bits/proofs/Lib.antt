@@ -1,14 +1,20 @@
 pub mod CallerLaws
 mod ClassTables
 mod Cost
-mod EndLists
-mod EndSets
+mod Counting
+mod EndKeys
+mod EndNumbers
 mod Flooding
 mod FreshLaws
 mod Items
+mod KeyLaws
 mod LeafLaws
 mod Links
 mod NameLaws
+mod NameSets
 mod Nodes
 mod Numbers
+mod OtherEnds
+mod PartLaws
+mod Placing
 mod Transport

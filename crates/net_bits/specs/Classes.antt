@@ -1,6 +1,7 @@
 -- The classes of locally connected nodes of a cell.
-use Rattle.std.specs.Prelude.{◌≡◌, ℕ, ◌+◌, ◌*◌, ◌<◌, ◌==◌, ◌↔◌, List, [], Bool, false, Option, Some, None, length, filter, position, slice_get, slice_index_or}
+use Rattle.std.specs.Prelude.{◌≡◌, ℕ, ◌+◌, ◌*◌, ◌<◌, ◌≤◌, ◌==◌, ◌↔◌, List, [], Bool, false, Option, Some, None, length, filter, position, slice_get, slice_index_or}
 use Rattle.std.specs.Option.{option_and_then}
+use Rattle.std.specs.List.Sorted.{IsStrictlySortedBy}
 use Rattle.std.specs.declared.cmp.Ordering.TheVariants.{Less}
 use Rattle.net_hier.specs.Cells.{IsLocallyConnected}
 use Rattle.net_hier.specs.Design.{IsCell}
@@ -8,6 +9,7 @@ use Rattle.net_hier.specs.Nodes.{node_cmp}
 use Rattle.net_hier.specs.declared.cells.HCell.{HCell}
 use Rattle.net_hier.specs.declared.nodes.Node.{Node}
 use Rattle.net_bits.specs.Neighbours.{AreJoinedNodes, IsJoined, joined_count, same_node}
+use Rattle.net_bits.specs.Parts.{AreStarts, parts}
 
 -- nodes in order, for each of them the number of its class, and how many classes there are
 pub record ClassTable : Type 0 where
@@ -45,6 +47,13 @@ AreClassesAt cells number classes = (cell : HCell) → IsCell cells number cell 
 pub record AreMembers (classes : ClassTable) (lists : List (List Node)) : Type 0 where
   pub len : length lists ≡ classes.count
   pub members : (class : ℕ) → class < classes.count → slice_index_or lists class [] ≡ members_of classes class
+
+-- what a table keeps of its classes: its nodes are in order, and those of each class stand behind one another
+pub record HasMembers (classes : ClassTable) (starts : List ℕ) (members : List Node) : Type 0 where
+  pub in_order : IsStrictlySortedBy node_cmp classes.nodes
+  pub few : length starts ≤ 4294967296
+  pub are_starts : AreStarts starts (length members)
+  pub are_members : AreMembers classes (parts starts members)
 
 -- the greatest number of steps that the classes of a cell take: one for each joined node, and one for each end of each join
 abbrev pub step_bound : HCell → ℕ

@@ -1,9 +1,8 @@
 ghost use Rattle.std.specs.Prelude.{◌≡◌, ℕ, ◌+◌, ◌*◌, ◌<◌, ◌≤◌, ◌^◌, List, [], length, slice_get, Some, slice_index, slice_index_or, sum_by, IfOk};
 
-use crate::joined::{joined_nodes, neighbour_lists};
-use crate::short_list::ShortList;
+use crate::joined::{Joined, joined_ends, other_numbers};
+use crate::parts::{Groups, groups_of, part_of};
 use crate::steps::Steps;
-use indexmap::IndexSet;
 use net_hier::{HCell, Node};
 use nl_base::NoMemory;
 use std::alloc::Global;
@@ -13,18 +12,21 @@ use std::sync::ledger::Ledger;
 /// The joined nodes of a cell, numbered in their order, and for each the numbers of the nodes at the other ends of its joins.
 #[derive(Drop)]
 pub struct Adjacency {
-    nodes: IndexSet<Node>,
-    lists: Vec<ShortList>,
+    nodes: Vec<Node>,
+    starts: Vec<u32>,
+    others: Vec<u32>,
 }
 
 impl Model for Adjacency {
+    ghost use Rattle.std.specs.Prelude.{length};
     ghost use Rattle.net_bits.specs.Neighbours.{Neighbours, AreFew};
+    ghost use Rattle.net_bits.specs.Parts.{AreStarts, parts};
 
     ghost Value = { Neighbours };
 
-    ghost view = { λ a. record { nodes = a.nodes.keys; lists = a.lists.items } };
+    ghost view = { λ a. record { nodes = a.nodes.items; lists = parts a.starts.items a.others.items } };
 
-    ghost invariant = { λ a. AreFew (record { nodes = a.nodes.keys; lists = a.lists.items }) };
+    ghost invariant = { λ a. AreFew (record { nodes = a.nodes.items; lists = parts a.starts.items a.others.items }) × AreStarts a.starts.items (length a.others.items) };
 }
 
 impl Adjacency {
@@ -38,9 +40,15 @@ impl Adjacency {
         ensures degrees { IfOk result (λ adjacency. sum_by length adjacency.lists ≡ 2 * length cell.now.joins) }
     {
         let joins = cell.joins.items();
-        let nodes = joined_nodes(alloc, joins)?;
-        let lists = neighbour_lists(alloc, &nodes, joins)?;
-        Ok(Adjacency { nodes, lists })
+        let Joined { nodes, numbers } = joined_ends(alloc, joins)?;
+        let count = nodes.len() as u32;
+        let Groups { starts, places } = groups_of(alloc, numbers.as_slice(), count)?;
+        let others = other_numbers(alloc, numbers.as_slice(), places.as_slice())?;
+        Ok(Adjacency {
+            nodes,
+            starts,
+            others,
+        })
     }
 
     /// How many nodes there are.
@@ -55,7 +63,8 @@ impl Adjacency {
         requires { number < length self.now.nodes }
         ensures { result ≡ length (slice_index_or self.now.lists number []) }
     {
-        self.lists[number as usize].len() as u32
+        let place = number as usize;
+        self.starts[place + 1] - self.starts[place]
     }
 
     /// The node of this number. It counts one step.
@@ -65,7 +74,7 @@ impl Adjacency {
         ensures cost { steps.new ≡ steps.old + 1 }
     {
         steps.tick();
-        self.nodes.as_slice()[number as usize]
+        self.nodes[number as usize]
     }
 
     /// The number of the neighbour at this place in the list of the node of this number. It counts one step.
@@ -76,14 +85,23 @@ impl Adjacency {
         ensures cost { steps.new ≡ steps.old + 1 }
     {
         steps.tick();
-        self.lists[number as usize].at(place as usize)
+        let list = part_of(
+            self.starts.as_slice(),
+            self.others.as_slice(),
+            number as usize,
+        );
+        list[place as usize]
     }
 
-    // The set of the nodes.
-    pub(crate) fn into_nodes(self) -> IndexSet<Node>
-        ensures { result.keys ≡ self.nodes }
+    // The nodes.
+    pub(crate) fn into_nodes(self) -> Vec<Node>
+        ensures { result.items ≡ self.nodes }
     {
-        let Adjacency { nodes, lists: _ } = self;
+        let Adjacency {
+            nodes,
+            starts: _,
+            others: _,
+        } = self;
         nodes
     }
 }

@@ -1,13 +1,11 @@
-ghost use Rattle.std.specs.Prelude.{◌≡◌, ℕ, ◌+◌, ◌*◌, ◌<◌, ◌≤◌, ◌^◌, Some, All, length, map, IfOk};
-ghost use Rattle.std.specs.List.Sorted.{IsStrictlySortedBy};
-ghost use Rattle.net_hier.specs.Nodes.{node_cmp};
-ghost use Rattle.net_bits.specs.Classes.{AreClasses, AreMembers, class_of, members_of, step_bound};
-ghost use Rattle.net_bits.specs.Flood.{number};
+ghost use Rattle.std.specs.Prelude.{◌≡◌, ℕ, ◌+◌, ◌*◌, ◌<◌, ◌≤◌, ◌^◌, Some, All, length, map, slice_index_or, IfOk};
+ghost use Rattle.net_hier.specs.declared.nodes.Node.TheVariants.{Zero};
+ghost use Rattle.net_bits.specs.Classes.{AreClasses, class_of, members_of, step_bound};
 
 use crate::adjacency::Adjacency;
 use crate::flood::number_classes;
+use crate::parts::{Groups, groups_of, part_of};
 use crate::steps::Steps;
-use indexmap::IndexSet;
 use net_hier::{HCell, Node};
 use nl_base::NoMemory;
 use std::alloc::Global;
@@ -17,20 +15,21 @@ use std::sync::ledger::{Blank, Ledger};
 /// The classes of locally connected nodes of a cell. They are numbered from 0, in the order of their least nodes.
 #[derive(Drop)]
 pub struct Classes {
-    nodes: IndexSet<Node>,
+    nodes: Vec<Node>,
     numbers: Vec<u32>,
-    members: Vec<Vec<Node>>,
+    starts: Vec<u32>,
+    members: Vec<Node>,
 }
 
 impl Model for Classes {
-    ghost use Rattle.std.specs.Prelude.{◌<◌, ◌^◌, length, map};
-    ghost use Rattle.net_bits.specs.Classes.{AreMembers, ClassTable};
+    ghost use Rattle.std.specs.Prelude.{◌-◌, length};
+    ghost use Rattle.net_bits.specs.Classes.{ClassTable, HasMembers};
 
     ghost Value = { ClassTable };
 
-    ghost view = { λ c. record { nodes = c.nodes.keys; numbers = c.numbers.items; count = length c.members.items } };
+    ghost view = { λ c. record { nodes = c.nodes.items; numbers = c.numbers.items; count = length c.starts.items - 1 } };
 
-    ghost invariant = { λ c. (length c.members.items < 2 ^ 32) × AreMembers (record { nodes = c.nodes.keys; numbers = c.numbers.items; count = length c.members.items }) (map (λ list. list.items) c.members.items) };
+    ghost invariant = { λ c. HasMembers (record { nodes = c.nodes.items; numbers = c.numbers.items; count = length c.starts.items - 1 }) c.starts.items c.members.items };
 }
 
 impl Classes {
@@ -46,11 +45,13 @@ impl Classes {
     {
         let adjacency = Adjacency::of_cell(alloc, cell)?;
         let (numbers, count) = number_classes(alloc, &adjacency, steps)?;
-        let members = list_members(alloc, &adjacency, numbers.as_slice(), count, steps)?;
+        let Groups { starts, places } = groups_of(alloc, numbers.as_slice(), count)?;
+        let members = nodes_at(alloc, &adjacency, places.as_slice(), steps)?;
         let nodes = adjacency.into_nodes();
         Ok(Classes {
             nodes,
             numbers,
+            starts,
             members,
         })
     }
@@ -68,9 +69,9 @@ impl Classes {
     pub fn class_of(&self, node: &Node) -> Option<u32>
         ensures { result ≡ class_of self.now node.now }
     {
-        match self.nodes.get_index_of(node) {
-            Some(number) => self.numbers.get(number).copied(),
-            None => None,
+        match self.nodes.binary_search(node) {
+            Ok(number) => self.numbers.get(number).copied(),
+            Err(_) => None,
         }
     }
 
@@ -78,7 +79,7 @@ impl Classes {
     pub fn count(&self) -> u32
         ensures { result ≡ self.now.count }
     {
-        self.members.len() as u32
+        (self.starts.len() - 1) as u32
     }
 
     /// The joined nodes of the class of this number, in order.
@@ -86,7 +87,11 @@ impl Classes {
         requires { class < self.now.count }
         ensures { result.now ≡ members_of self.now class }
     {
-        self.members[class as usize].as_slice()
+        part_of(
+            self.starts.as_slice(),
+            self.members.as_slice(),
+            class as usize,
+        )
     }
 }
 
@@ -103,27 +108,21 @@ fn of_cell_from<L: Ledger>(alloc: Global, cell: &HCell, blank: Blank) -> Result<
     Ok(classes)
 }
 
-// For each class its nodes, in order.
-fn list_members<L: Ledger>(
+// The nodes of these numbers.
+fn nodes_at<L: Ledger>(
     alloc: Global,
     adjacency: &Adjacency,
-    numbers: &[u32],
-    count: u32,
+    places: &[u32],
     steps: &mut Steps<L>,
-) -> Result<Vec<Vec<Node>>, NoMemory>
-    requires in_order { IsStrictlySortedBy node_cmp adjacency.now.nodes }
-    requires len { length numbers.now ≡ length adjacency.now.nodes }
-    requires below { All (λ number. number < count) numbers.now }
-    ensures members { IfOk result (λ lists. AreMembers (record { nodes = adjacency.now.nodes; numbers = numbers.now; count = count }) (map (λ list. list.items) lists.items)) }
-    ensures cost { steps.new ≤ steps.old + length adjacency.now.nodes }
+) -> Result<Vec<Node>, NoMemory>
+    requires { All (λ place. place < length adjacency.now.nodes) places.now }
+    ensures nodes { IfOk result (λ nodes. nodes.items ≡ map (λ place. slice_index_or adjacency.now.nodes place Zero) places.now) }
+    ensures cost { steps.new ≤ steps.old + length places.now }
 {
-    let mut members = Vec::with_capacity(alloc, count as usize)?;
-    for _class in 0..count {
-        members.push(Vec::new(alloc))?;
+    let mut nodes = Vec::with_capacity(alloc, places.len())?;
+    for place in places {
+        let node = adjacency.node(*place, steps);
+        nodes.push(node)?;
     }
-    for number in 0..adjacency.count() {
-        let node = adjacency.node(number, steps);
-        members[numbers[number as usize] as usize].push(node)?;
-    }
-    Ok(members)
+    Ok(nodes)
 }

@@ -1,85 +1,107 @@
-ghost use Rattle.std.specs.Prelude.{◌≡◌, ◌≤◌, ◌<◌, ◌^◌, ◌*◌, ◌↔◌, List, [], Some, Contains, IfOk, OnOk, length, slice_get, sum_by};
-ghost use Rattle.indexmap.specs.IndexSet.{insert_key};
-ghost use Rattle.std.specs.List.Sorted.{IsStrictlySortedBy};
-ghost use Rattle.std.specs.Set.{distinct_count};
-ghost use Rattle.net_hier.specs.Nodes.{node_cmp};
-ghost use Rattle.net_hier.specs.declared.nodes.Node.{Node};
-ghost use Rattle.net_bits.specs.Neighbours.{AreOtherEnds, ends, same_node};
+// The nodes at the ends of joins, and the numbers of the nodes at these ends.
+ghost use Rattle.std.specs.Prelude.{◌≡◌, ◌≤◌, ◌<◌, ◌^◌, ◌*◌, ◌-◌, ℕ, All, length, map, slice_set, IfOk, OnOk};
+ghost use Rattle.std.specs.List.Sorted.{IsNonDecreasing};
+ghost use Rattle.net_bits.specs.Ends.{AreEndNumbers, AreKeys, is_last as is_last_node, other_number, partner_of, with_last};
+ghost use Rattle.net_bits.specs.Neighbours.{ends};
 
-use crate::short_list::ShortList;
-use indexmap::IndexSet;
+use crate::ends::{end_at, place_of, sorted_keys};
 use net_hier::{Join, Node};
 use nl_base::NoMemory;
 use std::alloc::Global;
 
-// Adds both ends of the join.
-fn add_ends(nodes: &mut IndexSet<Node>, join: &Join) -> Result<(), NoMemory>
-    ensures { OnOk result (nodes.new.keys ≡ insert_key ⟦<Node as PartialEq>⟧.eq (insert_key ⟦<Node as PartialEq>⟧.eq nodes.old.keys join.now.a) join.now.b) }
+/// The nodes at the ends of joins, each once and in order, and for each end the number of its node: first that of the first node of a join,
+/// then that of its second one.
+#[derive(Drop)]
+pub(crate) struct Joined {
+    pub(crate) nodes: Vec<Node>,
+    pub(crate) numbers: Vec<u32>,
+}
+
+/// Whether the node is the last of these.
+fn is_last(nodes: &[Node], node: &Node) -> bool
+    ensures { result ≡ is_last_node nodes.now node.now }
 {
-    nodes.insert(join.a)?;
-    nodes.insert(join.b)?;
+    match nodes.last() {
+        None => false,
+        Some(last) => *last == *node,
+    }
+}
+
+/// Adds the node, where it is not the last one.
+fn add_node(nodes: &mut Vec<Node>, node: Node) -> Result<(), NoMemory>
+    ensures { OnOk result (nodes.new.items ≡ with_last nodes.old.items node) }
+{
+    if is_last(nodes.as_slice(), &node) {
+        return Ok(());
+    }
+    nodes.push(node)?;
     Ok(())
 }
 
-/// The nodes at the ends of the joins, each once and in order.
-pub fn joined_nodes(alloc: Global, joins: &[Join]) -> Result<IndexSet<Node>, NoMemory>
-    ensures in_order { IfOk result (λ nodes. IsStrictlySortedBy node_cmp nodes.keys) }
-    ensures joined { IfOk result (λ nodes. (node : Node) → Contains nodes.keys node ↔ Contains (ends joins.now) node) }
-    ensures count { IfOk result (λ nodes. length nodes.keys ≡ distinct_count same_node (ends joins.now)) }
+/// Gives the end at this place the number of its node, which is the last one or comes behind the last one.
+fn number_end(
+    nodes: &mut Vec<Node>,
+    numbers: &mut Vec<u32>,
+    place: usize,
+    node: Node,
+) -> Result<(), NoMemory>
+    requires place { place < length numbers.old.items }
+    requires few { length nodes.old.items < 2 ^ 32 }
+    ensures nodes { OnOk result (nodes.new.items ≡ with_last nodes.old.items node) }
+    ensures numbers { OnOk result (numbers.new.items ≡ slice_set numbers.old.items place (length (with_last nodes.old.items node) - 1)) }
 {
-    let mut nodes = IndexSet::with_capacity(alloc, joins.len().saturating_mul(2))?;
-    for join in joins {
-        add_ends(&mut nodes, join)?;
+    add_node(nodes, node)?;
+    numbers[place] = (nodes.len() - 1) as u32;
+    Ok(())
+}
+
+/// The nodes at the ends of the joins, and the numbers of the ends, by the keys of the ends in order.
+fn numbered(alloc: Global, joins: &[Join], keys: &[u128]) -> Result<Joined, NoMemory>
+    requires few { length joins.now ≤ 33554432 }
+    requires sorted { IsNonDecreasing keys.now }
+    requires keys { AreKeys (ends joins.now) keys.now }
+    ensures { IfOk result (λ joined. AreEndNumbers (ends joins.now) joined.nodes.items joined.numbers.items) }
+{
+    let mut nodes = Vec::with_capacity(alloc, keys.len())?;
+    let mut numbers = vec![in alloc; 0; keys.len()]?;
+    for key in keys {
+        let place = place_of(*key);
+        let node = end_at(joins, place);
+        number_end(&mut nodes, &mut numbers, place, node)?;
     }
-    nodes.sort()?;
-    Ok(nodes)
+    Ok(Joined { nodes, numbers })
 }
 
-// The number of a node that is in the set.
-fn number_of(nodes: &IndexSet<Node>, node: &Node) -> u32
-    requires member { Contains nodes.now.keys node.now }
-    requires few { length nodes.now.keys < 2 ^ 32 }
-    ensures { slice_get nodes.now.keys result ≡ Some node.now }
+/// The nodes at the ends of the joins, each once and in order, and the numbers of the ends.
+pub(crate) fn joined_ends(alloc: Global, joins: &[Join]) -> Result<Joined, NoMemory>
+    requires { length joins.now ≤ 33554432 }
+    ensures { IfOk result (λ joined. AreEndNumbers (ends joins.now) joined.nodes.items joined.numbers.items) }
 {
-    match nodes.get_index_of(node) {
-        Some(number) => number as u32,
-        None => unreachable!(),
-    }
+    let keys = sorted_keys(alloc, joins)?;
+    let joined = numbered(alloc, joins, keys.as_slice())?;
+    Ok(joined)
 }
 
-// The numbers of the two ends of the join.
-fn ends_of(nodes: &IndexSet<Node>, join: &Join) -> (u32, u32)
-    requires a { Contains nodes.now.keys join.now.a }
-    requires b { Contains nodes.now.keys join.now.b }
-    requires few { length nodes.now.keys < 2 ^ 32 }
-    ensures a { slice_get nodes.now.keys result.0 ≡ Some join.now.a }
-    ensures b { slice_get nodes.now.keys result.1 ≡ Some join.now.b }
+/// The place of the other end of the join.
+fn partner(place: u32) -> u32
+    ensures { result ≡ partner_of place }
 {
-    let a = number_of(nodes, &join.a);
-    let b = number_of(nodes, &join.b);
-    (a, b)
+    if place % 2 == 0 { place + 1 } else { place - 1 }
 }
 
-/// For each node the numbers of the nodes at the other ends of its joins, in the order of the joins.
-pub fn neighbour_lists(
+/// For each of these places of ends the number of the node at the other end of the join.
+pub(crate) fn other_numbers(
     alloc: Global,
-    nodes: &IndexSet<Node>,
-    joins: &[Join],
-) -> Result<Vec<ShortList>, NoMemory>
-    requires in_order { IsStrictlySortedBy node_cmp nodes.now.keys }
-    requires members { (node : Node) → Contains (ends joins.now) node → Contains nodes.now.keys node }
-    requires few { length nodes.now.keys < 2 ^ 32 }
-    ensures lists { IfOk result (λ lists. AreOtherEnds nodes.now.keys joins.now lists.items) }
-    ensures degrees { IfOk result (λ lists. sum_by length lists.items ≡ 2 * length joins.now) }
+    numbers: &[u32],
+    places: &[u32],
+) -> Result<Vec<u32>, NoMemory>
+    requires even { (half : ℕ) × (length numbers.now ≡ 2 * half) }
+    requires within { All (λ place. place < length numbers.now) places.now }
+    ensures { IfOk result (λ others. others.items ≡ map (other_number numbers.now) places.now) }
 {
-    let mut lists = Vec::with_capacity(alloc, nodes.len())?;
-    for _node in 0..nodes.len() {
-        lists.push(ShortList::empty(alloc))?;
+    let mut others = Vec::with_capacity(alloc, places.len())?;
+    for place in places {
+        others.push(numbers[partner(*place) as usize])?;
     }
-    for join in joins {
-        let (a, b) = ends_of(nodes, join);
-        lists[a as usize].push(b)?;
-        lists[b as usize].push(a)?;
-    }
-    Ok(lists)
+    Ok(others)
 }
