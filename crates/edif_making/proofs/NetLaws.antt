@@ -33,7 +33,7 @@ use Rattle.edif_plans.specs.Made.{live_below}
 use Rattle.edif_plans.specs.NetNames.{HasNoSpareText, first_port_bit, name_by, name_of_bit, name_of_class, name_of_net, plain_name}
 use Rattle.edif_plans.specs.Sound.{IsSoundNet, IsSoundPort}
 use Rattle.edif_plans.proofs.Lists.{is_at}
-use Rattle.edif_parts.proofs.PortLaws.{seen_sound}
+use Rattle.edif_naming.proofs.LastLaws.{seen_sound}
 use Rattle.edif_making.specs.Nets.{HasFewDigits}
 
 -- ---- live classes

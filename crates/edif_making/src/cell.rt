@@ -60,12 +60,12 @@ fn cell_items(
 ) -> Result<Seq<CellItem>, NoMemory>
     ensures { IfOk result (λ items. items ≡ cell_items.View view ∷ map cell_items.Property properties.items) }
 {
-    let mut items = Seq::empty(alloc);
+    let mut items = Vec::with_capacity(alloc, properties.len().saturating_add(1))?;
     items.push(CellItem::View(view))?;
     for property in properties {
         items.push(CellItem::Property(property))?;
     }
-    Ok(items)
+    Ok(Seq::of(items))
 }
 
 /// The properties of the cell of this number: the top's are followed by the design's.

@@ -7,11 +7,15 @@ use edif_values::{ContentsItem, Instance, Net};
 use nl_base::{NoMemory, Seq};
 use std::alloc::Global;
 
-/// Instances as parts of contents.
-fn instance_items(alloc: Global, instances: Vec<Instance>) -> Result<Seq<ContentsItem>, NoMemory>
-    ensures { IfOk result (λ items. items ≡ map contents_items.Instance instances.items) }
+/// Instances as parts of contents, in a list with this room.
+fn instance_items(
+    alloc: Global,
+    instances: Vec<Instance>,
+    room: usize,
+) -> Result<Vec<ContentsItem>, NoMemory>
+    ensures { IfOk result (λ items. items.items ≡ map contents_items.Instance instances.items) }
 {
-    let mut items = Seq::empty(alloc);
+    let mut items = Vec::with_capacity(alloc, room)?;
     for instance in instances {
         items.push(ContentsItem::Instance(instance))?;
     }
@@ -19,14 +23,14 @@ fn instance_items(alloc: Global, instances: Vec<Instance>) -> Result<Seq<Content
 }
 
 /// The parts with these nets behind them.
-fn with_nets(first: Seq<ContentsItem>, nets: Vec<Net>) -> Result<Seq<ContentsItem>, NoMemory>
-    ensures { IfOk result (λ items. items ≡ first ++ map contents_items.Net nets.items) }
+fn with_nets(first: Vec<ContentsItem>, nets: Vec<Net>) -> Result<Seq<ContentsItem>, NoMemory>
+    ensures { IfOk result (λ items. items ≡ first.items ++ map contents_items.Net nets.items) }
 {
     let mut items = first;
     for net in nets {
         items.push(ContentsItem::Net(net))?;
     }
-    Ok(items)
+    Ok(Seq::of(items))
 }
 
 /// The contents of a cell: its instances, and then its nets.
@@ -37,7 +41,8 @@ pub fn contents_of(
 ) -> Result<Seq<ContentsItem>, NoMemory>
     ensures { IfOk result (λ items. items ≡ contents_for instances.items nets.items) }
 {
-    let first = instance_items(alloc, instances)?;
+    let room = instances.len().saturating_add(nets.len());
+    let first = instance_items(alloc, instances, room)?;
     let items = with_nets(first, nets)?;
     Ok(items)
 }

@@ -213,7 +213,7 @@ fn planned_nets(alloc: Global, cell: &HCell, classes: &Classes) -> Result<Vec<Pl
         planned.items) }
     ensures sound { HaveSoundNets cell.now → IfOk result (λ planned. AllByRecursion (λ net. IsString net.name) planned.items) }
 {
-    let mut planned = Vec::new(alloc);
+    let mut planned = Vec::with_capacity(alloc, classes.count() as usize)?;
     for class in 0..classes.count() {
         plan_class(alloc, cell, classes, class, &mut planned)?;
     }
@@ -224,7 +224,7 @@ fn planned_nets(alloc: Global, cell: &HCell, classes: &Classes) -> Result<Vec<Pl
 fn names_of(alloc: Global, planned: &[Planned]) -> Result<Vec<&[u8]>, NoMemory>
     ensures { IfOk result (λ names. seen names.items ≡ map (λ net. net.name) planned.now) }
 {
-    let mut names = Vec::new(alloc);
+    let mut names = Vec::with_capacity(alloc, planned.len())?;
     for net in planned {
         names.push(net.name.bytes())?;
     }
@@ -244,11 +244,11 @@ fn net_idents(alloc: Global, planned: &[Planned]) -> Result<Seq<Ident>, NoMemory
 fn net_items(alloc: Global, properties: Vec<Property>) -> Result<Seq<NetItem>, NoMemory>
     ensures { IfOk result (λ items. items ≡ map net_items.Property properties.items) }
 {
-    let mut items = Seq::empty(alloc);
+    let mut items = Vec::with_capacity(alloc, properties.len())?;
     for property in properties {
         items.push(NetItem::Property(property))?;
     }
-    Ok(items)
+    Ok(Seq::of(items))
 }
 
 /// The properties of the nets of a class, the last value of each name.
@@ -310,7 +310,7 @@ fn nets_with(
     ensures props { IfOk result (λ made. map (λ net. (net_value net).props) made.items ≡ map (λ net. last_of (class_props_of scope.now.cell.now.nets (members_of classes.now net.class))) planned.now) }
     ensures sound { AllByRecursion IsSoundNet scope.now.cell.now.nets → AllByRecursion (λ net. IsString net.name) planned.now → IfOk result (λ made. AllByRecursion IsNet made.items) }
 {
-    let mut made = Vec::new(alloc);
+    let mut made = Vec::with_capacity(alloc, planned.len())?;
     for place in 0..planned.len() {
         let plan = &planned[place];
         let word = plan.name.bytes();

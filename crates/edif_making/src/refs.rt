@@ -10,6 +10,7 @@ use edif_naming::copied;
 use edif_plans::{Head, Instances, Plan};
 use edif_values::PortRef;
 use net_hier::{HCell, HInst, HPort, Hier, Node};
+use net_live::end_count;
 use nl_base::{Ident, Int, NoMemory, Range, Seq};
 use std::alloc::Global;
 
@@ -250,12 +251,12 @@ fn add_ref(
     alloc: Global,
     scope: &Scope<'_>,
     node: Node,
-    refs: &mut Seq<PortRef>,
+    refs: &mut Vec<PortRef>,
 ) -> Result<(), NoMemory>
     requires fits { FitsScene (scene_of scope.now) }
     requires there { CanRefer (scene_of scope.now) node }
-    ensures added { OnOk result (refs.new ≡ refs.old ++ option_to_list (ref_for (scene_of scope.now) node)) }
-    ensures sound { AllByRecursion IsPortRef refs.old → OnOk result (AllByRecursion IsPortRef refs.new) }
+    ensures added { OnOk result (refs.new.items ≡ refs.old.items ++ option_to_list (ref_for (scene_of scope.now) node)) }
+    ensures sound { AllByRecursion IsPortRef refs.old.items → OnOk result (AllByRecursion IsPortRef refs.new.items) }
 {
     match ref_of(alloc, scope, node)? {
         None => Ok(()),
@@ -273,9 +274,9 @@ pub fn refs_of(alloc: Global, scope: &Scope<'_>, nodes: &[Node]) -> Result<Seq<P
     ensures made { IfOk result (λ refs. refs ≡ refs_for (scene_of scope.now) nodes.now) }
     ensures sound { IfOk result (AllByRecursion IsPortRef) }
 {
-    let mut refs = Seq::empty(alloc);
+    let mut refs = Vec::with_capacity(alloc, end_count(nodes))?;
     for node in nodes {
         add_ref(alloc, scope, *node, &mut refs)?;
     }
-    Ok(refs)
+    Ok(Seq::of(refs))
 }

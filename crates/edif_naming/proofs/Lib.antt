@@ -1,2 +1,3 @@
+pub mod LastLaws
 pub mod NamingLaws
 pub mod SoundLaws

@@ -88,6 +88,10 @@ sound_port_name ident name (Some range) word h small = (record { ident = word; t
 pub sound_property : (ident : List ℕ) (prop : HProp) → IsWord ident → IsSoundProp prop → IsProperty (property_for ident prop)
 sound_property ident prop word h = record { name = sound_name ident prop.name word (short_string prop.name h.name); value = h.value; tail = tt }
 
+-- a property of these parts
+pub made_sound : (ident : List ℕ) (prop : HProp) (made : Property) → made ≡ property_for ident prop → IsWord ident → IsSoundProp prop → IsProperty made
+made_sound ident prop made is word h = subst IsProperty (sym is) (sound_property ident prop word h)
+
 -- one property more
 pub properties_sound : (props : List (Bor HProp)) (place : ℕ) (d x : Bor HProp) (made new : List Property) (property : Property) → place < length props → x ≡ get_or props place d
     → (AreSoundProps (seen props) → AllByRecursion IsProperty made) → new ≡ made ++ property ∷ [] → (IsSoundProp x.now → IsProperty property) → AreSoundProps (seen props) → AllByRecursion IsProperty new

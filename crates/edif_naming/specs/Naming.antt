@@ -36,6 +36,10 @@ property_for ident prop = record { name = name_for ident prop.name; value = prop
 abbrev pub value_of : Property → HProp
 value_of property = record { name = original property.name; value = property.value }
 
+-- its original name
+abbrev pub name_of : Property → List ℕ
+name_of property = original property.name
+
 -- its identifier
 abbrev pub ident_of : Property → List ℕ
 ident_of property = property.name.ident

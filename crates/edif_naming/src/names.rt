@@ -13,6 +13,9 @@ use net_hier::HPort;
 use nl_base::{Ident, Int, NoMemory, Range, Text};
 use std::alloc::Global;
 
+/// The most bytes of a range in brackets.
+const RANGE_ROOM: usize = 25;
+
 /// An identifier like this one.
 pub fn copied(alloc: Global, ident: &Ident) -> Result<Ident, NoMemory>
     ensures same { IfOk result (λ made. made ≡ ident.now) }
@@ -24,22 +27,28 @@ pub fn copied(alloc: Global, ident: &Ident) -> Result<Ident, NoMemory>
 }
 
 /// The name with this identifier and this original name.
+pub(crate) fn name_by(alloc: Global, ident: Ident, name: &[u8]) -> Result<NameDef, NoMemory>
+    ensures name { IfOk result (λ made. made ≡ name_for ident name.now) }
+    ensures word { IsWord ident }
+{
+    if ident.bytes() == name {
+        return Ok(NameDef { ident, text: None });
+    }
+    let text = Text::copy(alloc, name)?;
+    Ok(NameDef {
+        ident,
+        text: Some(text),
+    })
+}
+
+/// The name with this identifier and this original name.
 fn name_with(alloc: Global, ident: &Ident, name: &[u8]) -> Result<NameDef, NoMemory>
     ensures name { IfOk result (λ made. made ≡ name_for ident.now name.now) }
     ensures word { IsWord ident.now }
 {
     let own = copied(alloc, ident)?;
-    if ident.bytes() == name {
-        return Ok(NameDef {
-            ident: own,
-            text: None,
-        });
-    }
-    let text = Text::copy(alloc, name)?;
-    Ok(NameDef {
-        ident: own,
-        text: Some(text),
-    })
+    let made = name_by(alloc, own, name)?;
+    Ok(made)
 }
 
 /// The name with this identifier and this original name.
@@ -65,7 +74,8 @@ fn array_text(alloc: Global, name: &[u8], range: Range) -> Result<Text, NoMemory
     ensures text { IfOk result (λ made. made ≡ text_of_array name.now range) }
     ensures small { IfOk result (λ _. IsSmallRange (Some range)) }
 {
-    let mut text = Vec::from_slice(alloc, name)?;
+    let mut text = Vec::with_capacity(alloc, name.len().saturating_add(RANGE_ROOM))?;
+    text.extend_from_slice(name)?;
     text.push(b'[')?;
     add_number(&mut text, range.left)?;
     text.push(b':')?;

@@ -6,7 +6,7 @@ ghost use Rattle.edif_naming.specs.Naming.{ident_of, property_for, seen, value_o
 ghost use Rattle.edif_spaces.specs.Spaces.{AreIdents};
 ghost use Rattle.edif_naming.specs.Sound.{AreSoundProps, IsSoundProp};
 
-use crate::names::named;
+use crate::names::{copied, name_by};
 use edif_spaces::idents_of;
 use edif_values::Property;
 use net_hier::HProp;
@@ -14,7 +14,7 @@ use nl_base::{Ident, NoMemory, PropValue, Seq, Text};
 use std::alloc::Global;
 
 /// A value like this one.
-fn copy_value(alloc: Global, value: &PropValue) -> Result<PropValue, NoMemory>
+pub(crate) fn copy_value(alloc: Global, value: &PropValue) -> Result<PropValue, NoMemory>
     ensures { IfOk result (λ made. made ≡ value.now) }
 {
     match value {
@@ -29,17 +29,28 @@ fn copy_value(alloc: Global, value: &PropValue) -> Result<PropValue, NoMemory>
 }
 
 /// The property with this identifier.
-fn property_of(alloc: Global, ident: &Ident, prop: &HProp) -> Result<Property, NoMemory>
-    ensures property { IfOk result (λ made. made ≡ property_for ident.now prop.now) }
+#[tactic(auto, using(crate::proofs::SoundLaws::made_sound))]
+pub(crate) fn property_by(alloc: Global, ident: Ident, prop: &HProp) -> Result<Property, NoMemory>
+    ensures property { IfOk result (λ made. made ≡ property_for ident prop.now) }
     ensures sound { IsSoundProp prop.now → IfOk result IsProperty }
 {
-    let name = named(alloc, ident, prop.name.bytes())?;
+    let name = name_by(alloc, ident, prop.name.bytes())?;
     let value = copy_value(alloc, &prop.value)?;
     Ok(Property {
         name,
         value,
         tail: Seq::empty(alloc),
     })
+}
+
+/// The property with this identifier.
+fn property_of(alloc: Global, ident: &Ident, prop: &HProp) -> Result<Property, NoMemory>
+    ensures property { IfOk result (λ made. made ≡ property_for ident.now prop.now) }
+    ensures sound { IsSoundProp prop.now → IfOk result IsProperty }
+{
+    let own = copied(alloc, ident)?;
+    let made = property_by(alloc, own, prop)?;
+    Ok(made)
 }
 
 /// The names of properties.

@@ -1,6 +1,5 @@
 -- What is read of a port that is written.
-use Rattle.std.proofs.Common.{arith, ◌≡◌, ◌≤◌, ℕ, Bool, true, false, cond, List, [], ◌∷◌, Option, None, Some, map, length, refl, sym, ap, ◌∙◌, subst}
-use Rattle.std.specs.Borrow.{Bor}
+use Rattle.std.proofs.Common.{arith, ◌≡◌, ◌≤◌, ℕ, List, [], ◌∷◌, Option, None, Some, map, length, refl, sym, ap, ◌∙◌, subst}
 use Rattle.std.specs.List.{AllByRecursion, filter_map}
 use Rattle.nl_base.specs.Ranges.{Bounds}
 use Rattle.nl_base.specs.declared.value.Dir.{Dir}
@@ -12,10 +11,8 @@ use Rattle.edif_values.specs.declared.port.Port.{Port}
 use Rattle.edif_values.specs.declared.port.PortItem.{PortItem}
 use Rattle.edif_values.specs.declared.port.PortItem.TheVariants as port_items
 use Rattle.net_hier.specs.declared.cells.HPort.{HPort}
-use Rattle.net_hier.specs.declared.cells.HProp.{HProp}
-use Rattle.net_live.specs.Last.{is_named, last_of}
-use Rattle.edif_naming.specs.Naming.{IsSmallRange, port_name_for, seen, value_of}
-use Rattle.edif_naming.specs.Sound.{AreSoundProps}
+use Rattle.net_live.specs.Last.{last_of}
+use Rattle.edif_naming.specs.Naming.{IsSmallRange, port_name_for, value_of}
 use Rattle.edif_naming.proofs.NamingLaws.{port_original_for}
 use Rattle.edif_design.specs.CellRules.{ident_of, port_ident, size_of}
 use Rattle.edif_design.specs.Design.{port_property, property_value}
@@ -65,19 +62,6 @@ pub plain_text : (ident : List ℕ) (port : HPort) (made : PortName) → made �
 plain_text ident port made is small = subst HasPlainText (sym is) (sym (λ j. port_name_for (named_ident ident port.name port.range j) (port_original_for ident port.name port.range small j).0 (port_original_for ident port.name port.range small j).1))
 
 -- ---- what can be written
-
--- the last values of properties that can be written
-kept_sound : (props : List HProp) → AreSoundProps props → AreSoundProps (last_of props)
-unfolding last_of
-kept_sound [] all = tt
-kept_sound (prop ∷ props) all = by (is_named prop.name props) (kept_sound props all.1)
-  where
-    by : (b : Bool) → AreSoundProps (last_of props) → AreSoundProps (cond b (last_of props) (prop ∷ last_of props))
-    by true rest = rest
-    by false rest = (all.0, rest)
-
-pub seen_sound : (props : List HProp) (kept : List (Bor HProp)) → seen kept ≡ last_of props → AreSoundProps props → AreSoundProps (seen kept)
-seen_sound props kept are all = subst AreSoundProps (sym are) (kept_sound props all)
 
 items_sound : (ps : List Property) → AllByRecursion IsProperty ps → AllByRecursion IsPortItem (map port_items.Property ps)
 items_sound [] all = tt

@@ -173,7 +173,7 @@ fn all_names<'a>(
 ) -> Result<Vec<&'a [u8]>, NoMemory>
     ensures { IfOk result (λ names. seen names.items ≡ instance_names own.now added.now) }
 {
-    let mut names = Vec::with_capacity(alloc, own.len())?;
+    let mut names = Vec::with_capacity(alloc, own.len().saturating_add(added.len()))?;
     for instance in own {
         names.push(instance.name.bytes())?;
     }

@@ -13,22 +13,19 @@ ghost use Rattle.edif_plans.specs.Plans.{HasHead, constant_number};
 ghost use Rattle.edif_plans.specs.Sound.{IsSoundInstance};
 
 use crate::instance::instance_of;
-use edif_naming::properties_of;
+use edif_naming::last_properties;
 use edif_plans::{Added, Instances, Plan};
 use edif_values::{Instance, Property};
 use net_hier::HInst;
-use net_live::last_of;
 use nl_base::{Ident, NoMemory};
 use std::alloc::Global;
 
 /// The properties of an instance, the last value of each name.
-#[tactic(auto, using(crate::proofs::PortLaws::seen_sound))]
 fn instance_properties(alloc: Global, instance: &HInst) -> Result<Vec<Property>, NoMemory>
     ensures values { IfOk result (λ made. map value_of made.items ≡ last_values_of instance.now.props) }
     ensures sound { AreSoundProps instance.now.props → IfOk result (λ made. AllByRecursion IsProperty made.items) }
 {
-    let props = last_of(alloc, instance.props.items())?;
-    let properties = properties_of(alloc, props.as_slice())?;
+    let properties = last_properties(alloc, instance.props.items())?;
     Ok(properties)
 }
 
@@ -66,7 +63,8 @@ fn own_instances(
     ensures no_spare_text { IfOk result (λ made.
         AllByRecursion (λ instance. HasNoSpareText instance.name) made.items) }
 {
-    let mut made = Vec::with_capacity(alloc, instances.len())?;
+    // There is room for those of the constants, which come behind.
+    let mut made = Vec::with_capacity(alloc, idents.len())?;
     for place in 0..instances.len() {
         let instance = own_instance(alloc, plan, &idents[place], &instances[place])?;
         made.push(instance)?;

@@ -13,10 +13,9 @@ ghost use Rattle.edif_plans.specs.Faces.{face_for, face_of};
 ghost use Rattle.edif_plans.specs.PortNames.{HasPlainText};
 ghost use Rattle.edif_plans.specs.Sound.{IsSoundPort};
 
-use edif_naming::{port_named, properties_of};
+use edif_naming::{last_properties, port_named};
 use edif_values::{InterfaceItem, Port, PortItem, PortName, Property};
 use net_hier::HPort;
-use net_live::last_of;
 use nl_base::{Dir, Ident, NoMemory, Seq};
 use std::alloc::Global;
 
@@ -24,22 +23,20 @@ use std::alloc::Global;
 fn port_items(alloc: Global, dir: Dir, properties: Vec<Property>) -> Result<Seq<PortItem>, NoMemory>
     ensures { IfOk result (λ items. items ≡ port_items.Direction dir ∷ map port_items.Property properties.items) }
 {
-    let mut items = Seq::empty(alloc);
+    let mut items = Vec::with_capacity(alloc, properties.len().saturating_add(1))?;
     items.push(PortItem::Direction(dir))?;
     for property in properties {
         items.push(PortItem::Property(property))?;
     }
-    Ok(items)
+    Ok(Seq::of(items))
 }
 
 /// The properties of a port, the last value of each name.
-#[tactic(auto, using(crate::proofs::PortLaws::seen_sound))]
 fn port_properties(alloc: Global, port: &HPort) -> Result<Vec<Property>, NoMemory>
     ensures values { IfOk result (λ made. map value_of made.items ≡ last_values_of port.now.props) }
     ensures sound { AreSoundProps port.now.props → IfOk result (λ made. AllByRecursion IsProperty made.items) }
 {
-    let props = last_of(alloc, port.props.items())?;
-    let properties = properties_of(alloc, props.as_slice())?;
+    let properties = last_properties(alloc, port.props.items())?;
     Ok(properties)
 }
 
@@ -77,11 +74,11 @@ pub fn ports_of(alloc: Global, idents: &[Ident], ports: &[HPort]) -> Result<Vec<
 pub fn interface_of(alloc: Global, ports: Vec<Port>) -> Result<Seq<InterfaceItem>, NoMemory>
     ensures { IfOk result (λ items. items ≡ map interface_items.Port ports.items) }
 {
-    let mut items = Seq::empty(alloc);
+    let mut items = Vec::with_capacity(alloc, ports.len())?;
     for port in ports {
         items.push(InterfaceItem::Port(port))?;
     }
-    Ok(items)
+    Ok(Seq::of(items))
 }
 
 /// The port of this name, a scalar output without properties.

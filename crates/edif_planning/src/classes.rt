@@ -15,7 +15,7 @@ pub fn all_classes(alloc: Global, hier: &Hier) -> Result<Vec<Classes>, NoMemory>
     ensures { IfOk result (λ all. AreAllClasses hier.now.cells all.items) }
 {
     let cells = hier.cells();
-    let mut all = Vec::new(alloc);
+    let mut all = Vec::with_capacity(alloc, cells.len())?;
     for cell in cells {
         let classes = Classes::of_cell_uncounted(alloc, cell)?;
         all.push(classes)?;

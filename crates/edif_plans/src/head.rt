@@ -19,7 +19,7 @@ pub struct Head {
 fn port_names(alloc: Global, ports: &[HPort]) -> Result<Vec<&[u8]>, NoMemory>
     ensures { IfOk result (λ names. seen names.items ≡ map (λ port. port.name) ports.now) }
 {
-    let mut names = Vec::new(alloc);
+    let mut names = Vec::with_capacity(alloc, ports.len())?;
     for port in ports {
         names.push(port.name.bytes())?;
     }

@@ -88,6 +88,10 @@ not_both false b h k = absurd (false≢true k)
 more_names : (number : ℕ) (idents : List (List ℕ)) (ident : List ℕ) → is_alike_any (numbered stem number) (idents ++ ident ∷ []) ≡ (is_alike_any (numbered stem number) idents || (same_up_to_case (numbered stem number) ident || false))
 more_names number idents ident = list_any-append (same_up_to_case (numbered stem number)) idents (ident ∷ [])
 
+-- what is told of identifiers that are lent
+pub told_own : (idents lent : List (List ℕ)) (name : List ℕ) (is_own : Bool) → lent ≡ idents → is_own ≡ is_own_behind lent name → is_own_behind idents name ≡ is_own
+told_own idents lent name is_own same told = ap (λ l. is_own_behind l name) (sym same) ∙ sym told
+
 -- a name that is its own identifier
 pub own_step : (idents : List (List ℕ)) (from : ℕ) (name ident : List ℕ) → is_own_behind idents name ≡ true → has_stem name ≡ false → IsPlain idents from → ident ≡ name → IsPlainStep idents from name ident from
 own_step idents from name ident own stemless plain is =

@@ -1,5 +1,5 @@
 // Identifiers for few names of which none begins with the stem.
-ghost use Rattle.std.specs.Prelude.{◌≡◌, ◌<◌, ◌^◌, [], false, true, length, map, IfOk};
+ghost use Rattle.std.specs.Prelude.{◌≡◌, ℕ, ◌<◌, ◌^◌, List, [], false, true, length, map, IfOk};
 ghost use Rattle.std.specs.List.{list_any};
 ghost use Rattle.net_bits.specs.Names.{numbered as numbered_name};
 ghost use Rattle.edif_meanings.specs.Apart.{is_alike_any};
@@ -7,11 +7,12 @@ ghost use Rattle.edif_spaces.specs.Plain.{IsPlain, IsPlainStep, has_stem as has_
 ghost use Rattle.edif_spaces.specs.Spaces.{AreIdents, can_be_own as can_be_own_text, stem as stem_text};
 
 use crate::space::can_be_own;
+use net_bits::Word;
 use nl_base::{Ident, NoMemory, Seq, Text, fold_eq, spell_u64};
 use std::alloc::Global;
 
 /// Whether a name begins with the stem, up to case.
-fn has_stem(name: &[u8]) -> bool
+pub fn has_stem(name: &[u8]) -> bool
     ensures { result ≡ has_stem_text name.now }
 {
     match name {
@@ -60,10 +61,10 @@ fn numbered_text(alloc: Global, number: u64) -> Result<Text, NoMemory>
 {
     let mut digits = [0; 20];
     let len = spell_u64(number, &mut digits);
-    let mut name = Vec::with_capacity(alloc, 22)?;
-    name.extend_from_slice(b"id")?;
-    name.extend_from_slice(&digits[..len])?;
-    let text = Text::of(alloc, name)?;
+    let mut name = Word::empty();
+    name.put(b"id");
+    name.put(&digits[..len]);
+    let text = name.text(alloc)?;
     Ok(text)
 }
 
@@ -85,53 +86,44 @@ fn own(alloc: Global, name: &[u8]) -> Result<Ident, NoMemory>
 }
 
 /// The name itself, and the number that is free as before.
-fn plain_own(
-    alloc: Global,
-    idents: &Seq<Ident>,
-    from: u64,
-    name: &[u8],
-) -> Result<(Ident, u64), NoMemory>
-    requires own { is_own_behind idents.now name.now ≡ true }
+fn plain_own(alloc: Global, from: u64, name: &[u8]) -> Result<(Ident, u64), NoMemory>
+    requires can { can_be_own_text name.now ≡ true }
     requires stem { has_stem_text name.now ≡ false }
-    requires plain { IsPlain idents.now from }
-    ensures { IfOk result (λ found. IsPlainStep idents.now from name.now found.0 found.1) }
+    ensures { (idents : List (List ℕ)) → is_own_behind idents name.now ≡ true → IsPlain idents from
+        → IfOk result (λ found. IsPlainStep idents from name.now found.0 found.1) }
 {
     let ident = own(alloc, name)?;
     Ok((ident, from))
 }
 
 /// The stem and the number that is free, and the next number.
-fn plain_made(
-    alloc: Global,
-    idents: &Seq<Ident>,
-    from: u64,
-    name: &[u8],
-) -> Result<(Ident, u64), NoMemory>
-    requires own { is_own_behind idents.now name.now ≡ false }
-    requires plain { IsPlain idents.now from }
+fn plain_made(alloc: Global, from: u64, name: &[u8]) -> Result<(Ident, u64), NoMemory>
     requires few { from < 2 ^ 32 }
-    ensures { IfOk result (λ found. IsPlainStep idents.now from name.now found.0 found.1) }
+    ensures { (idents : List (List ℕ)) → is_own_behind idents name.now ≡ false → IsPlain idents from
+        → IfOk result (λ found. IsPlainStep idents from name.now found.0 found.1) }
 {
     let ident = numbered(alloc, from)?;
     Ok((ident, from + 1))
 }
 
-/// The identifier of a name behind these, and the least number that is free then.
-fn plain_ident(
+/// The identifier of a name behind others of which none begins with the stem, and the least number that is free then; it is told whether the
+/// name is its own identifier.
+pub fn plain_ident(
     alloc: Global,
-    idents: &Seq<Ident>,
+    is_own: bool,
     from: u64,
     name: &[u8],
 ) -> Result<(Ident, u64), NoMemory>
+    requires can { is_own ≡ true → can_be_own_text name.now ≡ true }
     requires stem { has_stem_text name.now ≡ false }
-    requires plain { IsPlain idents.now from }
     requires few { from < 2 ^ 32 }
-    ensures { IfOk result (λ found. IsPlainStep idents.now from name.now found.0 found.1) }
+    ensures { (idents : List (List ℕ)) → is_own_behind idents name.now ≡ is_own → IsPlain idents from
+        → IfOk result (λ found. IsPlainStep idents from name.now found.0 found.1) }
 {
-    if is_own(name, idents.items()) {
-        return plain_own(alloc, idents, from, name);
+    if is_own {
+        return plain_own(alloc, from, name);
     }
-    plain_made(alloc, idents, from, name)
+    plain_made(alloc, from, name)
 }
 
 /// A list with room for so many identifiers.
@@ -151,7 +143,8 @@ pub(crate) fn plain_idents(alloc: Global, names: &[&[u8]]) -> Result<Seq<Ident>,
     let mut idents = room_for(alloc, names.len())?;
     let mut from = 0;
     for name in names {
-        let (ident, next) = plain_ident(alloc, &idents, from, name)?;
+        let is_own = is_own(name, idents.items());
+        let (ident, next) = plain_ident(alloc, is_own, from, name)?;
         idents.push(ident)?;
         from = next;
     }

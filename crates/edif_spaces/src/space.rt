@@ -86,7 +86,7 @@ impl Space {
 }
 
 /// Whether the name is an identifier of at most 255 bytes.
-pub(crate) fn can_be_own(name: &[u8]) -> bool
+pub fn can_be_own(name: &[u8]) -> bool
     ensures { result ≡ can_be_own_text name.now }
 {
     name.len() <= OWN_LIMIT && is_identifier(name)

@@ -16,11 +16,11 @@ use std::alloc::Global;
 fn library_items(alloc: Global, cells: Vec<Cell>) -> Result<Seq<LibraryItem>, NoMemory>
     ensures { IfOk result (λ items. items ≡ map library_items.Cell cells.items) }
 {
-    let mut items = Seq::empty(alloc);
+    let mut items = Vec::with_capacity(alloc, cells.len())?;
     for cell in cells {
         items.push(LibraryItem::Cell(cell))?;
     }
-    Ok(items)
+    Ok(Seq::of(items))
 }
 
 /// The library of these cells.

@@ -2,7 +2,7 @@ use Rattle.std.proofs.Common.{ap, ◌∙◌}
 use Rattle.edif_naming.specs.Naming.{seen}
 use Rattle.net_hier.specs.Facts.{cell_props}
 use Rattle.net_live.specs.Last.{last_of}
-use Rattle.edif_parts.proofs.PortLaws.{seen_sound}
+use Rattle.edif_naming.proofs.LastLaws.{seen_sound}
 use Rattle.edif_making.proofs.cell.cell_properties.Goals as goal
 
 pub returns-clause-sound : goal.returns-clause-sound

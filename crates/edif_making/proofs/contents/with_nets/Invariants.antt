@@ -3,4 +3,4 @@ use Rattle.edif_values.specs.declared.view.ContentsItem.TheVariants as contents_
 use Rattle.edif_making.proofs.contents.with_nets.Given as goal
 
 abbrev pub invariant-loop-net : goal.invariant-loop-net
-invariant-loop-net l = l.items ≡ l.fn.first ++ map contents_items.Net l.yielded
+invariant-loop-net l = l.items.items ≡ l.fn.first.items ++ map contents_items.Net l.yielded

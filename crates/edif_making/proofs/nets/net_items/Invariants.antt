@@ -3,4 +3,4 @@ use Rattle.edif_values.specs.declared.net.NetItem.TheVariants as net_items
 use Rattle.edif_making.proofs.nets.net_items.Given as goal
 
 abbrev pub invariant-loop-property : goal.invariant-loop-property
-invariant-loop-property l = l.items ≡ map net_items.Property l.yielded
+invariant-loop-property l = l.items.items ≡ map net_items.Property l.yielded

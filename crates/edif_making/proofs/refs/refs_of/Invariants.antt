@@ -7,6 +7,6 @@ use Rattle.edif_making.proofs.refs.refs_of.Given as goal
 
 abbrev pub invariant-loop-node : goal.invariant-loop-node
 invariant-loop-node l = record {
-  made : l.refs ++ filter_map (ref_for (scene_of l.scope)) (drop l.node-index l.nodes) ≡ refs_for (scene_of l.scope) l.nodes;
-  sound : AllByRecursion IsPortRef l.refs;
+  made : l.refs.items ++ filter_map (ref_for (scene_of l.scope)) (drop l.node-index l.nodes) ≡ refs_for (scene_of l.scope) l.nodes;
+  sound : AllByRecursion IsPortRef l.refs.items;
 }

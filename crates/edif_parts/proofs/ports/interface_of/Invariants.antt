@@ -3,4 +3,4 @@ use Rattle.edif_values.specs.declared.view.InterfaceItem.TheVariants as interfac
 use Rattle.edif_parts.proofs.ports.interface_of.Given as goal
 
 abbrev pub invariant-loop-port : goal.invariant-loop-port
-invariant-loop-port l = l.items ≡ map interface_items.Port l.yielded
+invariant-loop-port l = l.items.items ≡ map interface_items.Port l.yielded

@@ -1,7 +1,7 @@
-use Rattle.std.proofs.Common.{arith, refl, sym, subst}
+use Rattle.std.proofs.Common.{arith, [], get_or, refl, sym, subst, ◌∙◌}
 use Rattle.edif_spaces.specs.Plain.{IsPlain}
 use Rattle.edif_spaces.proofs.IdentLaws.{AreFirst, first_all, first_more}
-use Rattle.edif_spaces.proofs.PlainLaws.{first_none, none_stemmed, plain_none}
+use Rattle.edif_spaces.proofs.PlainLaws.{and_left, first_none, none_stemmed, plain_none, told_own}
 use Rattle.edif_spaces.proofs.plain.plain_idents.Goals as goal
 
 pub loop-name-init : goal.loop-name-init
@@ -14,11 +14,14 @@ loop-name-init c = record {
 pub plain_ident-requires-clause-stem : goal.plain_ident-requires-clause-stem
 plain_ident-requires-clause-stem c = none_stemmed c.args.names.now c.loop-name.name-index _ _ c.requires.stem c.loop-name-test.true refl
 
+pub plain_ident-requires-clause-can : goal.plain_ident-requires-clause-can
+plain_ident-requires-clause-can c = λ own. and_left _ _ (sym c.is_own-is_own.ensures ∙ own)
+
 pub plain_ident-requires-clause-few : goal.plain_ident-requires-clause-few
 plain_ident-requires-clause-few c = let within = c.loop-name-test.true in let step = c.loop-name.invariant.few in omega (arith, c.requires.few, within, step)
 
 pub loop-name-preserved : goal.loop-name-preserved
-loop-name-preserved c = let found = c.in_ok-ident.ensures in let pushed = c.in_ok-push.ensures.added in record {
+loop-name-preserved c = let name = (get_or c.args.names.now c.loop-name.name-index (record { ref_ptr = (0, 0); now = [] })).now in let found = c.in_ok-ident.ensures c.loop-name.idents (told_own c.loop-name.idents c.items.result.now name c.is_own-is_own.result c.items.ensures c.is_own-is_own.ensures) c.loop-name.invariant.plain in let pushed = c.in_ok-push.ensures.added in record {
   first = first_more c.args.names.now c.loop-name.name-index _ _ _ _ _ c.loop-name-test.true refl c.loop-name.invariant.first found.fits found.new pushed;
   plain = subst (λ l. IsPlain l c.in_ok-ident.next) (sym pushed) found.plain;
   few = let before = c.loop-name.invariant.few in let step = found.step in omega (arith, before, step);

@@ -3,4 +3,4 @@ use Rattle.edif_values.specs.declared.library.LibraryItem.TheVariants as library
 use Rattle.to_edif.proofs.file.library_items.Given as goal
 
 abbrev pub invariant-loop-cell : goal.invariant-loop-cell
-invariant-loop-cell l = l.items ≡ map library_items.Cell l.yielded
+invariant-loop-cell l = l.items.items ≡ map library_items.Cell l.yielded
