@@ -1,5 +1,5 @@
 -- What lasts in a loop.
-use Rattle.std.proofs.Common.{◌≡◌, ◌≤◌}
+use Rattle.std.proofs.Common.{◌≡◌, ◌≤◌, ◌+◌, ℕ}
 use Rattle.readers.specs.Parts.{PartOf}
 use Rattle.nl_io.specs.Sources.{Supply}
 use Rattle.readers.specs.Sources.{Language, Moves}
@@ -19,3 +19,13 @@ pub record GoesContext {K X A : Type 0} (L : Language X) (part : K → PartOf K 
   pub moves : Moves start.window now.window i j
   pub spent : now.spent ≡ start.spent
   pub room : room now ≤ room start
+
+-- The same of a loop that makes a list: what is known of its items, and how many there are in all their lists.
+pub record Collects {K X A : Type 0} (L : Language X) (whole rest : PartOf K X A) (Good : Type 0) (size : ℕ) (now start : Reader K X) (j i : Supply) : Type 0 where
+  pub same : reading L rest start.context (stream L now j) ≡ reading L whole start.context (stream L start i)
+  pub context : now.context ≡ start.context
+  pub moves : Moves start.window now.window i j
+  pub spent : now.spent ≡ start.spent
+  -- each item has a token of its own
+  pub room : size + room now ≤ room start
+  pub good : Good

@@ -1,5 +1,5 @@
 -- What a reader of a part answers, and what it leaves.
-use Rattle.std.specs.Prelude.{◌≡◌, ℕ, ◌+◌, ◌-◌, ◌*◌, ◌≤◌, ◌<◌, ◌↔◌, Bool, true, false, List, [], ◌∷◌, ◌++◌, Option, Some, None, option_map, Result, Ok, Err, is_err, IfOk, IfErr, OnOk, if◌then◌else◌, IsTrue, IsFalse, is_some}
+use Rattle.std.specs.Prelude.{◌≡◌, ℕ, ◌+◌, ◌-◌, ◌≤◌, ◌<◌, ◌↔◌, Bool, true, false, List, [], ◌∷◌, ◌++◌, Option, Some, None, option_map, Result, Ok, Err, is_err, IfOk, IfErr, OnOk, if◌then◌else◌, IsTrue, IsFalse, is_some}
 use Rattle.std.specs.Io.KnownBytes.{IsAtEnd}
 use Rattle.grammar.specs.Part.{Glance}
 use Rattle.grammar.specs.Reading.{Stop, refused, ended}
@@ -165,9 +165,10 @@ abbrev pub one_if : {X : Type 0} → Option X → ℕ
 one_if None = 0
 one_if (Some x) = 1
 
--- how much may still be read: the measure of every loop
+-- How many tokens may still be taken, each of at least one byte: the measure of every loop. A call after which the room is less by n took at least n
+-- tokens, or used bytes in their place.
 unfoldable pub room : {K X : Type 0} → Reader K X → ℕ
-room c = 2 * (LIMIT + 1 - c.window.place.offset) + one_if c.ahead
+room c = LIMIT + 1 - c.window.place.offset + one_if c.ahead
 
 -- A call of a reader gives a value or an error as told, and has the causes of every call.
 pub record Calls {K X V : Type 0} (result : Result V ReadError) (old new : Reader K X) (i j : Supply) (Value : V → Type 0) (Error : ReadError → Type 0) : Type 0 where
