@@ -17,7 +17,7 @@ use Rattle.to_verilog_rules.specs.Rules.{first_V}
 use Rattle.vlog_design.specs.Names.{Name}
 use Rattle.vlog_kept.proofs.Modules.{file_is_value}
 use Rattle.vlog_kept.proofs.SizeLaw.{file_within}
-use Rattle.vlog_kept.specs.Proper.{AreBytes}
+use Rattle.vlog_tokens.specs.Proper.{AreBytes}
 use Rattle.netlist_words.specs.declared.command.Command.{Command}
 use Rattle.netlist_words.specs.declared.command.Command.TheVariants as commands
 use Rattle.netlist_cli.specs.Meanings.{IsEdifOf, IsFlatEdifOf, IsFlatVerilogOf, FlattensNoVerilog, IsVerilogOf, Judgement, SaysFlattened, any_design, edif, edif_first, flat_rules, meaning_of, no_input, of_design, params_of, plain_target, spice_rules, verilog, verilog_first}

@@ -3,7 +3,7 @@ ghost use Rattle.std.specs.Prelude.{◌≡◌, ℕ, List};
 ghost use Rattle.netlist_words.specs.declared.command.Command.{Command as CommandValue};
 ghost use Rattle.netlist_cli.specs.Meanings.{FlattensNoVerilog, meaning_of};
 ghost use Rattle.netlist_cli.specs.Outcomes.{Verdict};
-ghost use Rattle.vlog_kept.specs.Proper.{AreBytes};
+ghost use Rattle.vlog_tokens.specs.Proper.{AreBytes};
 
 /// For each command at most one thing is said of a file. It cannot be that nothing is said: of no file
 /// by a command that does not flatten a Verilog file, and by no command of a file that bytes read as.

@@ -16,7 +16,7 @@ use Rattle.vlog_values.specs.declared.literal.Base.TheVariants.{Binary, Octal, D
 use Rattle.vlog_values.specs.declared.literal.Based.{Based}
 use Rattle.vlog_tokens.specs.declared.token.VToken.{VToken}
 use Rattle.vlog_tokens.specs.declared.token.VToken.TheVariants as t
-use Rattle.vlog_kept.specs.Proper.{AreBytes}
+use Rattle.vlog_tokens.specs.Proper.{AreBytes}
 use Rattle.vlog_writer.specs.Spelling.{is_bare, is_simple, named, is_plain, octal, escape_of, string_byte, written}
 use Rattle.vlog_lexing.specs.Tokens.{is_punctuation}
 use Rattle.vlog_goes_on.specs.GoesOn.{is_operator, IsDirective, IsOfBytes}

@@ -23,7 +23,7 @@ use Rattle.readers.specs.Sources.{Ahead, only_end}
 use Rattle.vlog_tokens.specs.declared.token.VFound.{VFound}
 use Rattle.vlog_tokens.specs.declared.token.VToken.{VToken}
 use Rattle.vlog_tokens.specs.Language.{vlog, tokens_from, all_tokens}
-use Rattle.vlog_kept.specs.Proper.{AreBytes}
+use Rattle.vlog_tokens.specs.Proper.{AreBytes}
 use Rattle.vlog_exprs.specs.Language.{NoContext}
 use Rattle.vlog_exprs.specs.Reasons.{trailing}
 use Rattle.vlog_values.specs.declared.module.VlogFile.{VlogFile}

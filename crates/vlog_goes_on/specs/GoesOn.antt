@@ -15,7 +15,7 @@ use Rattle.vlog_tokens.specs.declared.item.Item.TheVariants.{Token}
 use Rattle.vlog_tokens.specs.declared.token.VFound.{VFound}
 use Rattle.vlog_tokens.specs.declared.token.VToken.{VToken}
 use Rattle.vlog_tokens.specs.declared.token.VToken.TheVariants as token
-use Rattle.vlog_kept.specs.Proper.{IsPlainReal}
+use Rattle.vlog_tokens.specs.Proper.{IsPlainReal}
 use Rattle.vlog_exprs.specs.Reasons.{trailing}
 use Rattle.vlog_modules.specs.Grammar.{file}
 use Rattle.vlog_lexing.specs.Tokens.{IsWord, is_punctuation}

@@ -7,7 +7,7 @@ use Rattle.nl_base.specs.declared.place.Place.{Place}
 use Rattle.nl_bytes.specs.declared.bytes.TheConstants.{LIMIT}
 use Rattle.vlog_tokens.specs.declared.token.VFound.{VFound}
 use Rattle.vlog_tokens.specs.Language.{all_tokens}
-use Rattle.vlog_kept.specs.Proper.{AreBytes}
+use Rattle.vlog_tokens.specs.Proper.{AreBytes}
 use Rattle.vlog_values.specs.declared.module.VlogFile.{VlogFile}
 use Rattle.vlog_modules.specs.Text.{VlogReads}
 use Rattle.vlog_rereading.specs.Whole.{VlogSpells}

@@ -9,7 +9,7 @@ ghost use Rattle.nl_base.specs.declared.place.Place.{Place};
 ghost use Rattle.vlog_tokens.specs.declared.token.VFound.{VFound};
 ghost use Rattle.vlog_tokens.specs.declared.token.VToken.{VToken};
 ghost use Rattle.vlog_tokens.specs.Language.{all_tokens, vtokens};
-ghost use Rattle.vlog_kept.specs.Proper.{AreBytes};
+ghost use Rattle.vlog_tokens.specs.Proper.{AreBytes};
 ghost use Rattle.vlog_exprs.specs.Reasons.{trailing};
 ghost use Rattle.vlog_lexing.specs.Lexing.{Lexes};
 ghost use Rattle.vlog_modules.specs.Grammar.{file as file_part};

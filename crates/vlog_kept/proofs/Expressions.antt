@@ -28,7 +28,7 @@ use Rattle.vlog_exprs.specs.declared.start.ConstStart.TheVariants as const_start
 use Rattle.vlog_exprs.specs.Language.{Vlog}
 use Rattle.vlog_exprs.specs.Reasons as say
 use Rattle.vlog_exprs.specs.Grammar.{mark, group_end, bound_number, bound, range_rest, maybe_range, select_rest, select, digits, expr_of_number, sized, const_of_number, sized_const, expr_start, expr_rest, expr_by, cat_rest, rep_rest, braced, inside, expr, maybe_expr, const_start, signed, const_rest, constant, attr_value, attr, group, groups, attrs}
-use Rattle.vlog_kept.specs.Proper.{IsProper}
+use Rattle.vlog_tokens.specs.Proper.{IsProper}
 use Rattle.vlog_kept.proofs.Digits.{both}
 use Rattle.vlog_kept.proofs.Tokens.{neg_abs}
 use Rattle.vlog_kept.proofs.Kept.{Kept, kept_gives, kept_then, kept_after, kept_weaker, kept_one, kept_if, kept_while, kept_name, kept_mark, some_push, kept_commas, kept_list}

@@ -17,7 +17,7 @@ use Rattle.vlog_tokens.specs.declared.token.VToken.TheVariants as token
 use Rattle.vlog_exprs.specs.Language.{NoContext, Vlog}
 use Rattle.vlog_exprs.specs.Reasons as say
 use Rattle.vlog_exprs.specs.Grammar.{name, after, commas, list}
-use Rattle.vlog_kept.specs.Proper.{IsProper, AreSound}
+use Rattle.vlog_tokens.specs.Proper.{IsProper, AreSound}
 
 -- What the part spells from tokens of a text is good.
 pub record Kept {A : Type 0} (part : Vlog A) (Good : A → Type 0) : Type 0 where

@@ -26,7 +26,7 @@ use Rattle.vlog_items.specs.declared.item.ItemWord.{ItemWord}
 use Rattle.vlog_items.specs.Grammar.{signed, port_kind, item_words}
 use Rattle.vlog_modules.specs.Text.{VlogReads}
 use Rattle.vlog_modules.specs.Grammar.{dir_words, port_rest, port_decl, with_name, with_decl, port_turn, port_decls, name_header, decl_header, some_header, header, param_group, with_set, with_group, more_set, param_turn, param_groups, params_rest, params, ItemStart, at_group, at_module_name, at_word, word_start, at_item, item_rest, items, module_rest, module_of, net_type, directive_of, directive, with_module, with_implicit, PieceStart, at_piece, piece_rest, pieces, file}
-use Rattle.vlog_kept.specs.Proper.{AreBytes, IsProper}
+use Rattle.vlog_tokens.specs.Proper.{AreBytes, IsProper}
 use Rattle.vlog_kept.proofs.Tokens.{tokens_sound}
 use Rattle.vlog_kept.proofs.Kept.{Kept, kept_gives, kept_then, kept_after, kept_if, kept_while, kept_name, taken_name_is, kept_mark, some_push, kept_commas}
 use Rattle.vlog_kept.proofs.Starts.{PortDecls, ParamGroups, SoFar, choose, piece_cases}

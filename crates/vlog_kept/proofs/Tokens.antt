@@ -37,7 +37,7 @@ use Rattle.vlog_tokens.specs.Scanning.{Lexeme, scan_at, kept}
 use Rattle.vlog_tokens.specs.Strings.{Within, Parts, Escape, Code, is_octal, escaped_by, is_full, part_by, escape_by, with_code, string_at}
 use Rattle.vlog_tokens.specs.Spelling.{lexeme_spelled, str_of, comment_at, pair_by, slash_by, is_mark, is_symbol, start_of, item_by, item_at}
 use Rattle.vlog_tokens.specs.Language.{then_tokens, then_items, tokens_from, limited_finish, limited_from, limited, stream_from, with_line}
-use Rattle.vlog_kept.specs.Proper.{AreBytes, IsPlainReal, IsProper, AreSound}
+use Rattle.vlog_tokens.specs.Proper.{AreBytes, IsPlainReal, IsProper, AreSound}
 use Rattle.vlog_kept.proofs.Lexemes.{IsSoFar, IsScanned, letter_bounds, name_of_one, scan_good, based_digits, based_open}
 
 -- ---- numbers

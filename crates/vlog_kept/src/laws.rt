@@ -6,7 +6,7 @@ ghost use Rattle.vlog_values.specs.Sizes.{vlog_size};
 ghost use Rattle.vlog_values.specs.Values.{IsVlogValue};
 ghost use Rattle.vlog_tokens.specs.Language.{vtokens};
 ghost use Rattle.vlog_modules.specs.Text.{VlogReads};
-ghost use Rattle.vlog_kept.specs.Proper.{AreBytes, AreSound};
+ghost use Rattle.vlog_tokens.specs.Proper.{AreBytes, AreSound};
 
 /// Each token of a text of bytes is one that a text can have: names, numbers, reals, based digits and strings are within their limits.
 pub fn tokens_are_sound()

@@ -4,7 +4,7 @@ ghost use Rattle.nl_bytes.specs.declared.bytes.TheConstants.{LIMIT};
 ghost use Rattle.vlog_values.specs.Values.{IsVlogValue};
 ghost use Rattle.vlog_values.specs.declared.module.VlogFile.{VlogFile};
 ghost use Rattle.vlog_modules.specs.Text.{VlogReads};
-ghost use Rattle.vlog_kept.specs.Proper.{AreBytes};
+ghost use Rattle.vlog_tokens.specs.Proper.{AreBytes};
 ghost use Rattle.vlog_writer.specs.Forms.{vlog_text};
 ghost use Rattle.vlog_rereading.specs.Whole.{VlogSpells};
 

@@ -4,7 +4,7 @@ ghost use Rattle.nl_bytes.specs.declared.bytes.TheConstants.{LIMIT};
 ghost use Rattle.vlog_values.specs.declared.module.VlogFile.{VlogFile};
 ghost use Rattle.vlog_values.specs.Sizes.{vlog_size};
 ghost use Rattle.vlog_modules.specs.Text.{VlogReads};
-ghost use Rattle.vlog_kept.specs.Proper.{AreBytes};
+ghost use Rattle.vlog_tokens.specs.Proper.{AreBytes};
 ghost use Rattle.vlog_sound.specs.Checks.{is_value};
 
 /// A file that some bytes read as passes both tests of `read_sound_vlog`: it has at most 268,435,456 items, and where each byte is below

@@ -10,3 +10,4 @@ pub mod Parts
 pub mod Language
 pub mod Finding
 pub mod Held
+pub mod Proper
