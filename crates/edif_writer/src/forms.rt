@@ -17,7 +17,7 @@ pub trait OnLine {
 
     /// Puts the text of the form.
     fn write<O: Sink>(&self, output: &mut Output, sink: &mut O)
-        ensures { Puts (inline (form self.now)) (state O.taken O.accepts O.faults sink.old output.old) (state O.taken O.accepts O.faults sink.new output.new) };
+        ensures { Puts (inline (form self.now)) (state O.receipt sink.old output.old) (state O.receipt sink.new output.new) };
 }
 
 /// What stands on lines of its own.
@@ -31,13 +31,13 @@ pub trait OnLines {
     /// Puts the lines, at an indent of so many blanks.
     fn lay<O: Sink>(&self, indent: usize, output: &mut Output, sink: &mut O)
         requires { indent + depth ≤ 16 }
-        ensures { Puts (laid indent (block self.now)) (state O.taken O.accepts O.faults sink.old output.old) (state O.taken O.accepts O.faults sink.new output.new) };
+        ensures { Puts (laid indent (block self.now)) (state O.receipt sink.old output.old) (state O.receipt sink.new output.new) };
 }
 
 /// An indent of so many blanks.
 pub(crate) fn put_indent<O: Sink>(indent: usize, output: &mut Output, sink: &mut O)
     requires { indent ≤ 16 }
-    ensures { Puts (λ rest. blanks indent ++ rest) (state O.taken O.accepts O.faults sink.old output.old) (state O.taken O.accepts O.faults sink.new output.new) }
+    ensures { Puts (λ rest. blanks indent ++ rest) (state O.receipt sink.old output.old) (state O.receipt sink.new output.new) }
 {
     let (blanks, _) = BLANKS.split_at(indent);
     output.put(blanks, sink);
@@ -46,7 +46,7 @@ pub(crate) fn put_indent<O: Sink>(indent: usize, output: &mut Output, sink: &mut
 /// A line of these bytes.
 pub(crate) fn put_line<O: Sink>(indent: usize, bytes: &[u8], output: &mut Output, sink: &mut O)
     requires { indent ≤ 16 }
-    ensures { Puts (λ rest. blanks indent ++ (bytes.now ++ (10 ∷ rest))) (state O.taken O.accepts O.faults sink.old output.old) (state O.taken O.accepts O.faults sink.new output.new) }
+    ensures { Puts (λ rest. blanks indent ++ (bytes.now ++ (10 ∷ rest))) (state O.receipt sink.old output.old) (state O.receipt sink.new output.new) }
 {
     put_indent(indent, output, sink);
     output.put(bytes, sink);
@@ -62,7 +62,7 @@ pub(crate) fn open_block<O: Sink>(
     sink: &mut O,
 )
     requires { indent ≤ 16 }
-    ensures { Puts (λ rest. blanks indent ++ (bytes.now ++ inline (name_form name.now) (10 ∷ rest))) (state O.taken O.accepts O.faults sink.old output.old) (state O.taken O.accepts O.faults sink.new output.new) }
+    ensures { Puts (λ rest. blanks indent ++ (bytes.now ++ inline (name_form name.now) (10 ∷ rest))) (state O.receipt sink.old output.old) (state O.receipt sink.new output.new) }
 {
     put_indent(indent, output, sink);
     output.put(bytes, sink);
@@ -78,7 +78,7 @@ pub(crate) fn write_line<T: OnLine, O: Sink>(
     sink: &mut O,
 )
     requires { indent ≤ 16 }
-    ensures { Puts (laid indent (Flat (T.form form.now))) (state O.taken O.accepts O.faults sink.old output.old) (state O.taken O.accepts O.faults sink.new output.new) }
+    ensures { Puts (laid indent (Flat (T.form form.now))) (state O.receipt sink.old output.old) (state O.receipt sink.new output.new) }
 {
     put_indent(indent, output, sink);
     form.write(output, sink);
@@ -87,7 +87,7 @@ pub(crate) fn write_line<T: OnLine, O: Sink>(
 
 /// Forms, each after a blank.
 pub(crate) fn write_each<T: OnLine, O: Sink>(items: &[T], output: &mut Output, sink: &mut O)
-    ensures { Puts (spaced (each T.form items.now)) (state O.taken O.accepts O.faults sink.old output.old) (state O.taken O.accepts O.faults sink.new output.new) }
+    ensures { Puts (spaced (each T.form items.now)) (state O.receipt sink.old output.old) (state O.receipt sink.new output.new) }
 {
     for item in items {
         output.put(b" ", sink);
@@ -103,7 +103,7 @@ pub(crate) fn lay_each<T: OnLines, O: Sink>(
     sink: &mut O,
 )
     requires { indent + T.depth ≤ 16 }
-    ensures { Puts (lines indent (all T.block items.now)) (state O.taken O.accepts O.faults sink.old output.old) (state O.taken O.accepts O.faults sink.new output.new) }
+    ensures { Puts (lines indent (all T.block items.now)) (state O.receipt sink.old output.old) (state O.receipt sink.new output.new) }
 {
     for item in items {
         item.lay(indent, output, sink);

@@ -44,7 +44,7 @@ impl OnLine for PortName {
 
 /// Strings in a comment.
 pub(crate) fn write_comment<O: Sink>(texts: &Seq<Text>, output: &mut Output, sink: &mut O)
-    ensures { Puts (inline (comment_form texts.now)) (state O.taken O.accepts O.faults sink.old output.old) (state O.taken O.accepts O.faults sink.new output.new) }
+    ensures { Puts (inline (comment_form texts.now)) (state O.receipt sink.old output.old) (state O.receipt sink.new output.new) }
 {
     output.put(b"(comment", sink);
     write_each(texts.items(), output, sink);

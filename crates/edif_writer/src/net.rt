@@ -14,7 +14,7 @@ use nl_output::Output;
 
 /// A direction.
 fn write_direction<O: Sink>(dir: Dir, output: &mut Output, sink: &mut O)
-    ensures { Puts (inline (with_part k.Direction (dir_form dir))) (state O.taken O.accepts O.faults sink.old output.old) (state O.taken O.accepts O.faults sink.new output.new) }
+    ensures { Puts (inline (with_part k.Direction (dir_form dir))) (state O.receipt sink.old output.old) (state O.receipt sink.new output.new) }
 {
     match dir {
         Dir::Input => output.put(b"(direction INPUT)", sink),
@@ -25,7 +25,7 @@ fn write_direction<O: Sink>(dir: Dir, output: &mut Output, sink: &mut O)
 
 /// A designator.
 pub(crate) fn write_designator<O: Sink>(text: &Text, output: &mut Output, sink: &mut O)
-    ensures { Puts (inline (designator_form text.now)) (state O.taken O.accepts O.faults sink.old output.old) (state O.taken O.accepts O.faults sink.new output.new) }
+    ensures { Puts (inline (designator_form text.now)) (state O.receipt sink.old output.old) (state O.receipt sink.new output.new) }
 {
     output.put(b"(designator ", sink);
     text.write(output, sink);
@@ -63,7 +63,7 @@ pub(crate) fn write_cell_ref<O: Sink>(
     output: &mut Output,
     sink: &mut O,
 )
-    ensures { Puts (inline (cell_ref_form cell.now library.now)) (state O.taken O.accepts O.faults sink.old output.old) (state O.taken O.accepts O.faults sink.new output.new) }
+    ensures { Puts (inline (cell_ref_form cell.now library.now)) (state O.receipt sink.old output.old) (state O.receipt sink.new output.new) }
 {
     output.put(b"(cellRef ", sink);
     cell.write(output, sink);
@@ -77,7 +77,7 @@ pub(crate) fn write_cell_ref<O: Sink>(
 
 /// The view that an instance is of.
 fn write_view_ref<O: Sink>(instance: &Instance, output: &mut Output, sink: &mut O)
-    ensures { Puts (inline (view_ref_form instance.now)) (state O.taken O.accepts O.faults sink.old output.old) (state O.taken O.accepts O.faults sink.new output.new) }
+    ensures { Puts (inline (view_ref_form instance.now)) (state O.receipt sink.old output.old) (state O.receipt sink.new output.new) }
 {
     output.put(b"(viewRef ", sink);
     instance.view.write(output, sink);
@@ -103,7 +103,7 @@ impl OnLines for InstanceItem {
 /// A designator on a line of its own.
 pub(crate) fn lay_designator<O: Sink>(text: &Text, indent: usize, output: &mut Output, sink: &mut O)
     requires { indent ≤ 16 }
-    ensures { Puts (laid indent (Flat (designator_form text.now))) (state O.taken O.accepts O.faults sink.old output.old) (state O.taken O.accepts O.faults sink.new output.new) }
+    ensures { Puts (laid indent (Flat (designator_form text.now))) (state O.receipt sink.old output.old) (state O.receipt sink.new output.new) }
 {
     put_indent(indent, output, sink);
     write_designator(text, output, sink);
@@ -113,7 +113,7 @@ pub(crate) fn lay_designator<O: Sink>(text: &Text, indent: usize, output: &mut O
 /// The view that an instance is of, on a line of its own.
 fn lay_view_ref<O: Sink>(instance: &Instance, indent: usize, output: &mut Output, sink: &mut O)
     requires { indent ≤ 16 }
-    ensures { Puts (laid indent (Flat (view_ref_form instance.now))) (state O.taken O.accepts O.faults sink.old output.old) (state O.taken O.accepts O.faults sink.new output.new) }
+    ensures { Puts (laid indent (Flat (view_ref_form instance.now))) (state O.receipt sink.old output.old) (state O.receipt sink.new output.new) }
 {
     put_indent(indent, output, sink);
     write_view_ref(instance, output, sink);
@@ -135,7 +135,7 @@ impl OnLines for Instance {
 
 /// A port, or a member of an array of ports.
 fn write_member<O: Sink>(port: &Ident, member: &Option<Int>, output: &mut Output, sink: &mut O)
-    ensures { Puts (inline (member_form port.now member.now)) (state O.taken O.accepts O.faults sink.old output.old) (state O.taken O.accepts O.faults sink.new output.new) }
+    ensures { Puts (inline (member_form port.now member.now)) (state O.receipt sink.old output.old) (state O.receipt sink.new output.new) }
 {
     match member {
         None => port.write(output, sink),
@@ -151,7 +151,7 @@ fn write_member<O: Sink>(port: &Ident, member: &Option<Int>, output: &mut Output
 
 /// A reference to an instance, after a blank, if one is named.
 fn write_instance_ref<O: Sink>(instance: &Option<Ident>, output: &mut Output, sink: &mut O)
-    ensures { Puts (spaced (instance_ref_forms instance.now)) (state O.taken O.accepts O.faults sink.old output.old) (state O.taken O.accepts O.faults sink.new output.new) }
+    ensures { Puts (spaced (instance_ref_forms instance.now)) (state O.receipt sink.old output.old) (state O.receipt sink.new output.new) }
 {
     if let Some(name) = instance {
         output.put(b" (instanceRef ", sink);

@@ -50,7 +50,7 @@ impl OnLine for Scaled {
 
 /// `(true)` or `(false)`.
 fn write_flag<O: Sink>(flag: bool, output: &mut Output, sink: &mut O)
-    ensures { Puts (inline (flag_form flag)) (state O.taken O.accepts O.faults sink.old output.old) (state O.taken O.accepts O.faults sink.new output.new) }
+    ensures { Puts (inline (flag_form flag)) (state O.receipt sink.old output.old) (state O.receipt sink.new output.new) }
 {
     if flag {
         output.put(b"(true)", sink);

@@ -34,8 +34,8 @@ fn int_of(index: i32) -> Int
 fn put_index<O: Sink>(range: Option<Range>, bit: u32, output: &mut Output, sink: &mut O)
     requires { bit < width_of range }
     ensures { Puts (index_then range bit)
-        (state O.taken O.accepts O.faults sink.old output.old)
-        (state O.taken O.accepts O.faults sink.new output.new) }
+        (state O.receipt sink.old output.old)
+        (state O.receipt sink.new output.new) }
 {
     if let Some(range) = range {
         output.put(b" ", sink);
@@ -47,8 +47,8 @@ fn put_index<O: Sink>(range: Option<Range>, bit: u32, output: &mut Output, sink:
 fn put_bit<O: Sink>(port: &HPort, bit: u32, output: &mut Output, sink: &mut O)
     requires { bit < width_of port.now.range }
     ensures { Puts (bit_then port.now bit)
-        (state O.taken O.accepts O.faults sink.old output.old)
-        (state O.taken O.accepts O.faults sink.new output.new) }
+        (state O.receipt sink.old output.old)
+        (state O.receipt sink.new output.new) }
 {
     write_string(port.name.bytes(), output, sink);
     put_index(port.range, bit, output, sink);
@@ -78,8 +78,8 @@ fn put_port_bit<O: Sink>(
     requires { (cell : CellValue) × CellOf hier.now.cells spots.now spot cell ×
         IsPortBit cell port bit }
     ensures { Puts (port_then (port_of hier.now.cells spots.now spot port) bit)
-        (state O.taken O.accepts O.faults sink.old output.old)
-        (state O.taken O.accepts O.faults sink.new output.new) }
+        (state O.receipt sink.old output.old)
+        (state O.receipt sink.new output.new) }
 {
     let port = port_at(hier, spots, spot, port);
     put_bit(port, bit, output, sink);
@@ -102,8 +102,8 @@ fn put_pin<O: Sink>(
     requires room { length spots.now ≤ length room.old }
     ensures { (paths : List Path) → ArePaths hier.now.cells spots.now paths →
         Puts (words_then hier.now.cells spots.now paths (Pin spot port bit))
-        (state O.taken O.accepts O.faults sink.old output.old)
-        (state O.taken O.accepts O.faults sink.new output.new) }
+        (state O.receipt sink.old output.old)
+        (state O.receipt sink.new output.new) }
 {
     output.put(b"  pin ", sink);
     put_path(hier, spots, spot, room, output, sink);
@@ -125,8 +125,8 @@ fn put_words<O: Sink>(
     requires room { length spots.now ≤ length room.old }
     ensures { (paths : List Path) → ArePaths hier.now.cells spots.now paths →
         Puts (words_then hier.now.cells spots.now paths terminal)
-        (state O.taken O.accepts O.faults sink.old output.old)
-        (state O.taken O.accepts O.faults sink.new output.new) }
+        (state O.receipt sink.old output.old)
+        (state O.receipt sink.new output.new) }
 {
     match terminal {
         Terminal::Port { port, bit } => {
@@ -155,8 +155,8 @@ pub fn put_terminal<O: Sink>(
     requires room { length spots.now ≤ length room.old }
     ensures { (paths : List Path) → ArePaths hier.now.cells spots.now paths →
         Puts (terminal_then hier.now.cells spots.now paths (Some terminal))
-        (state O.taken O.accepts O.faults sink.old output.old)
-        (state O.taken O.accepts O.faults sink.new output.new) }
+        (state O.receipt sink.old output.old)
+        (state O.receipt sink.new output.new) }
 {
     put_words(hier, spots, terminal, room, output, sink);
     output.put(b"\n", sink);
@@ -176,8 +176,8 @@ pub fn put_terminals<O: Sink>(
     requires room { length flat.now.spots ≤ length room.old }
     ensures { (paths : List Path) → ArePaths hier.now.cells flat.now.spots paths →
         Puts (terminals_then hier.now.cells flat.now.spots paths flat.now.terminals places.now)
-        (state O.taken O.accepts O.faults sink.old output.old)
-        (state O.taken O.accepts O.faults sink.new output.new) }
+        (state O.receipt sink.old output.old)
+        (state O.receipt sink.new output.new) }
 {
     let spots = flat.spots();
     for place in places {
@@ -189,8 +189,8 @@ pub fn put_terminals<O: Sink>(
 /// Puts a word, a blank and a number as a line.
 pub fn put_count<O: Sink>(word: &[u8], count: usize, output: &mut Output, sink: &mut O)
     ensures { Puts (count_then word.now count)
-        (state O.taken O.accepts O.faults sink.old output.old)
-        (state O.taken O.accepts O.faults sink.new output.new) }
+        (state O.receipt sink.old output.old)
+        (state O.receipt sink.new output.new) }
 {
     output.put(word, sink);
     output.put(b" ", sink);
@@ -201,8 +201,8 @@ pub fn put_count<O: Sink>(word: &[u8], count: usize, output: &mut Output, sink: 
 /// Puts the line of a design.
 pub fn put_design<O: Sink>(hier: &Hier, output: &mut Output, sink: &mut O)
     ensures { Puts (design_then (slice_get hier.now.cells hier.now.top))
-        (state O.taken O.accepts O.faults sink.old output.old)
-        (state O.taken O.accepts O.faults sink.new output.new) }
+        (state O.receipt sink.old output.old)
+        (state O.receipt sink.new output.new) }
 {
     let cells = hier.cells();
     output.put(b"design ", sink);

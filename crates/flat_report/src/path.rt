@@ -45,8 +45,8 @@ fn instance_name<'a>(hier: &'a Hier, spots: &[Spot], spot: u32) -> &'a [u8]
 fn put_above<O: Sink>(hier: &Hier, spots: &[Spot], above: &[u32], output: &mut Output, sink: &mut O)
     requires { AreInner hier.now.cells spots.now above.now }
     ensures { Puts (names_then (map (instance_name hier.now.cells spots.now) above.now))
-        (state O.taken O.accepts O.faults sink.old output.old)
-        (state O.taken O.accepts O.faults sink.new output.new) }
+        (state O.receipt sink.old output.old)
+        (state O.receipt sink.new output.new) }
 {
     let mut place = above.len();
     while place > 0 {
@@ -60,8 +60,8 @@ fn put_above<O: Sink>(hier: &Hier, spots: &[Spot], above: &[u32], output: &mut O
 fn put_way<O: Sink>(hier: &Hier, spots: &[Spot], way: &[u32], output: &mut Output, sink: &mut O)
     requires { AreInner hier.now.cells spots.now way.now }
     ensures { Puts (path_then (map (instance_name hier.now.cells spots.now) way.now))
-        (state O.taken O.accepts O.faults sink.old output.old)
-        (state O.taken O.accepts O.faults sink.new output.new) }
+        (state O.receipt sink.old output.old)
+        (state O.receipt sink.new output.new) }
 {
     if let [spot, above @ ..] = way {
         put_above(hier, spots, above, output, sink);
@@ -85,8 +85,8 @@ pub fn put_path<O: Sink>(
     requires spot { spot < length spots.now }
     requires room { length spots.now ≤ length room.old }
     ensures { (path : Path) → IsSpotOf hier.now.cells spots.now path spot → Puts (path_then path)
-        (state O.taken O.accepts O.faults sink.old output.old)
-        (state O.taken O.accepts O.faults sink.new output.new) }
+        (state O.receipt sink.old output.old)
+        (state O.receipt sink.new output.new) }
 {
     let _cells = hier.cells();
     let count = way_up(spots, spot, room);

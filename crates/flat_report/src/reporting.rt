@@ -53,8 +53,8 @@ fn put_leaf<O: Sink>(
     requires room { length spots.now ≤ length room.old }
     ensures { (paths : List Path) → ArePaths hier.now.cells spots.now paths →
         Puts (leaf_then hier.now.cells spots.now paths leaf)
-        (state O.taken O.accepts O.faults sink.old output.old)
-        (state O.taken O.accepts O.faults sink.new output.new) }
+        (state O.receipt sink.old output.old)
+        (state O.receipt sink.new output.new) }
 {
     let cells = hier.cells();
     output.put(b"leaf ", sink);
@@ -79,8 +79,8 @@ fn put_leaves<O: Sink>(
     requires room { length spots.now ≤ length room.old }
     ensures { (paths : List Path) → ArePaths hier.now.cells spots.now paths →
         Puts (leaves_then hier.now.cells spots.now paths leaves.now)
-        (state O.taken O.accepts O.faults sink.old output.old)
-        (state O.taken O.accepts O.faults sink.new output.new) }
+        (state O.receipt sink.old output.old)
+        (state O.receipt sink.new output.new) }
 {
     for leaf in leaves {
         put_leaf(hier, spots, *leaf, room, output, sink);
@@ -118,8 +118,8 @@ pub fn put_net<O: Sink>(
     requires room { length flat.now.spots ≤ length room.old }
     ensures { (paths : List Path) → ArePaths hier.now.cells flat.now.spots paths →
         Puts (net_then hier.now.cells flat.now.spots paths flat.now.terminals places.now)
-        (state O.taken O.accepts O.faults sink.old output.old)
-        (state O.taken O.accepts O.faults sink.new output.new) }
+        (state O.receipt sink.old output.old)
+        (state O.receipt sink.new output.new) }
 {
     if !has_two(places) {
         return;
@@ -144,8 +144,8 @@ fn put_nets<O: Sink>(
     ensures { (paths : List Path) → ArePaths hier.now.cells flat.now.spots paths →
         Puts (nets_then hier.now.cells flat.now.spots paths flat.now.terminals
         (map (λ list. list.items) members.now))
-        (state O.taken O.accepts O.faults sink.old output.old)
-        (state O.taken O.accepts O.faults sink.new output.new) }
+        (state O.receipt sink.old output.old)
+        (state O.receipt sink.new output.new) }
 {
     for places in members {
         put_net(hier, flat, places.as_slice(), room, output, sink);
@@ -167,8 +167,8 @@ fn put_report<O: Sink>(
     requires room { length flat.now.spots ≤ length room.old }
     ensures { (paths : List Path) → ArePaths hier.now.cells flat.now.spots paths →
         Puts (report_then hier.now flat.now paths)
-        (state O.taken O.accepts O.faults sink.old output.old)
-        (state O.taken O.accepts O.faults sink.new output.new) }
+        (state O.receipt sink.old output.old)
+        (state O.receipt sink.new output.new) }
 {
     put_design(hier, output, sink);
     put_count(b"leaves", flat.leaves().len(), output, sink);
@@ -190,7 +190,7 @@ fn write_report<O: Sink>(
         (map (λ list. list.items) members.now) }
     requires room { length flat.now.spots ≤ length room.old }
     ensures { (paths : List Path) → ArePaths hier.now.cells flat.now.spots paths →
-        Writes O.taken O.accepts O.faults sink.old sink.new (report_then hier.now flat.now paths [])
+        Writes O.receipt sink.old sink.new (report_then hier.now flat.now paths [])
         result }
 {
     let mut output = Output::new();
@@ -215,7 +215,7 @@ pub fn report<O: Sink>(
     constants: &Constants,
     sink: &mut O,
 ) -> Result<(), ReportError>
-    ensures { Reports O.taken O.accepts O.faults constants.now hier.now sink.old sink.new result }
+    ensures { Reports O.receipt constants.now hier.now sink.old sink.new result }
 {
     let _cells = hier.cells();
     let flat = match Flat::of(alloc, hier, constants) {

@@ -59,8 +59,8 @@ fn put_sets<O: Sink>(
     ensures { (paths : List Path) → ArePaths hier.now.cells flat.now.spots paths →
         Puts (nets_then hier.now.cells flat.now.spots paths flat.now.terminals
         (sets_of flat.now.groups (map (λ list. list.items) drivers.now) firsts.now))
-        (state O.taken O.accepts O.faults sink.old output.old)
-        (state O.taken O.accepts O.faults sink.new output.new) }
+        (state O.receipt sink.old output.old)
+        (state O.receipt sink.new output.new) }
 {
     for first in firsts {
         let set = drivers[flat.group(*first) as usize].as_slice();
@@ -83,8 +83,8 @@ fn put_findings<O: Sink>(
     ensures { (paths : List Path) → ArePaths hier.now.cells flat.now.spots paths →
         Puts (lint_then hier.now flat.now paths found.now.undriven.items found.now.floating.items
         (several_in flat.now found.now))
-        (state O.taken O.accepts O.faults sink.old output.old)
-        (state O.taken O.accepts O.faults sink.new output.new) }
+        (state O.receipt sink.old output.old)
+        (state O.receipt sink.new output.new) }
 {
     let undriven = found.undriven.as_slice();
     let floating = found.floating.as_slice();
@@ -111,7 +111,7 @@ fn write_findings<O: Sink>(
     requires found { FindingsFit flat.now found.now }
     requires room { length flat.now.spots ≤ length room.old }
     ensures { (paths : List Path) → ArePaths hier.now.cells flat.now.spots paths →
-        Writes O.taken O.accepts O.faults sink.old sink.new (lint_then hier.now flat.now paths
+        Writes O.receipt sink.old sink.new (lint_then hier.now flat.now paths
         found.now.undriven.items found.now.floating.items (several_in flat.now found.now) [])
         result }
 {
@@ -129,7 +129,7 @@ pub fn lint<O: Sink>(
     constants: &Constants,
     sink: &mut O,
 ) -> Result<(), LintError>
-    ensures { Lints O.taken O.accepts O.faults constants.now hier.now sink.old sink.new result }
+    ensures { Lints O.receipt constants.now hier.now sink.old sink.new result }
 {
     let _cells = hier.cells();
     let flat = match Flat::of(alloc, hier, constants) {

@@ -1,6 +1,7 @@
 -- How a run ends, from what was done with the input and the output.
 use Rattle.std.proofs.Common.{◌≡◌, ◌≢◌, ◌↔◌, ◌⊎◌, inl, inr, ℕ, List, Option, Some, None, IfSome, Result, Ok, Err, refl, sym, ap, ◌∙◌, subst, arith}
 use Rattle.nl_io.specs.Causes.{Rose}
+use Rattle.nl_io.specs.Sinks.{Receipt}
 use Rattle.nl_io.specs.declared.source.Failed.{Failed}
 use Rattle.nl_io.specs.Sources.{Supply}
 use Rattle.readers.proofs.Moving.{skip_none}
@@ -60,17 +61,17 @@ said_of_bytes : (m : Meaning) (verdict : Verdict) (left : Option (List ℕ)) →
 said_of_bytes m verdict None h = tt
 said_of_bytes m verdict (Some bs) h = h
 
-module _ {O : Type 0} (taken : O → List ℕ → Type 0) (accepts : O → ℕ → Type 0) (faults : O → ℕ) (m : Meaning) (i j : Supply) (old new : O) where
+module _ {O : Type 0} (receipt : O → Receipt) (m : Meaning) (i j : Supply) (old new : O) where
   abbrev does : Result (Unit {0}) Failure → Type 0
-  does = Does taken accepts faults m i j old new
+  does = Does receipt m i j old new
 
   -- a text that may be written comes of a file with which nothing is wrong
-  gives_fine : (r : Result (Unit {0}) Failed) → PutsText taken accepts faults m i j old new r → IfSome i.left (λ bs. Gives m.question bs (judged fine))
+  gives_fine : (r : Result (Unit {0}) Failed) → PutsText receipt m i j old new r → IfSome i.left (λ bs. Gives m.question bs (judged fine))
   gives_fine r h = said_of_bytes m fine i.left (record { file = h.is_text.file; reads_as = h.is_text.reads_as; is_said = h.is_text.is_fine })
 
   -- ---- each status has its cause
 
-  pub done_so : (r : Result (Unit {0}) Failure) → does r → ending r ≡ statuses.Done → WroteText taken accepts faults m i j old new
+  pub done_so : (r : Result (Unit {0}) Failure) → does r → ending r ≡ statuses.Done → WroteText receipt m i j old new
   done_so (Ok u) h e = h
   done_so (Err (failures.Text f)) h e = absurd cc
   done_so (Err failures.ReadFault) h e = absurd cc
@@ -83,7 +84,7 @@ module _ {O : Type 0} (taken : O → List ℕ → Type 0) (accepts : O → ℕ �
   done_so (Err (failures.DesignLimit n)) h e = absurd cc
   done_so (Err (failures.FlatLimit n)) h e = absurd cc
 
-  pub broke_so : (r : Result (Unit {0}) Failure) → does r → ending r ≡ statuses.WriteFault → BrokeOff taken accepts faults m i j old new
+  pub broke_so : (r : Result (Unit {0}) Failure) → does r → ending r ≡ statuses.WriteFault → BrokeOff receipt m i j old new
   broke_so (Ok u) h e = absurd cc
   broke_so (Err (failures.Text f)) h e = absurd cc
   broke_so (Err failures.ReadFault) h e = absurd cc
@@ -137,12 +138,12 @@ module _ {O : Type 0} (taken : O → List ℕ → Type 0) (accepts : O → ℕ �
 
 -- ---- what the bytes are decides, from what was done
 
-module _ {O : Type 0} (taken : O → List ℕ → Type 0) (accepts : O → ℕ → Type 0) (faults : O → ℕ) (m : Meaning) (settled : IsSettled m.question) (i j : Supply) (old new : O) where
+module _ {O : Type 0} (receipt : O → Receipt) (m : Meaning) (settled : IsSettled m.question) (i j : Supply) (old new : O) where
   abbrev done : Result (Unit {0}) Failure → Type 0
-  done = Does taken accepts faults m i j old new
+  done = Does receipt m i j old new
 
-  puts_fine : (r : Result (Unit {0}) Failed) → PutsText taken accepts faults m i j old new r → IfSome i.left (λ bs. Gives m.question bs (judged fine))
-  puts_fine = gives_fine taken accepts faults m i j old new
+  puts_fine : (r : Result (Unit {0}) Failed) → PutsText receipt m i j old new r → IfSome i.left (λ bs. Gives m.question bs (judged fine))
+  puts_fine = gives_fine receipt m i j old new
 
   due_where : (o : Outcome) → IfSome i.left (λ bs. Gives m.question bs o) → IfSome i.left (λ bs. FitsBytes m bs (status_due o))
   due_where o h = if_told i.left (λ bs. Gives m.question bs o) (λ bs. FitsBytes m bs (status_due o)) h (λ bs. due_fits m settled bs o)
@@ -161,7 +162,7 @@ module _ {O : Type 0} (taken : O → List ℕ → Type 0) (accepts : O → ℕ �
   fits_bytes (Err (failures.FlatLimit n)) h = due_where (judged (exceeds_flat n)) (said_of_bytes m (exceeds_flat n) i.left h.0)
 
   abbrev failed : Type 0
-  failed = Rose (faults old) (faults new)
+  failed = Rose (receipt old).faults (receipt new).faults
 
   decided_where : (o : Outcome) → IfSome i.left (λ bs. Gives m.question bs o) → IfSome i.left (λ bs. IsDecided m bs failed (status_due o))
   decided_where o h = if_told i.left (λ bs. Gives m.question bs o) (λ bs. IsDecided m bs failed (status_due o)) h (λ bs. due_decided m settled bs failed o)
@@ -213,21 +214,21 @@ asked_fits words None h = tt
 asked_fits words (Some c) h = command_fits words c h
 
 -- What a run has done with the input and the output, by its status.
-pub record RunsTo {S O : Type 0} (supply : S → Supply) (taken : O → List ℕ → Type 0) (accepts : O → ℕ → Type 0) (faults : O → ℕ) (words : List (List ℕ)) (a b : S) (old new : O) (status : Status) : Type 0 where
-  pub done : status ≡ statuses.Done → IfCommand words (λ c. WroteText taken accepts faults (meaning_of c) (supply a) (supply b) old new)
-  pub write_fault : status ≡ statuses.WriteFault → IfCommand words (λ c. BrokeOff taken accepts faults (meaning_of c) (supply a) (supply b) old new)
+pub record RunsTo {S O : Type 0} (supply : S → Supply) (receipt : O → Receipt) (words : List (List ℕ)) (a b : S) (old new : O) (status : Status) : Type 0 where
+  pub done : status ≡ statuses.Done → IfCommand words (λ c. WroteText receipt (meaning_of c) (supply a) (supply b) old new)
+  pub write_fault : status ≡ statuses.WriteFault → IfCommand words (λ c. BrokeOff receipt (meaning_of c) (supply a) (supply b) old new)
   pub usage : (status ≡ statuses.Usage) ↔ IsNoCommand words
   pub unread : status ≡ statuses.Usage → b ≡ a
   pub leaves_input : IfCommand words (λ c. ReadsNothing c → LeavesInput a b status)
   pub unwritten : status ≢ statuses.Done → status ≢ statuses.WriteFault → new ≡ old
   pub exact : IfCommand words (λ c. IfSome (supply a).left (λ bs. FitsBytes (meaning_of c) bs status))
-  pub complete : ¬ Rose (supply a).faults (supply b).faults → IfCommand words (λ c. IfSome (supply a).left (λ bs. IsDecided (meaning_of c) bs (Rose (faults old) (faults new)) status))
+  pub complete : ¬ Rose (supply a).faults (supply b).faults → IfCommand words (λ c. IfSome (supply a).left (λ bs. IsDecided (meaning_of c) bs (Rose (receipt old).faults (receipt new).faults) status))
 
 -- what is so of a command for which the words ask is so of each
 for_command : (words : List (List ℕ)) (c : Command) → IsCommand words c → (P : Command → Type 0) → P c → IfCommand words P
 for_command words c is P h d asked = subst P (one_command words c d is asked) h
 
-module _ {S O : Type 0} (supply : S → Supply) (taken : O → List ℕ → Type 0) (accepts : O → ℕ → Type 0) (faults : O → ℕ) (words : List (List ℕ)) (a b : S) (old new : O) where
+module _ {S O : Type 0} (supply : S → Supply) (receipt : O → Receipt) (words : List (List ℕ)) (a b : S) (old new : O) where
   abbrev before : Supply
   before = supply a
 
@@ -235,13 +236,13 @@ module _ {S O : Type 0} (supply : S → Supply) (taken : O → List ℕ → Type
   after = supply b
 
   abbrev performed : Option Command → Result (Unit {0}) Failure → Type 0
-  performed asked r = Performs taken accepts faults supply asked a b old new r
+  performed asked r = Performs receipt supply asked a b old new r
 
   -- what was done for the words
   abbrev pub does_asked : Result (Unit {0}) Failure → Type 0
-  does_asked r = DoesAsked taken accepts faults supply words a b old new r
+  does_asked r = DoesAsked receipt supply words a b old new r
 
-  no_command : IsNoCommand words → b ≡ a → new ≡ old → RunsTo supply taken accepts faults words a b old new statuses.Usage
+  no_command : IsNoCommand words → b ≡ a → new ≡ old → RunsTo supply receipt words a b old new statuses.Usage
   no_command none e d = record {
     done = λ h c asked. absurd (none c asked);
     write_fault = λ h c asked. absurd (none c asked);
@@ -254,31 +255,31 @@ module _ {S O : Type 0} (supply : S → Supply) (taken : O → List ℕ → Type
   }
 
   -- how a run ends for what the words ask for
-  run_ends : (asked : Option Command) (r : Result (Unit {0}) Failure) → IsAsked words asked → performed asked r → RunsTo supply taken accepts faults words a b old new (ending r)
+  run_ends : (asked : Option Command) (r : Result (Unit {0}) Failure) → IsAsked words asked → performed asked r → RunsTo supply receipt words a b old new (ending r)
   run_ends None r is h = rw h.0 (no_command is h.1 h.2)
   run_ends (Some c) r is h = record {
-    done = λ e. for_command words c is _ (done_so taken accepts faults (meaning_of c) before after old new r h.0 e);
-    write_fault = λ e. for_command words c is _ (broke_so taken accepts faults (meaning_of c) before after old new r h.0 e);
-    usage = (λ e. absurd (never_usage taken accepts faults (meaning_of c) before after old new r h.0 e), λ none. absurd (none c is));
-    unread = λ e. absurd (never_usage taken accepts faults (meaning_of c) before after old new r h.0 e);
+    done = λ e. for_command words c is _ (done_so receipt (meaning_of c) before after old new r h.0 e);
+    write_fault = λ e. for_command words c is _ (broke_so receipt (meaning_of c) before after old new r h.0 e);
+    usage = (λ e. absurd (never_usage receipt (meaning_of c) before after old new r h.0 e), λ none. absurd (none c is));
+    unread = λ e. absurd (never_usage receipt (meaning_of c) before after old new r h.0 e);
     leaves_input = for_command words c is _ (λ unread. record { unread = (h.1 unread).0; ends = ends_unread r (h.1 unread).1 });
-    unwritten = unwritten_so taken accepts faults (meaning_of c) before after old new r h.0;
-    exact = for_command words c is _ (fits_bytes taken accepts faults (meaning_of c) (settled_of c) before after old new r h.0);
-    complete = λ n. for_command words c is _ (is_decided taken accepts faults (meaning_of c) (settled_of c) before after old new r h.0 n);
+    unwritten = unwritten_so receipt (meaning_of c) before after old new r h.0;
+    exact = for_command words c is _ (fits_bytes receipt (meaning_of c) (settled_of c) before after old new r h.0);
+    complete = λ n. for_command words c is _ (is_decided receipt (meaning_of c) (settled_of c) before after old new r h.0 n);
   }
 
   -- the same for a status that is known to be the one of the answer
-  pub run_ends_as : (r : Result (Unit {0}) Failure) (status : Status) → does_asked r → status ≡ ending r → RunsTo supply taken accepts faults words a b old new status
-  run_ends_as r status h e = subst (λ (z : Status). RunsTo supply taken accepts faults words a b old new z) (sym e) (run_ends h.asked r h.is_asked h.performed)
+  pub run_ends_as : (r : Result (Unit {0}) Failure) (status : Status) → does_asked r → status ≡ ending r → RunsTo supply receipt words a b old new status
+  run_ends_as r status h e = subst (λ (z : Status). RunsTo supply receipt words a b old new z) (sym e) (run_ends h.asked r h.is_asked h.performed)
 
   fails : (asked : Option Command) (f : Failure) → IsAsked words asked → performed asked (Err f) → Fails words before after f
   fails None f is h = let d : Err f ≡ Err failures.Usage = h.0 in record { usage = λ none. cc; cause = λ c asked. absurd (is c asked) }
-  fails (Some c) f is h = record { usage = λ none. absurd (none c is); cause = for_command words c is _ (cause_so taken accepts faults (meaning_of c) before after old new f h.0) }
+  fails (Some c) f is h = record { usage = λ none. absurd (none c is); cause = for_command words c is _ (cause_so receipt (meaning_of c) before after old new f h.0) }
 
   -- a failure that was told has its cause
-  pub tells : {E : Type 0} (etaken : E → List ℕ → Type 0) (eaccepts : E → ℕ → Type 0) (efaults : E → ℕ) (f : Failure) (status : Status) (eold enew : E) → does_asked (Err f) → status ≡ status_of f
-      → IsTold etaken eaccepts efaults eold enew (line f) → TellsFailure etaken eaccepts efaults words before after eold enew status
-  tells etaken eaccepts efaults f status eold enew h e told = record { failure = f; is_status = e; cause = fails h.asked f h.is_asked h.performed; told = told }
+  pub tells : {E : Type 0} (told_by : E → Receipt) (f : Failure) (status : Status) (eold enew : E) → does_asked (Err f) → status ≡ status_of f
+      → IsTold told_by eold enew (line f) → TellsFailure told_by words before after eold enew status
+  tells told_by f status eold enew h e told = record { failure = f; is_status = e; cause = fails h.asked f h.is_asked h.performed; told = told }
 
 -- ---- the line
 

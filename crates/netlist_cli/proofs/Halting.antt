@@ -1,14 +1,15 @@
 -- Why nothing is written.
 use Rattle.std.proofs.Common.{◌≡◌, ◌≢◌, ℕ, List, IfSome, Err, refl}
+use Rattle.nl_io.specs.Sinks.{Receipt}
 use Rattle.nl_io.specs.Sources.{Supply}
 use Rattle.netlist_cli.specs.declared.failure.Failure.{Failure}
 use Rattle.netlist_cli.specs.declared.failure.Failure.TheVariants as failures
 use Rattle.netlist_cli.specs.Outcomes.{FileLanguage, Meaning, Question, Verdict}
 use Rattle.netlist_cli.specs.Runs.{IsCause, IsFailureOf, Does}
 
-module _ {O : Type 0} (taken : O → List ℕ → Type 0) (accepts : O → ℕ → Type 0) (faults : O → ℕ) (m : Meaning) (i j : Supply) (old new : O) where
+module _ {O : Type 0} (receipt : O → Receipt) (m : Meaning) (i j : Supply) (old new : O) where
   -- a failure other than one of the output has its cause, and nothing was put
-  pub halted : (f : Failure) → f ≢ failures.WriteFault → IsCause m.question i j f → new ≡ old → Does taken accepts faults m i j old new (Err f)
+  pub halted : (f : Failure) → f ≢ failures.WriteFault → IsCause m.question i j f → new ≡ old → Does receipt m i j old new (Err f)
   halted (failures.Text f) n h s = (h, s)
   halted failures.ReadFault n h s = (h, s)
   halted failures.WriteFault n h s = absurd (n refl)

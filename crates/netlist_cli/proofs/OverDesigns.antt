@@ -2,6 +2,7 @@
 use Rattle.std.proofs.Common.{◌≡◌, ℕ, List, Option, Some, None, IfSome, Result, Ok, Err, refl, sym, ap, subst}
 use Rattle.std.specs.Prelude.{IfOk, MatchResult}
 use Rattle.std.specs.Io.KnownBytes.{IsAtEnd}
+use Rattle.nl_io.specs.Sinks.{Receipt}
 use Rattle.nl_io.specs.declared.source.Failed.{Failed}
 use Rattle.nl_output.specs.Writing.{Writes}
 use Rattle.nl_io.specs.Sources.{Supply}
@@ -88,15 +89,15 @@ file_is_judged_under top i j file reads ended (Err f) h = design_under_is_read t
 
 -- ---- from a design to what is done
 
-module _ {O : Type 0} (taken : O → List ℕ → Type 0) (accepts : O → ℕ → Type 0) (faults : O → ℕ) (old new : O) where
+module _ {O : Type 0} (receipt : O → Receipt) (old new : O) where
   -- a text that is made of a design is written, or a front of it
-  pub text_is_made : (said : Verdict → Type 0) (IsMade : List ℕ → Type 0) (text : List ℕ) (r : Result (Unit {0}) Failed) → said fine → IsMade text → Writes taken accepts faults old new text r
-      → Makes taken accepts faults said IsMade old new (after_writing r)
+  pub text_is_made : (said : Verdict → Type 0) (IsMade : List ℕ → Type 0) (text : List ℕ) (r : Result (Unit {0}) Failed) → said fine → IsMade text → Writes receipt old new text r
+      → Makes receipt said IsMade old new (after_writing r)
   text_is_made said IsMade text (Ok done) f made w = record { is_fine = f; text = text; made = made; put = w }
   text_is_made said IsMade text (Err failed) f made w = (failed, record { is_fine = f; text = text; made = made; put = w })
 
   -- nothing is made of a design
-  pub none_is_made : (said : Verdict → Type 0) (IsMade : List ℕ → Type 0) (f : Failure) → IsFailureOf said f → new ≡ old → Makes taken accepts faults said IsMade old new (Err f)
+  pub none_is_made : (said : Verdict → Type 0) (IsMade : List ℕ → Type 0) (f : Failure) → IsFailureOf said f → new ≡ old → Makes receipt said IsMade old new (Err f)
   none_is_made said IsMade (failures.Text f) h s = absurd h
   none_is_made said IsMade failures.ReadFault h s = absurd h
   none_is_made said IsMade failures.WriteFault h s = absurd h
@@ -109,37 +110,37 @@ module _ {O : Type 0} (taken : O → List ℕ → Type 0) (accepts : O → ℕ �
   none_is_made said IsMade (failures.FlatLimit n) h s = (h, s)
 
   -- the report of a design was put, or a front of it
-  pub report_is_made : (names : ConstantNames) (design : Design) (r : Result (Unit {0}) Failed) → HasReported taken accepts faults names design old new r
-      → PutsMade taken accepts faults (few_flat design.cells design.top design.props) (IsReport names design) old new r
+  pub report_is_made : (names : ConstantNames) (design : Design) (r : Result (Unit {0}) Failed) → HasReported receipt names design old new r
+      → PutsMade receipt (few_flat design.cells design.top design.props) (IsReport names design) old new r
   report_is_made names design r h = record { is_fine = few_are_fine _ h.few; text = h.text; made = h.is_report; put = h.writes }
 
   -- the findings of a design were put, or a front of them
-  pub lint_is_made : (names : ConstantNames) (design : Design) (r : Result (Unit {0}) Failed) → HasLinted taken accepts faults names design old new r
-      → PutsMade taken accepts faults (few_flat design.cells design.top design.props) (IsLint names design) old new r
+  pub lint_is_made : (names : ConstantNames) (design : Design) (r : Result (Unit {0}) Failed) → HasLinted receipt names design old new r
+      → PutsMade receipt (few_flat design.cells design.top design.props) (IsLint names design) old new r
   lint_is_made names design r h = record { is_fine = few_are_fine _ h.few; text = h.text; made = h.is_lint; put = h.writes }
 
   -- modules of a design are written, or a front of their text
-  pub modules_are_made : (design : Design) (params : NameSet) (modules : VlogFile) (r : Result (Unit {0}) Failed) → AreModulesFor design params modules → Writes taken accepts faults old new (vlog_text modules) r
-      → MakesOf taken accepts faults (target_rules params) IsVerilogOf design old new (after_writing r)
+  pub modules_are_made : (design : Design) (params : NameSet) (modules : VlogFile) (r : Result (Unit {0}) Failed) → AreModulesFor design params modules → Writes receipt old new (vlog_text modules) r
+      → MakesOf receipt (target_rules params) IsVerilogOf design old new (after_writing r)
   modules_are_made design params modules r h w =
       text_is_made (target_rules params design.cells design.top design.props) (IsVerilogOf design) (vlog_text modules) r (ap (λ first. or_refused first fine) h.translated.no_refusal)
       (record { modules = modules; same = h.translated.same; is_text = refl; spells = text_spells modules h.value }) w
 
   -- subcircuits of a design are written, or a front of their text
-  pub subcircuits_are_made : (design : Design) (file : SpiceFile) (r : Result (Unit {0}) Failed) → IsSpiceFor design file → Writes taken accepts faults old new (spice_text file) r
-      → MakesOf taken accepts faults spice_rules IsSpiceOf design old new (after_writing r)
+  pub subcircuits_are_made : (design : Design) (file : SpiceFile) (r : Result (Unit {0}) Failed) → IsSpiceFor design file → Writes receipt old new (spice_text file) r
+      → MakesOf receipt spice_rules IsSpiceOf design old new (after_writing r)
   subcircuits_are_made design file r same w =
       text_is_made (spice_rules design.cells design.top design.props) (IsSpiceOf design) (spice_text file) r same.keeps_rules (record { file = file; same = same; is_text = refl }) w
 
   -- an EDIF file of a design is written, or a front of its text
-  pub edif_is_made : (design : Design) (names : ConstantNames) (file : EdifFile) (r : Result (Unit {0}) Failed) → IsEdifFor names design file → IsEdifValue file → Writes taken accepts faults old new (edif_text file) r
-      → MakesOf taken accepts faults any_design (IsEdifOf names) design old new (after_writing r)
+  pub edif_is_made : (design : Design) (names : ConstantNames) (file : EdifFile) (r : Result (Unit {0}) Failed) → IsEdifFor names design file → IsEdifValue file → Writes receipt old new (edif_text file) r
+      → MakesOf receipt any_design (IsEdifOf names) design old new (after_writing r)
   edif_is_made design names file r same value w =
       text_is_made (any_design design.cells design.top design.props) (IsEdifOf names design) (edif_text file) r refl (record { file = file; same = same; is_text = refl; spells = edif_law.text_spells file value }) w
 
   -- an EDIF file of the flattened design is written, or a front of its text
-  pub flat_edif_is_made : (names : ConstantNames) (design : Design) (file : EdifFile) (r : Result (Unit {0}) Failed) → AreConstantNames names → IsFlatFile names design file → Writes taken accepts faults old new (edif_text file) r
-      → MakesOf taken accepts faults (flat_rules names any_design) (IsFlatEdifOf names) design old new (after_writing r)
+  pub flat_edif_is_made : (names : ConstantNames) (design : Design) (file : EdifFile) (r : Result (Unit {0}) Failed) → AreConstantNames names → IsFlatFile names design file → Writes receipt old new (edif_text file) r
+      → MakesOf receipt (flat_rules names any_design) (IsFlatEdifOf names) design old new (after_writing r)
   flat_edif_is_made names design file r constants h w =
       text_is_made (flat_rules names any_design design.cells design.top design.props) (IsFlatEdifOf names design) (edif_text file) r (fine_said names any_design design h.flat h.is_flat refl) (record {
         flat = h.flat;
@@ -152,7 +153,7 @@ module _ {O : Type 0} (taken : O → List ℕ → Type 0) (accepts : O → ℕ �
 
   -- modules of the flattened design are written, or a front of their text
   pub flat_modules_are_made : (names : ConstantNames) (design : Design) (modules : VlogFile) (r : Result (Unit {0}) Failed) → AreConstantNames names → AreFlatModules names design modules
-      → Writes taken accepts faults old new (vlog_text modules) r → MakesOf taken accepts faults (flat_rules names plain_target) (IsFlatVerilogOf names) design old new (after_writing r)
+      → Writes receipt old new (vlog_text modules) r → MakesOf receipt (flat_rules names plain_target) (IsFlatVerilogOf names) design old new (after_writing r)
   flat_modules_are_made names design modules r constants h w =
       text_is_made (flat_rules names plain_target design.cells design.top design.props) (IsFlatVerilogOf names design) (vlog_text modules) r
       (fine_said names plain_target design h.flat h.is_flat (ap (λ first. or_refused first fine) h.are_modules.translated.no_refusal)) (record {
@@ -167,7 +168,7 @@ module _ {O : Type 0} (taken : O → List ℕ → Type 0) (accepts : O → ℕ �
     module _ (language : FileLanguage) (IsSaid : language.File → Verdict → Type 0) (IsDesignOf : language.File → Design → Type 0) (IsMade : Design → List ℕ → Type 0) (design : Design)
         (h : HasDesign language.reads IsDesignOf i j design) (is_read : language.IsRead i j) (said : Verdict → Type 0) (of_file : (verdict : Verdict) → said verdict → IsSaid h.file verdict) where
       -- what is done with the design of a file, in the words of the file
-      over_file : (r : Result (Unit {0}) Failure) → Makes taken accepts faults said (IsMade design) old new r → Does taken accepts faults (meaning language IsSaid (IsMadeOfDesign IsDesignOf IsMade)) i j old new r
+      over_file : (r : Result (Unit {0}) Failure) → Makes receipt said (IsMade design) old new r → Does receipt (meaning language IsSaid (IsMadeOfDesign IsDesignOf IsMade)) i j old new r
       over_file (Ok done) m = record {
         text = m.text;
         is_text = record { file = h.file; reads_as = h.reads_as; is_fine = of_file fine m.is_fine; made = record { design = design; is_design = h.is_design; made = m.made } };
@@ -195,16 +196,16 @@ module _ {O : Type 0} (taken : O → List ℕ → Type 0) (accepts : O → ℕ �
 
     -- what a command does with the design that it got
     pub design_is_used : (top : Option Name) (judge : Judgement) (IsMade : Design → List ℕ → Type 0) (design : Design) → IsDesignRead top i j design → (r : Result (Unit {0}) Failure)
-        → MakesOf taken accepts faults judge IsMade design old new r → Does taken accepts faults (of_design top judge IsMade) i j old new r
+        → MakesOf receipt judge IsMade design old new r → Does receipt (of_design top judge IsMade) i j old new r
     design_is_used None judge IsMade design h r m = over_file edif (SaysOfEdif judge) edif_answers.IsDesignOf IsMade design h h.ended _ (of_edif_design h.file design judge h.is_design) r m
     design_is_used (Some top) judge IsMade design h r m =
         over_file verilog (SaysOfVerilog top judge) (λ file read. verilog_answers.IsDesignOf file top read) IsMade design h h.ended _ (of_design_under top h.file design judge h.is_design) r m
 
     -- there is no design
-    pub no_design_is_told : (top : Option Name) (judge : Judgement) (IsMade : Design → List ℕ → Type 0) (f : Failure) → IsNoDesign top i j f → new ≡ old → Does taken accepts faults (of_design top judge IsMade) i j old new (Err f)
+    pub no_design_is_told : (top : Option Name) (judge : Judgement) (IsMade : Design → List ℕ → Type 0) (f : Failure) → IsNoDesign top i j f → new ≡ old → Does receipt (of_design top judge IsMade) i j old new (Err f)
     no_design_is_told None judge IsMade f h s =
-        halted taken accepts faults (of_design None judge IsMade) i j old new f h.unwritten
+        halted receipt (of_design None judge IsMade) i j old new f h.unwritten
         (cause_then edif (λ file verdict. edif_first file ≡ Some verdict) (SaysOfEdif judge) (λ file verdict. said_at_first _ verdict (edif_first file)) i j f h.cause) s
     no_design_is_told (Some top) judge IsMade f h s =
-        halted taken accepts faults (of_design (Some top) judge IsMade) i j old new f h.unwritten
+        halted receipt (of_design (Some top) judge IsMade) i j old new f h.unwritten
         (cause_then verilog (λ file verdict. verilog_first top file ≡ Some verdict) (SaysOfVerilog top judge) (λ file verdict. said_at_first _ verdict (verilog_first top file)) i j f h.cause) s

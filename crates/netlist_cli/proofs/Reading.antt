@@ -6,6 +6,7 @@ use Rattle.nl_base.specs.declared.fault.Reason.{Reason}
 use Rattle.nl_base.specs.declared.fault.ReadError.{ReadError}
 use Rattle.nl_base.specs.declared.fault.ReadError.TheVariants as errors
 use Rattle.nl_io.specs.Causes.{Rose}
+use Rattle.nl_io.specs.Sinks.{Receipt}
 use Rattle.nl_io.specs.declared.source.Failed.{Failed}
 use Rattle.nl_output.specs.Writing.{Writes}
 use Rattle.readers.specs.Parts.{PartOf}
@@ -54,16 +55,16 @@ module _ {K X V : Type 0} (L : Language X) (trail : X → Reason) (k : K) (part 
   error_causes errors.Spent i j h = absurd (h.never_spent refl)
 
 module _ {K X V O : Type 0} (L : Language X) (trail : X → Reason) (k : K) (part : PartOf K X V) (IsSaid : V → Verdict → Type 0) (IsMade : V → List ℕ → Type 0)
-    (taken : O → List ℕ → Type 0) (accepts : O → ℕ → Type 0) (faults : O → ℕ) (i j : Supply) (old new : O) where
+    (receipt : O → Receipt) (i j : Supply) (old new : O) where
   abbrev m : Meaning
   m = meaning (texts L trail k part) IsSaid IsMade
 
   -- a text that is made of the file that was read is written, or a front of it
-  pub text_is_put : (v : V) (text : List ℕ) (r : Result (Unit {0}) Failed) → ReadsText L trail k same part (Ok v) i j → IsSaid v fine → IsMade v text → Writes taken accepts faults old new text r
-      → Does taken accepts faults m i j old new (after_writing r)
+  pub text_is_put : (v : V) (text : List ℕ) (r : Result (Unit {0}) Failed) → ReadsText L trail k same part (Ok v) i j → IsSaid v fine → IsMade v text → Writes receipt old new text r
+      → Does receipt m i j old new (after_writing r)
   text_is_put v text (Ok done) h f made w = record { text = text; is_text = record { file = v; reads_as = h.value; is_fine = f; made = made }; ended = h.ended; put = w }
   text_is_put v text (Err failed) h f made w = (failed, record { text = text; is_text = record { file = v; reads_as = h.value; is_fine = f; made = made }; ended = h.ended; put = w })
 
   -- no file was read
-  pub error_is_told : (e : ReadError) → ReadsText L trail k same part (Err e) i j → new ≡ old → Does taken accepts faults m i j old new (Err (failure_of e))
-  error_is_told e h s = halted taken accepts faults m i j old new (failure_of e) (error_unwritten e) (error_causes L trail k part IsSaid e i j h) s
+  pub error_is_told : (e : ReadError) → ReadsText L trail k same part (Err e) i j → new ≡ old → Does receipt m i j old new (Err (failure_of e))
+  error_is_told e h s = halted receipt m i j old new (failure_of e) (error_unwritten e) (error_causes L trail k part IsSaid e i j h) s

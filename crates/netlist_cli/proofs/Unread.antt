@@ -1,5 +1,6 @@
 -- What a command does that reads nothing.
 use Rattle.std.proofs.Common.{ℕ, List, Option, Result, Ok, Err, refl}
+use Rattle.nl_io.specs.Sinks.{Receipt}
 use Rattle.nl_io.specs.declared.source.Failed.{Failed}
 use Rattle.nl_output.specs.Writing.{Writes}
 use Rattle.nl_io.specs.Sources.{Supply}
@@ -15,10 +16,10 @@ use Rattle.netlist_cli.proofs.Told.{any_told}
 is_line : (seed cells : ℕ) (left : Option (List ℕ)) (line : List ℕ) → IsGeneratedLine seed cells line → IsTextFrom (meaning_of (commands.Generate seed cells)) left line
 is_line seed cells left line h = record { file = tt; reads_as = any_told left _ (λ bytes. tt); is_fine = refl; made = h }
 
-module _ {O : Type 0} (taken : O → List ℕ → Type 0) (accepts : O → ℕ → Type 0) (faults : O → ℕ) (old new : O) (seed cells : ℕ) (line : List ℕ) where
+module _ {O : Type 0} (receipt : O → Receipt) (old new : O) (seed cells : ℕ) (line : List ℕ) where
   -- the line is written, or a front of it
-  pub line_is_put : (r : Result (Unit {0}) Failed) → IsGeneratedLine seed cells line → Writes taken accepts faults old new line r → (i : Supply)
-      → Does taken accepts faults (meaning_of (commands.Generate seed cells)) i i old new (after_writing r)
+  pub line_is_put : (r : Result (Unit {0}) Failed) → IsGeneratedLine seed cells line → Writes receipt old new line r → (i : Supply)
+      → Does receipt (meaning_of (commands.Generate seed cells)) i i old new (after_writing r)
   line_is_put (Ok done) h w i = record { text = line; is_text = is_line seed cells i.left line h; ended = refl; put = w }
   line_is_put (Err failed) h w i = (failed, record { text = line; is_text = is_line seed cells i.left line h; ended = refl; put = w })
 

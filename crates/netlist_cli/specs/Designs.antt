@@ -1,6 +1,7 @@
 -- What is made on the way from an input over its design to a text.
 use Rattle.std.specs.Prelude.{◌≡◌, ◌≢◌, ℕ, ◌<◌, ⊤, List, [], Option, Some, None, Result, Ok, Err, IfSome}
 use Rattle.std.specs.Io.KnownBytes.{IsAtEnd}
+use Rattle.nl_io.specs.Sinks.{Receipt}
 use Rattle.nl_io.specs.declared.source.Failed.{Failed}
 use Rattle.nl_output.specs.Writing.{Writes}
 use Rattle.nl_io.specs.Sources.{Supply}
@@ -62,21 +63,21 @@ pub record IsNoDesign (top : Option Name) (i j : Supply) (failure : Failure) : T
 -- ---- from a design to a text
 
 -- Nothing is wrong with a design, and this is how the writing of a text that may be made of it went.
-pub record PutsMade {O : Type 0} (taken : O → List ℕ → Type 0) (accepts : O → ℕ → Type 0) (faults : O → ℕ) (IsSaid : Verdict → Type 0) (IsMade : List ℕ → Type 0) (old new : O) (result : Result (Unit {0}) Failed) : Type 0 where
+pub record PutsMade {O : Type 0} (receipt : O → Receipt) (IsSaid : Verdict → Type 0) (IsMade : List ℕ → Type 0) (old new : O) (result : Result (Unit {0}) Failed) : Type 0 where
   pub is_fine : IsSaid fine
   pub text : List ℕ
   pub made : IsMade text
-  pub put : Writes taken accepts faults old new text result
+  pub put : Writes receipt old new text result
 
 -- What a command does with a design of which this is said.
-abbrev pub Makes : {O : Type 0} → (O → List ℕ → Type 0) → (O → ℕ → Type 0) → (O → ℕ) → (Verdict → Type 0) → (List ℕ → Type 0) → O → O → Result (Unit {0}) Failure → Type 0
-Makes taken accepts faults IsSaid IsMade old new (Ok u) = PutsMade taken accepts faults IsSaid IsMade old new (Ok tt)
-Makes taken accepts faults IsSaid IsMade old new (Err failures.WriteFault) = (e : Failed) × PutsMade taken accepts faults IsSaid IsMade old new (Err e)
-Makes taken accepts faults IsSaid IsMade old new (Err f) = IsFailureOf IsSaid f × (new ≡ old)
+abbrev pub Makes : {O : Type 0} → (O → Receipt) → (Verdict → Type 0) → (List ℕ → Type 0) → O → O → Result (Unit {0}) Failure → Type 0
+Makes receipt IsSaid IsMade old new (Ok u) = PutsMade receipt IsSaid IsMade old new (Ok tt)
+Makes receipt IsSaid IsMade old new (Err failures.WriteFault) = (e : Failed) × PutsMade receipt IsSaid IsMade old new (Err e)
+Makes receipt IsSaid IsMade old new (Err f) = IsFailureOf IsSaid f × (new ≡ old)
 
 -- the same for a judgement of designs
-abbrev pub MakesOf : {O : Type 0} → (O → List ℕ → Type 0) → (O → ℕ → Type 0) → (O → ℕ) → Judgement → (Design → List ℕ → Type 0) → Design → O → O → Result (Unit {0}) Failure → Type 0
-MakesOf taken accepts faults judge IsMade design = Makes taken accepts faults (judge design.cells design.top design.props) (IsMade design)
+abbrev pub MakesOf : {O : Type 0} → (O → Receipt) → Judgement → (Design → List ℕ → Type 0) → Design → O → O → Result (Unit {0}) Failure → Type 0
+MakesOf receipt judge IsMade design = Makes receipt (judge design.cells design.top design.props) (IsMade design)
 
 -- ---- to Verilog
 

@@ -1,6 +1,7 @@
 -- What a run has done, by the status with which it ends.
 use Rattle.std.specs.Prelude.{◌≡◌, ◌⊎◌, ℕ, ◌+◌, ◌≤◌, List, Option, Some, None, Result, Ok, Err, IfSome, ⊤}
 use Rattle.nl_base.specs.declared.fault.TextFault.{TextFault}
+use Rattle.nl_io.specs.Sinks.{Receipt}
 use Rattle.nl_io.specs.declared.source.Failed.{Failed}
 use Rattle.nl_bytes.specs.declared.bytes.TheConstants.{LIMIT}
 use Rattle.nl_output.specs.Writing.{Writes}
@@ -19,19 +20,19 @@ use Rattle.netlist_cli.specs.Outcomes.{Meaning, Question, Verdict, breaks, break
 use Rattle.netlist_cli.specs.Meanings.{meaning_of}
 
 -- The input was read to its end, where the command reads, and this is how the writing of a text that may be written went.
-pub record PutsText {O : Type 0} (taken : O → List ℕ → Type 0) (accepts : O → ℕ → Type 0) (faults : O → ℕ) (m : Meaning) (i j : Supply) (old new : O) (result : Result (Unit {0}) Failed) : Type 0 where
+pub record PutsText {O : Type 0} (receipt : O → Receipt) (m : Meaning) (i j : Supply) (old new : O) (result : Result (Unit {0}) Failed) : Type 0 where
   pub text : List ℕ
   pub is_text : IsTextFrom m i.left text
   pub ended : m.question.language.IsRead i j
-  pub put : Writes taken accepts faults old new text result
+  pub put : Writes receipt old new text result
 
 -- The input was read to its end, where the command reads, and a text that may be written was put whole.
-abbrev pub WroteText : {O : Type 0} → (O → List ℕ → Type 0) → (O → ℕ → Type 0) → (O → ℕ) → Meaning → Supply → Supply → O → O → Type 0
-WroteText taken accepts faults m i j old new = PutsText taken accepts faults m i j old new (Ok tt)
+abbrev pub WroteText : {O : Type 0} → (O → Receipt) → Meaning → Supply → Supply → O → O → Type 0
+WroteText receipt m i j old new = PutsText receipt m i j old new (Ok tt)
 
 -- The input was read to its end, where the command reads, and a put failed before the whole text was put.
-abbrev pub BrokeOff : {O : Type 0} → (O → List ℕ → Type 0) → (O → ℕ → Type 0) → (O → ℕ) → Meaning → Supply → Supply → O → O → Type 0
-BrokeOff taken accepts faults m i j old new = (e : Failed) × PutsText taken accepts faults m i j old new (Err e)
+abbrev pub BrokeOff : {O : Type 0} → (O → Receipt) → Meaning → Supply → Supply → O → O → Type 0
+BrokeOff receipt m i j old new = (e : Failed) × PutsText receipt m i j old new (Err e)
 
 -- The input has this first fault, and at most 4,096 bytes behind its stop were taken.
 pub record HasFault (q : Question) (i j : Supply) (fault : TextFault) : Type 0 where
@@ -50,8 +51,8 @@ pub record TakesFrom (i j : Supply) : Type 0 where
   pub faults : i.faults ≤ j.faults
 
 -- The text was written to a sink, or a front of it where a put failed.
-abbrev pub IsTold : {E : Type 0} → (E → List ℕ → Type 0) → (E → ℕ → Type 0) → (E → ℕ) → E → E → List ℕ → Type 0
-IsTold taken accepts faults old new text = (answer : Result (Unit {0}) Failed) × Writes taken accepts faults old new text answer
+abbrev pub IsTold : {E : Type 0} → (E → Receipt) → E → E → List ℕ → Type 0
+IsTold receipt old new text = (answer : Result (Unit {0}) Failed) × Writes receipt old new text answer
 
 -- When each failure comes of what a command asks of its input.
 abbrev pub IsCause : Question → Supply → Supply → Failure → Type 0
@@ -72,11 +73,11 @@ pub record Fails (words : List (List ℕ)) (i j : Supply) (failure : Failure) : 
   pub cause : IfCommand words (λ c. IsCause (meaning_of c).question i j failure)
 
 -- A failure of this status came with its cause, and was told.
-pub record TellsFailure {E : Type 0} (taken : E → List ℕ → Type 0) (accepts : E → ℕ → Type 0) (faults : E → ℕ) (words : List (List ℕ)) (i j : Supply) (old new : E) (status : Status) : Type 0 where
+pub record TellsFailure {E : Type 0} (receipt : E → Receipt) (words : List (List ℕ)) (i j : Supply) (old new : E) (status : Status) : Type 0 where
   pub failure : Failure
   pub is_status : status ≡ status_of failure
   pub cause : Fails words i j failure
-  pub told : IsTold taken accepts faults old new (line failure)
+  pub told : IsTold receipt old new (line failure)
 
 -- The statuses that fit what comes of the input, where input, output and memory may fail.
 abbrev pub FitsOutcome : Outcome → Status → Type 0
@@ -117,10 +118,10 @@ pub record LeavesInput {S : Type 0} (old new : S) (status : Status) : Type 0 whe
 -- ---- the parts of a run
 
 -- What is done with the input and the output for what a command makes of its input. Until the whole text is read nothing is put.
-abbrev pub Does : {O : Type 0} → (O → List ℕ → Type 0) → (O → ℕ → Type 0) → (O → ℕ) → Meaning → Supply → Supply → O → O → Result (Unit {0}) Failure → Type 0
-Does taken accepts faults m i j old new (Ok u) = WroteText taken accepts faults m i j old new
-Does taken accepts faults m i j old new (Err failures.WriteFault) = BrokeOff taken accepts faults m i j old new
-Does taken accepts faults m i j old new (Err f) = IsCause m.question i j f × (new ≡ old)
+abbrev pub Does : {O : Type 0} → (O → Receipt) → Meaning → Supply → Supply → O → O → Result (Unit {0}) Failure → Type 0
+Does receipt m i j old new (Ok u) = WroteText receipt m i j old new
+Does receipt m i j old new (Err failures.WriteFault) = BrokeOff receipt m i j old new
+Does receipt m i j old new (Err f) = IsCause m.question i j f × (new ≡ old)
 
 -- Why nothing is written for a file of which this is said; want of memory has no cause.
 abbrev pub IsFailureOf : (Verdict → Type 0) → Failure → Type 0
@@ -132,12 +133,12 @@ IsFailureOf IsSaid failures.NoMemory = ⊤
 IsFailureOf IsSaid f = ⊥
 
 -- What is done for a command, if there is one.
-abbrev pub Performs : {S O : Type 0} → (O → List ℕ → Type 0) → (O → ℕ → Type 0) → (O → ℕ) → (S → Supply) → Option Command → S → S → O → O → Result (Unit {0}) Failure → Type 0
-Performs taken accepts faults supply None a b old new result = (result ≡ Err failures.Usage) × (b ≡ a) × (new ≡ old)
-Performs taken accepts faults supply (Some c) a b old new result = Does taken accepts faults (meaning_of c) (supply a) (supply b) old new result × (ReadsNothing c → (b ≡ a) × EndsUnread result)
+abbrev pub Performs : {S O : Type 0} → (O → Receipt) → (S → Supply) → Option Command → S → S → O → O → Result (Unit {0}) Failure → Type 0
+Performs receipt supply None a b old new result = (result ≡ Err failures.Usage) × (b ≡ a) × (new ≡ old)
+Performs receipt supply (Some c) a b old new result = Does receipt (meaning_of c) (supply a) (supply b) old new result × (ReadsNothing c → (b ≡ a) × EndsUnread result)
 
 -- What is done for the command that the words ask for, if any.
-pub record DoesAsked {S O : Type 0} (taken : O → List ℕ → Type 0) (accepts : O → ℕ → Type 0) (faults : O → ℕ) (supply : S → Supply) (words : List (List ℕ)) (a b : S) (old new : O) (result : Result (Unit {0}) Failure) : Type 0 where
+pub record DoesAsked {S O : Type 0} (receipt : O → Receipt) (supply : S → Supply) (words : List (List ℕ)) (a b : S) (old new : O) (result : Result (Unit {0}) Failure) : Type 0 where
   pub asked : Option Command
   pub is_asked : IsAsked words asked
-  pub performed : Performs taken accepts faults supply asked a b old new result
+  pub performed : Performs receipt supply asked a b old new result

@@ -14,7 +14,7 @@ use std::alloc::Global;
 
 /// Says that a file breaks no rule.
 fn put_ok<O: Sink>(sink: &mut O) -> Result<(), Failure>
-    ensures { Makes O.taken O.accepts O.faults (λ verdict. fine ≡ verdict)
+    ensures { Makes O.receipt (λ verdict. fine ≡ verdict)
         (λ text. text ≡ ok_text) sink.old sink.new result }
 {
     let mut output = Output::new();
@@ -31,7 +31,7 @@ pub fn check<S: Source, O: Sink>(
     input: &mut S,
     output: &mut O,
 ) -> Result<(), Failure>
-    ensures does { Does O.taken O.accepts O.faults (meaning_of (commands.Check top.now))
+    ensures does { Does O.receipt (meaning_of (commands.Check top.now))
         (S.supply input.old) (S.supply input.new)
         output.old output.new result }
     ensures taken { TakesFrom

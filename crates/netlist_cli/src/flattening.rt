@@ -82,7 +82,7 @@ fn put_flat_edif<O: Sink>(
     constants: &Constants,
     output: &mut O,
 ) -> Result<(), Failure>
-    ensures { MakesOf O.taken O.accepts O.faults (flat_rules constants.now any_design)
+    ensures { MakesOf O.receipt (flat_rules constants.now any_design)
         (IsFlatEdifOf constants.now) hier.now output.old output.new result }
 {
     let _names = constants.zero();
@@ -119,7 +119,7 @@ fn put_flat_verilog<O: Sink>(
     constants: &Constants,
     output: &mut O,
 ) -> Result<(), Failure>
-    ensures { MakesOf O.taken O.accepts O.faults (flat_rules constants.now plain_target)
+    ensures { MakesOf O.receipt (flat_rules constants.now plain_target)
         (IsFlatVerilogOf constants.now) hier.now output.old output.new result }
 {
     let _names = constants.zero();
@@ -139,7 +139,7 @@ fn flatten_edif<S: Source, O: Sink>(
     input: &mut S,
     output: &mut O,
 ) -> Result<(), Failure>
-    ensures does { Does O.taken O.accepts O.faults
+    ensures does { Does O.receipt
         (meaning_of (commands.Flatten None constants.now))
         (S.supply input.old) (S.supply input.new)
         output.old output.new result }
@@ -163,7 +163,7 @@ fn flatten_verilog<S: Source, O: Sink>(
     input: &mut S,
     output: &mut O,
 ) -> Result<(), Failure>
-    ensures does { Does O.taken O.accepts O.faults
+    ensures does { Does O.receipt
         (meaning_of (commands.Flatten (Some top.now) constants.now))
         (S.supply input.old) (S.supply input.new)
         output.old output.new result }
@@ -193,7 +193,7 @@ pub fn write_flattened<S: Source, O: Sink>(
     input: &mut S,
     output: &mut O,
 ) -> Result<(), Failure>
-    ensures does { Does O.taken O.accepts O.faults
+    ensures does { Does O.receipt
         (meaning_of (commands.Flatten top.now constants.now))
         (S.supply input.old) (S.supply input.new)
         output.old output.new result }

@@ -16,7 +16,7 @@ pub fn format<S: Source, O: Sink>(
     input: &mut S,
     output: &mut O,
 ) -> Result<(), Failure>
-    ensures does { Does O.taken O.accepts O.faults (meaning_of commands.Format)
+    ensures does { Does O.receipt (meaning_of commands.Format)
         (S.supply input.old) (S.supply input.new)
         output.old output.new result }
     ensures taken { TakesFrom
@@ -37,7 +37,7 @@ pub fn vformat<S: Source, O: Sink>(
     input: &mut S,
     output: &mut O,
 ) -> Result<(), Failure>
-    ensures does { Does O.taken O.accepts O.faults (meaning_of commands.Vformat)
+    ensures does { Does O.receipt (meaning_of commands.Vformat)
         (S.supply input.old) (S.supply input.new)
         output.old output.new result }
     ensures taken { TakesFrom

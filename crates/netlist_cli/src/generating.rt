@@ -14,7 +14,7 @@ use vectors_line::generated_line;
 
 /// Puts a text.
 fn put_text<O: Sink>(text: &Text, sink: &mut O) -> Result<(), Failed>
-    ensures { Writes O.taken O.accepts O.faults sink.old sink.new text.now result }
+    ensures { Writes O.receipt sink.old sink.new text.now result }
 {
     let mut output = Output::new();
     output.put(text.bytes(), sink);
@@ -31,7 +31,7 @@ pub fn write_generated<O: Sink>(
 ) -> Result<(), Failure>
     requires some { 2 ≤ cells }
     requires few { cells ≤ 100000 }
-    ensures does { (i : Supply) → Does O.taken O.accepts O.faults
+    ensures does { (i : Supply) → Does O.receipt
         (meaning_of (commands.Generate seed cells)) i i output.old output.new result }
     ensures ends { EndsUnread result }
 {

@@ -19,8 +19,8 @@ const USAGE: &[u8] =
 /// Puts a reason by its name, and behind a blank the word that it carries.
 fn put_reason<E: Sink>(reason: &Reason, output: &mut Output, errors: &mut E)
     ensures { Puts (reason_then reason.now)
-        (state E.taken E.accepts E.faults errors.old output.old)
-        (state E.taken E.accepts E.faults errors.new output.new) }
+        (state E.receipt errors.old output.old)
+        (state E.receipt errors.new output.new) }
 {
     output.put(reason.name(), errors);
     if let Some(word) = reason.word() {
@@ -32,8 +32,8 @@ fn put_reason<E: Sink>(reason: &Reason, output: &mut Output, errors: &mut E)
 /// Puts a fault of the text with its place.
 fn put_fault<E: Sink>(fault: &TextFault, output: &mut Output, errors: &mut E)
     ensures { Puts (fault_then fault.now)
-        (state E.taken E.accepts E.faults errors.old output.old)
-        (state E.taken E.accepts E.faults errors.new output.new) }
+        (state E.receipt errors.old output.old)
+        (state E.receipt errors.new output.new) }
 {
     output.put(b"fault ", errors);
     output.put_u64(fault.place.line, errors);
@@ -46,8 +46,8 @@ fn put_fault<E: Sink>(fault: &TextFault, output: &mut Output, errors: &mut E)
 /// Puts the names of a refusal, each after a blank. There are few.
 fn put_names<E: Sink>(names: &[Text], output: &mut Output, errors: &mut E)
     ensures { Puts (names_then names.now)
-        (state E.taken E.accepts E.faults errors.old output.old)
-        (state E.taken E.accepts E.faults errors.new output.new) }
+        (state E.receipt errors.old output.old)
+        (state E.receipt errors.new output.new) }
 {
     if let [first, others @ ..] = names {
         output.put(b" ", errors);
@@ -66,8 +66,8 @@ fn put_refused<E: Sink>(
     errors: &mut E,
 )
     ensures { Puts (refused_then rule.now cell.now names.now)
-        (state E.taken E.accepts E.faults errors.old output.old)
-        (state E.taken E.accepts E.faults errors.new output.new) }
+        (state E.receipt errors.old output.old)
+        (state E.receipt errors.new output.new) }
 {
     output.put(b"refused ", errors);
     output.put(rule, errors);
@@ -79,8 +79,8 @@ fn put_refused<E: Sink>(
 /// Puts a refusal by a rule of a language.
 fn put_refusal<E: Sink>(refusal: &Refusal, output: &mut Output, errors: &mut E)
     ensures { Puts (refusal_then refusal.now)
-        (state E.taken E.accepts E.faults errors.old output.old)
-        (state E.taken E.accepts E.faults errors.new output.new) }
+        (state E.receipt errors.old output.old)
+        (state E.receipt errors.new output.new) }
 {
     let rule = refusal.rule.name();
     put_refused(rule, &refusal.cell, &refusal.names, output, errors);
@@ -89,8 +89,8 @@ fn put_refusal<E: Sink>(refusal: &Refusal, output: &mut Output, errors: &mut E)
 /// Puts a refusal by a rule of a tool.
 fn put_tool_refusal<E: Sink>(refusal: &ToolRefusal, output: &mut Output, errors: &mut E)
     ensures { Puts (tool_refusal_then refusal.now)
-        (state E.taken E.accepts E.faults errors.old output.old)
-        (state E.taken E.accepts E.faults errors.new output.new) }
+        (state E.receipt errors.old output.old)
+        (state E.receipt errors.new output.new) }
 {
     let rule = refusal.rule.name();
     put_refused(rule, &refusal.cell, &refusal.names, output, errors);
@@ -100,8 +100,8 @@ fn put_tool_refusal<E: Sink>(refusal: &ToolRefusal, output: &mut Output, errors:
 #[tactic(auto, unfolding(crate::specs::Lines::limit_then))]
 fn put_limit<E: Sink>(kind: &[u8], number: u64, output: &mut Output, errors: &mut E)
     ensures { Puts (limit_then kind.now number)
-        (state E.taken E.accepts E.faults errors.old output.old)
-        (state E.taken E.accepts E.faults errors.new output.new) }
+        (state E.receipt errors.old output.old)
+        (state E.receipt errors.new output.new) }
 {
     output.put(b"limit ", errors);
     output.put(kind, errors);
@@ -112,8 +112,8 @@ fn put_limit<E: Sink>(kind: &[u8], number: u64, output: &mut Output, errors: &mu
 /// Puts what is told of a failure.
 fn put_message<E: Sink>(failure: &Failure, output: &mut Output, errors: &mut E)
     ensures { Puts (message_then failure.now)
-        (state E.taken E.accepts E.faults errors.old output.old)
-        (state E.taken E.accepts E.faults errors.new output.new) }
+        (state E.receipt errors.old output.old)
+        (state E.receipt errors.new output.new) }
 {
     match failure {
         Failure::Text(fault) => put_fault(fault, output, errors),
@@ -131,7 +131,7 @@ fn put_message<E: Sink>(failure: &Failure, output: &mut Output, errors: &mut E)
 
 /// Puts the line of a failure.
 fn put_line<E: Sink>(failure: &Failure, errors: &mut E) -> Result<(), Failed>
-    ensures { Writes E.taken E.accepts E.faults errors.old errors.new (line failure.now) result }
+    ensures { Writes E.receipt errors.old errors.new (line failure.now) result }
 {
     let mut output = Output::new();
     put_message(failure, &mut output, errors);
@@ -143,7 +143,7 @@ fn put_line<E: Sink>(failure: &Failure, errors: &mut E) -> Result<(), Failed>
 /// Tells a failure by its line on `errors`, and answers its status, which does not depend on how the writing went.
 pub fn report<E: Sink>(failure: &Failure, errors: &mut E) -> Status
     ensures status { result ≡ status_of failure.now }
-    ensures told { IsTold E.taken E.accepts E.faults errors.old errors.new (line failure.now) }
+    ensures told { IsTold E.receipt errors.old errors.new (line failure.now) }
 {
     let _said = put_line(failure, errors);
     failure.status()

@@ -19,7 +19,7 @@ fn put_report<O: Sink>(
     constants: &Constants,
     output: &mut O,
 ) -> Result<(), Failure>
-    ensures { MakesOf O.taken O.accepts O.faults few_flat (IsReport constants.now) hier.now
+    ensures { MakesOf O.receipt few_flat (IsReport constants.now) hier.now
         output.old output.new result }
 {
     match report(alloc, hier, constants, output) {
@@ -45,7 +45,7 @@ pub fn write_report<S: Source, O: Sink>(
     input: &mut S,
     output: &mut O,
 ) -> Result<(), Failure>
-    ensures does { Does O.taken O.accepts O.faults
+    ensures does { Does O.receipt
         (meaning_of (commands.Report top.now constants.now))
         (S.supply input.old) (S.supply input.new)
         output.old output.new result }

@@ -21,7 +21,7 @@ fn put_edif<O: Sink>(
     output: &mut O,
 ) -> Result<(), Failure>
     requires { IsSoundDesign hier.now }
-    ensures { MakesOf O.taken O.accepts O.faults any_design (IsEdifOf constants.now) hier.now
+    ensures { MakesOf O.receipt any_design (IsEdifOf constants.now) hier.now
         output.old output.new result }
 {
     match to_edif(alloc, hier, constants) {
@@ -44,7 +44,7 @@ pub fn translate_back<S: Source, O: Sink>(
     input: &mut S,
     output: &mut O,
 ) -> Result<(), Failure>
-    ensures does { Does O.taken O.accepts O.faults
+    ensures does { Does O.receipt
         (meaning_of (commands.ToEdif top.now constants.now))
         (S.supply input.old) (S.supply input.new)
         output.old output.new result }

@@ -29,7 +29,7 @@ fn carry_out<S: Source, O: Sink>(
     output: &mut O,
 ) -> Result<(), Failure>
     requires { HasFewCells command.now }
-    ensures does { Does O.taken O.accepts O.faults (meaning_of command.now)
+    ensures does { Does O.receipt (meaning_of command.now)
         (S.supply input.old) (S.supply input.new)
         output.old output.new result }
     ensures unread { ReadsNothing command.now
@@ -59,7 +59,7 @@ fn carry_out_asked<S: Source, O: Sink>(
     output: &mut O,
 ) -> Result<(), Failure>
     requires { IfSome asked.now HasFewCells }
-    ensures performs { Performs O.taken O.accepts O.faults (S.supply)
+    ensures performs { Performs O.receipt (S.supply)
         asked.now input.old input.new output.old output.new result }
     ensures taken { TakesFrom
         (S.supply input.old) (S.supply input.new) }
@@ -80,7 +80,7 @@ fn perform<S: Source, O: Sink>(
     input: &mut S,
     output: &mut O,
 ) -> Result<(), Failure>
-    ensures performs { DoesAsked O.taken O.accepts O.faults (S.supply)
+    ensures performs { DoesAsked O.receipt (S.supply)
         words.now input.old input.new output.old output.new result }
     ensures taken { TakesFrom
         (S.supply input.old) (S.supply input.new) }
@@ -104,15 +104,15 @@ pub fn run<S: Source, O: Sink, E: Sink>(
     errors: &mut E,
 ) -> Status
     ensures done { result ≡ Status.Done
-        → IfCommand words.now (λ c. WroteText O.taken O.accepts O.faults (meaning_of c)
+        → IfCommand words.now (λ c. WroteText O.receipt (meaning_of c)
         (S.supply input.old) (S.supply input.new)
         output.old output.new) }
     ensures write_fault { result ≡ Status.WriteFault
-        → IfCommand words.now (λ c. BrokeOff O.taken O.accepts O.faults (meaning_of c)
+        → IfCommand words.now (λ c. BrokeOff O.receipt (meaning_of c)
         (S.supply input.old) (S.supply input.new)
         output.old output.new) }
     ensures failed { result ≢ Status.Done
-        → TellsFailure E.taken E.accepts E.faults words.now
+        → TellsFailure E.receipt words.now
         (S.supply input.old) (S.supply input.new)
         errors.old errors.new result }
     ensures usage { (result ≡ Status.Usage) ↔ IsNoCommand words.now }
@@ -129,7 +129,7 @@ pub fn run<S: Source, O: Sink, E: Sink>(
     ensures complete { ¬ Rose (S.supply input.old).faults (S.supply input.new).faults
         → IfCommand words.now (λ c. IfSome (S.supply input.old).left
         (λ bs. IsDecided (meaning_of c) bs
-        (Rose (O.faults output.old) (O.faults output.new)) result)) }
+        (Rose (O.receipt output.old).faults (O.receipt output.new).faults) result)) }
 {
     match perform(alloc, words, input, output) {
         Ok(()) => Status::Done,

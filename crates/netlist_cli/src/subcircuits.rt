@@ -15,7 +15,7 @@ use to_spice::{SpiceError, to_spice};
 
 /// Writes a design as SPICE subcircuits.
 fn put_subcircuits<O: Sink>(alloc: Global, hier: &Hier, output: &mut O) -> Result<(), Failure>
-    ensures { MakesOf O.taken O.accepts O.faults spice_rules IsSpiceOf hier.now
+    ensures { MakesOf O.receipt spice_rules IsSpiceOf hier.now
         output.old output.new result }
 {
     match to_spice(alloc, hier) {
@@ -45,7 +45,7 @@ pub fn write_subcircuits<S: Source, O: Sink>(
     input: &mut S,
     output: &mut O,
 ) -> Result<(), Failure>
-    ensures does { Does O.taken O.accepts O.faults (meaning_of (commands.ToSpice top.now))
+    ensures does { Does O.receipt (meaning_of (commands.ToSpice top.now))
         (S.supply input.old) (S.supply input.new)
         output.old output.new result }
     ensures taken { TakesFrom

@@ -72,7 +72,7 @@ fn put_verilog<O: Sink>(
     names: &Seq<Text>,
     output: &mut O,
 ) -> Result<(), Failure>
-    ensures { MakesOf O.taken O.accepts O.faults (target_rules (params_of names.now)) IsVerilogOf
+    ensures { MakesOf O.receipt (target_rules (params_of names.now)) IsVerilogOf
         hier.now output.old output.new result }
 {
     match modules_under(alloc, hier, names) {
@@ -95,7 +95,7 @@ pub fn translate<S: Source, O: Sink>(
     input: &mut S,
     output: &mut O,
 ) -> Result<(), Failure>
-    ensures does { Does O.taken O.accepts O.faults (meaning_of (commands.ToVerilog names.now))
+    ensures does { Does O.receipt (meaning_of (commands.ToVerilog names.now))
         (S.supply input.old) (S.supply input.new)
         output.old output.new result }
     ensures taken { TakesFrom

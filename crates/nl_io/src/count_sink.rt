@@ -38,11 +38,7 @@ impl CountSink {
 }
 
 impl Sink for CountSink {
-    ghost taken = { λ s bs. IsCountOf s bs };
-
-    ghost accepts = { λ _ _. ⊤ };
-
-    ghost faults = { λ _. 0 };
+    ghost receipt = { λ s. record { taken = λ bs. IsCountOf s bs; accepts = λ _. ⊤; faults = 0 } };
 
     fn put(&mut self, bytes: &[u8]) -> Result<usize, Failed>
         requires { 0 < length bytes.now }

@@ -3,7 +3,7 @@ use Rattle.std.proofs.Common.{◌≡◌, ℕ, ◌+◌, ◌≤◌, ◌<◌, List,
 use Rattle.std.specs.Prelude.{IfSome, IsNone}
 use Rattle.std.proofs.lemmas.List.{take-append-drop}
 use Rattle.nl_io.specs.Causes.{Rose}
-use Rattle.nl_io.specs.Sinks.{Gains}
+use Rattle.nl_io.specs.Sinks.{Gains, Receipt}
 use Rattle.nl_output.specs.Writing.{Held, Puts}
 
 -- what a sink took grows by the bytes that it gains
@@ -38,28 +38,28 @@ abbrev empty : Bool → Held
 empty failed = record { bytes = []; failed = failed }
 
 -- all the bytes were put
-pub put_whole : (taken taken' : List ℕ → Type 0) (accepts accepts' : ℕ → Type 0) (before after : ℕ) (bytes : List ℕ)
-    → Gains taken taken' bytes → before ≤ after → ((n : ℕ) → accepts (length bytes + n) → accepts' n)
-    → Puts (λ rest. bytes ++ rest) (record { taken = taken; accepts = accepts; faults = before; held = empty false }) (record { taken = taken'; accepts = accepts'; faults = after; held = empty false })
-put_whole taken taken' accepts accepts' before after bytes gains later falls b rest s = record {
+pub put_whole : (before after : Receipt) (bytes : List ℕ)
+    → Gains before.taken after.taken bytes → before.faults ≤ after.faults → ((n : ℕ) → before.accepts (length bytes + n) → after.accepts n)
+    → Puts (λ rest. bytes ++ rest) (record { sink = before; held = empty false }) (record { sink = after; held = empty false })
+put_whole before after bytes gains later falls b rest s = record {
   done = s.done ++ bytes;
   parts = s.parts ∙ sym (append_assoc s.done bytes rest);
-  took = took_more taken taken' bytes s.done b.taken gains s.took;
+  took = took_more before.taken after.taken bytes s.done b.taken gains s.took;
   later = omega (arith, later, s.later);
-  spare = accepts_rest accepts accepts' bytes rest b.spare falls s.spare;
+  spare = accepts_rest before.accepts after.accepts bytes rest b.spare falls s.spare;
 }
 
 -- the sink failed in the course of the bytes
-pub put_front : (taken taken' : List ℕ → Type 0) (accepts accepts' : ℕ → Type 0) (before after : ℕ) (bytes : List ℕ) (n : ℕ)
-    → n < length bytes → Gains taken taken' (take n bytes) → before ≤ after → Rose before after → ((n : ℕ) → accepts (length bytes + n) → ⊥)
-    → Puts (λ rest. bytes ++ rest) (record { taken = taken; accepts = accepts; faults = before; held = empty false }) (record { taken = taken'; accepts = accepts'; faults = after; held = empty true })
-put_front taken taken' accepts accepts' before after bytes n lt gains later rose never b rest s = record {
+pub put_front : (before after : Receipt) (bytes : List ℕ) (n : ℕ)
+    → n < length bytes → Gains before.taken after.taken (take n bytes) → before.faults ≤ after.faults → Rose before.faults after.faults → ((n : ℕ) → before.accepts (length bytes + n) → ⊥)
+    → Puts (λ rest. bytes ++ rest) (record { sink = before; held = empty false }) (record { sink = after; held = empty true })
+put_front before after bytes n lt gains later rose never b rest s = record {
   done = s.done ++ take n bytes;
   lost = drop n bytes ++ rest;
   parts = s.parts ∙ ap (λ (z : List ℕ). s.done ++ (z ++ rest)) (sym (take-append-drop n bytes)) ∙ ap (λ (z : List ℕ). s.done ++ z) (append_assoc (take n bytes) (drop n bytes) rest) ∙ sym (append_assoc s.done (take n bytes) (drop n bytes ++ rest));
   short = some_lost n bytes rest lt;
-  took = took_more taken taken' (take n bytes) s.done b.taken gains s.took;
+  took = took_more before.taken after.taken (take n bytes) s.done b.taken gains s.took;
   later = omega (arith, later, s.later);
-  rose = later_rose b.faults before after s.later rose;
-  unsure = not_known accepts bytes rest b.spare never s.spare;
+  rose = later_rose b.faults before.faults after.faults s.later rose;
+  unsure = not_known before.accepts bytes rest b.spare never s.spare;
 }

@@ -2,6 +2,7 @@
 use Rattle.std.proofs.Common.{◌≡◌, ℕ, ◌+◌, ◌<◌, List, [], ◌++◌, take, length, Option, Some, None, Result, Ok, Err, refl, sym, ap, ◌∙◌, subst, append-nil, length-append, arith, true, false, zero-add}
 use Rattle.std.specs.Prelude.{IfSome}
 use Rattle.std.proofs.Math.Seq.{take-append_seam}
+use Rattle.nl_io.specs.Sinks.{Receipt}
 use Rattle.nl_io.specs.declared.source.Failed.{Failed}
 use Rattle.nl_output.specs.Writing.{nothing, State, state, Begin, Stands, Puts, Finishes, Writes}
 
@@ -13,10 +14,10 @@ took_nothing taken None h = tt
 took_nothing taken (Some before) h = subst taken (sym (append-nil before)) h
 
 -- at the begin of a text
-at_begin : {O : Type 0} (taken : O → List ℕ → Type 0) (accepts : O → ℕ → Type 0) (faults : O → ℕ) (old : O) (known : Option (List ℕ)) (text : List ℕ) (spare : Option ℕ)
-    → IfSome known (λ before. taken old before) → IfSome spare (λ n. accepts old (length text + n))
-    → Stands (begin_of known (faults old) text spare) (state taken accepts faults old nothing) text
-at_begin taken accepts faults old known text spare told sure = record { done = []; parts = refl; took = took_nothing (taken old) known told; later = omega arith; spare = sure }
+at_begin : {O : Type 0} (receipt : O → Receipt) (old : O) (known : Option (List ℕ)) (text : List ℕ) (spare : Option ℕ)
+    → IfSome known (λ before. (receipt old).taken before) → IfSome spare (λ n. (receipt old).accepts (length text + n))
+    → Stands (begin_of known (receipt old).faults text spare) (state receipt old nothing) text
+at_begin receipt old known text spare told sure = record { done = []; parts = refl; took = took_nothing (receipt old).taken known told; later = omega arith; spare = sure }
 
 front_of : (done lost text : List ℕ) → text ≡ done ++ lost → take (length done) text ≡ done
 front_of done lost text is = ap (λ (z : List ℕ). take (length done) z) is ∙ take-append_seam done lost
@@ -25,30 +26,30 @@ shorter : (done lost text : List ℕ) → text ≡ done ++ lost → 0 < length l
 shorter done lost text is some = omega (arith, ap (λ (z : List ℕ). length z) is, length-append done lost)
 
 -- a text that was put through an output, from its begin to its end, was written
-pub writes_whole : {O : Type 0} (taken : O → List ℕ → Type 0) (accepts : O → ℕ → Type 0) (faults : O → ℕ) (old new : O) (mid : State) (text : List ℕ → List ℕ) (result : Result (Unit {0}) Failed)
-    → Puts text (state taken accepts faults old nothing) mid → Finishes mid (state taken accepts faults new nothing) result → Writes taken accepts faults old new (text []) result
-writes_whole taken accepts faults old new mid text (Ok u) puts ends =
-    let plain = ends (begin_of None (faults old) (text []) None) (puts (begin_of None (faults old) (text []) None) [] (at_begin taken accepts faults old None (text []) None tt tt)) in
+pub writes_whole : {O : Type 0} (receipt : O → Receipt) (old new : O) (mid : State) (text : List ℕ → List ℕ) (result : Result (Unit {0}) Failed)
+    → Puts text (state receipt old nothing) mid → Finishes mid (state receipt new nothing) result → Writes receipt old new (text []) result
+writes_whole receipt old new mid text (Ok u) puts ends =
+    let plain = ends (begin_of None (receipt old).faults (text []) None) (puts (begin_of None (receipt old).faults (text []) None) [] (at_begin receipt old None (text []) None tt tt)) in
     record {
       all = λ before h.
-          let w = ends (begin_of (Some before) (faults old) (text []) None) (puts (begin_of (Some before) (faults old) (text []) None) [] (at_begin taken accepts faults old (Some before) (text []) None h tt)) in
-          subst (λ (z : List ℕ). taken new (before ++ z)) (sym (w.parts ∙ append-nil w.done)) w.took;
+          let w = ends (begin_of (Some before) (receipt old).faults (text []) None) (puts (begin_of (Some before) (receipt old).faults (text []) None) [] (at_begin receipt old (Some before) (text []) None h tt)) in
+          subst (λ (z : List ℕ). (receipt new).taken (before ++ z)) (sym (w.parts ∙ append-nil w.done)) w.took;
       front = tt;
       cause = record { later = plain.later; failed = tt };
       accepted = λ n h.
-          let w = ends (begin_of None (faults old) (text []) (Some n)) (puts (begin_of None (faults old) (text []) (Some n)) [] (at_begin taken accepts faults old None (text []) (Some n) tt h)) in
-          (refl, subst (accepts new) (zero-add n) w.spare);
+          let w = ends (begin_of None (receipt old).faults (text []) (Some n)) (puts (begin_of None (receipt old).faults (text []) (Some n)) [] (at_begin receipt old None (text []) (Some n) tt h)) in
+          (refl, subst (receipt new).accepts (zero-add n) w.spare);
     }
-writes_whole taken accepts faults old new mid text (Err e) puts ends =
-    let plain = ends (begin_of None (faults old) (text []) None) (puts (begin_of None (faults old) (text []) None) [] (at_begin taken accepts faults old None (text []) None tt tt)) in
+writes_whole receipt old new mid text (Err e) puts ends =
+    let plain = ends (begin_of None (receipt old).faults (text []) None) (puts (begin_of None (receipt old).faults (text []) None) [] (at_begin receipt old None (text []) None tt tt)) in
     record {
       all = tt;
       front = λ before h.
-          let w = ends (begin_of (Some before) (faults old) (text []) None) (puts (begin_of (Some before) (faults old) (text []) None) [] (at_begin taken accepts faults old (Some before) (text []) None h tt)) in
-          (length w.done, shorter w.done w.lost (text []) w.parts w.short, subst (λ (z : List ℕ). taken new (before ++ z)) (sym (front_of w.done w.lost (text []) w.parts)) w.took);
+          let w = ends (begin_of (Some before) (receipt old).faults (text []) None) (puts (begin_of (Some before) (receipt old).faults (text []) None) [] (at_begin receipt old (Some before) (text []) None h tt)) in
+          (length w.done, shorter w.done w.lost (text []) w.parts w.short, subst (λ (z : List ℕ). (receipt new).taken (before ++ z)) (sym (front_of w.done w.lost (text []) w.parts)) w.took);
       cause = record { later = plain.later; failed = plain.rose };
       accepted = λ n h.
-          let w = ends (begin_of None (faults old) (text []) (Some n)) (puts (begin_of None (faults old) (text []) (Some n)) [] (at_begin taken accepts faults old None (text []) (Some n) tt h)) in
+          let w = ends (begin_of None (receipt old).faults (text []) (Some n)) (puts (begin_of None (receipt old).faults (text []) (Some n)) [] (at_begin receipt old None (text []) (Some n) tt h)) in
           let none : true ≡ false = w.unsure in
           absurd (cc none);
     }

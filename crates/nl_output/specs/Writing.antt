@@ -1,7 +1,7 @@
 -- A text is being written to a sink, through a buffer.
 use Rattle.std.specs.Prelude.{◌≡◌, ℕ, ◌+◌, ◌≤◌, ◌<◌, Bool, true, false, List, [], ◌++◌, length, take, Option, Result, Ok, Err, OnOk, OnErr, IfSome, IsNone, IsOk}
 use Rattle.nl_io.specs.Causes.{Rose, HasCause}
-use Rattle.nl_io.specs.Sinks.{Gains}
+use Rattle.nl_io.specs.Sinks.{Gains, Receipt}
 use Rattle.nl_io.specs.declared.source.Failed.{Failed}
 
 -- what is seen of an output: the bytes that it holds, and whether the sink has failed
@@ -15,14 +15,12 @@ nothing = record { bytes = []; failed = false }
 
 -- what is seen of an output and its sink
 pub record State : Type 1 where
-  pub taken : List ℕ → Type 0
-  pub accepts : ℕ → Type 0
-  pub faults : ℕ
+  pub sink : Receipt
   pub held : Held
 
--- an output and its sink, by the members of the sink's trait
-abbrev pub state : {O : Type 0} → (O → List ℕ → Type 0) → (O → ℕ → Type 0) → (O → ℕ) → O → Held → State
-state taken accepts faults sink held = record { taken = taken sink; accepts = accepts sink; faults = faults sink; held = held }
+-- an output and its sink, by the member of the sink's trait
+abbrev pub state : {O : Type 0} → (O → Receipt) → O → Held → State
+state receipt sink held = record { sink = receipt sink; held = held }
 
 -- The begin of a whole text: what the sink had taken before, where that is known; how often it had failed; the whole text;
 -- and how many bytes more than the text the sink was known to accept, if it was.
@@ -36,9 +34,9 @@ pub record Begin : Type 0 where
 pub record Stands (b : Begin) (s : State) (rest : List ℕ) : Type 0 where
   pub done : List ℕ
   pub parts : b.whole ≡ done ++ (s.held.bytes ++ rest)
-  pub took : IfSome b.taken (λ before. s.taken (before ++ done))
-  pub later : b.faults ≤ s.faults
-  pub spare : IfSome b.spare (λ n. s.accepts (length (s.held.bytes ++ rest) + n))
+  pub took : IfSome b.taken (λ before. s.sink.taken (before ++ done))
+  pub later : b.faults ≤ s.sink.faults
+  pub spare : IfSome b.spare (λ n. s.sink.accepts (length (s.held.bytes ++ rest) + n))
 
 -- Of a whole text a shorter front was put when the sink failed.
 pub record Broke (b : Begin) (s : State) : Type 0 where
@@ -46,9 +44,9 @@ pub record Broke (b : Begin) (s : State) : Type 0 where
   pub lost : List ℕ
   pub parts : b.whole ≡ done ++ lost
   pub short : 0 < length lost
-  pub took : IfSome b.taken (λ before. s.taken (before ++ done))
-  pub later : b.faults ≤ s.faults
-  pub rose : Rose b.faults s.faults
+  pub took : IfSome b.taken (λ before. s.sink.taken (before ++ done))
+  pub later : b.faults ≤ s.sink.faults
+  pub rose : Rose b.faults s.sink.faults
   pub unsure : IsNone b.spare
 
 -- how far the writing of a whole text has come
@@ -74,8 +72,8 @@ Finishes old new (Ok u) = (b : Begin) → ToCome b old [] → Stood false b (rec
 Finishes old new (Err e) = (b : Begin) → ToCome b old [] → Broke b new
 
 -- The whole text was written to a sink, or a shorter front of it where a put failed.
-pub record Writes {O : Type 0} (taken : O → List ℕ → Type 0) (accepts : O → ℕ → Type 0) (faults : O → ℕ) (old new : O) (text : List ℕ) (result : Result (Unit {0}) Failed) : Type 0 where
-  pub all : OnOk result (Gains (taken old) (taken new) text)
-  pub front : OnErr result ((before : List ℕ) → taken old before → (n : ℕ) × (n < length text) × taken new (before ++ take n text))
-  pub cause : HasCause (faults old) (faults new) result
-  pub accepted : (n : ℕ) → accepts old (length text + n) → IsOk result × accepts new n
+pub record Writes {O : Type 0} (receipt : O → Receipt) (old new : O) (text : List ℕ) (result : Result (Unit {0}) Failed) : Type 0 where
+  pub all : OnOk result (Gains (receipt old).taken (receipt new).taken text)
+  pub front : OnErr result ((before : List ℕ) → (receipt old).taken before → (n : ℕ) × (n < length text) × (receipt new).taken (before ++ take n text))
+  pub cause : HasCause (receipt old).faults (receipt new).faults result
+  pub accepted : (n : ℕ) → (receipt old).accepts (length text + n) → IsOk result × (receipt new).accepts n

@@ -42,7 +42,7 @@ fn write_at(buffer: &mut [u8], index: usize, bytes: &[u8])
 
 /// Puts bytes to the sink, unless it has failed, and answers whether it has failed then.
 fn fails_to_put<O: Sink>(failed: bool, bytes: &[u8], sink: &mut O) -> bool
-    ensures { Puts (λ rest. bytes.now ++ rest) (state O.taken O.accepts O.faults sink.old (record { bytes = []; failed = failed })) (state O.taken O.accepts O.faults sink.new (record { bytes = []; failed = result })) }
+    ensures { Puts (λ rest. bytes.now ++ rest) (state O.receipt sink.old (record { bytes = []; failed = failed })) (state O.receipt sink.new (record { bytes = []; failed = result })) }
 {
     if failed {
         return true;
@@ -88,7 +88,7 @@ impl Output {
     fn pass_on<O: Sink>(&mut self, bytes: &[u8], sink: &mut O)
         requires { self.old.bytes ≡ [] }
         ensures none { self.new.bytes ≡ [] }
-        ensures puts { Puts (λ rest. bytes.now ++ rest) (state O.taken O.accepts O.faults sink.old self.old) (state O.taken O.accepts O.faults sink.new self.new) }
+        ensures puts { Puts (λ rest. bytes.now ++ rest) (state O.receipt sink.old self.old) (state O.receipt sink.new self.new) }
     {
         self.count = 0;
         self.failed = fails_to_put(self.failed, bytes, sink);
@@ -97,7 +97,7 @@ impl Output {
     /// Puts what is held to the sink, unless it has failed. Nothing is held then.
     fn drain<O: Sink>(&mut self, sink: &mut O)
         ensures none { self.new.bytes ≡ [] }
-        ensures puts { Drains (state O.taken O.accepts O.faults sink.old self.old) (state O.taken O.accepts O.faults sink.new self.new) }
+        ensures puts { Drains (state O.receipt sink.old self.old) (state O.receipt sink.new self.new) }
     {
         let (held, _) = self.buffer.split_at(self.count);
         self.failed = fails_to_put(self.failed, held, sink);
@@ -107,7 +107,7 @@ impl Output {
     /// Puts bytes, where none are held.
     fn put_behind<O: Sink>(&mut self, bytes: &[u8], sink: &mut O)
         requires { self.old.bytes ≡ [] }
-        ensures { Puts (λ rest. bytes.now ++ rest) (state O.taken O.accepts O.faults sink.old self.old) (state O.taken O.accepts O.faults sink.new self.new) }
+        ensures { Puts (λ rest. bytes.now ++ rest) (state O.receipt sink.old self.old) (state O.receipt sink.new self.new) }
     {
         if bytes.len() <= ROOM {
             self.hold(bytes);
@@ -119,7 +119,7 @@ impl Output {
     /// Puts the bytes, which come next in the text that is being written.
     #[inline]
     pub fn put<O: Sink>(&mut self, bytes: &[u8], sink: &mut O)
-        ensures { Puts (λ rest. bytes.now ++ rest) (state O.taken O.accepts O.faults sink.old self.old) (state O.taken O.accepts O.faults sink.new self.new) }
+        ensures { Puts (λ rest. bytes.now ++ rest) (state O.receipt sink.old self.old) (state O.receipt sink.new self.new) }
     {
         if bytes.len() <= ROOM - self.held() {
             self.hold(bytes);
@@ -131,7 +131,7 @@ impl Output {
 
     /// Puts the decimal text of a number, with a `-` where it is negative.
     pub fn put_int<O: Sink>(&mut self, number: &Int, sink: &mut O)
-        ensures { Puts (λ rest. signed_decimal number.now ++ rest) (state O.taken O.accepts O.faults sink.old self.old) (state O.taken O.accepts O.faults sink.new self.new) }
+        ensures { Puts (λ rest. signed_decimal number.now ++ rest) (state O.receipt sink.old self.old) (state O.receipt sink.new self.new) }
     {
         let mut digits = [0; 20];
         let count = number.spell(&mut digits);
@@ -141,7 +141,7 @@ impl Output {
 
     /// Puts the decimal text of a number.
     pub fn put_u64<O: Sink>(&mut self, number: u64, sink: &mut O)
-        ensures { Puts (λ rest. decimal number ++ rest) (state O.taken O.accepts O.faults sink.old self.old) (state O.taken O.accepts O.faults sink.new self.new) }
+        ensures { Puts (λ rest. decimal number ++ rest) (state O.receipt sink.old self.old) (state O.receipt sink.new self.new) }
     {
         let mut digits = [0; 20];
         let count = spell_u64(number, &mut digits);
@@ -151,7 +151,7 @@ impl Output {
 
     /// Ends the text: what is held is put, and it is answered whether the sink took the whole text.
     pub fn finish<O: Sink>(mut self, sink: &mut O) -> Result<(), Failed>
-        ensures { Finishes (state O.taken O.accepts O.faults sink.old self) (state O.taken O.accepts O.faults sink.new nothing) result }
+        ensures { Finishes (state O.receipt sink.old self) (state O.receipt sink.new nothing) result }
     {
         self.drain(sink);
         if self.failed {

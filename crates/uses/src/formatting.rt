@@ -15,7 +15,7 @@ pub fn format<S: Source, O: Sink>(alloc: Global, source: &mut S, sink: &mut O) -
         (λ bytes. (fault : TextFault) × EdifFault bytes fault × (place ≡ fault.place))) }
     ensures unwritten { IsSome result → sink.new ≡ sink.old }
     ensures written { IsNone result → (sink.new ≡ sink.old)
-        ⊎ TookText O.taken O.accepts O.faults (S.supply source.old).left sink.old sink.new }
+        ⊎ TookText O.receipt (S.supply source.old).left sink.old sink.new }
 {
     match read_edif(alloc, source) {
         Ok(file) => {

@@ -5,5 +5,5 @@ use Rattle.edif_writer.proofs.file.write_edif.Goals as goal
 
 pub returns : goal.returns
 returns g c =
-    writes_whole g.O.Sink.taken g.O.Sink.accepts g.O.Sink.faults c.args.sink.now c.finish-result.new.sink _ (laid 0 (file_block c.args.file.now)) c.finish-result.result
+    writes_whole g.O.Sink.receipt c.args.sink.now c.finish-result.new.sink _ (laid 0 (file_block c.args.file.now)) c.finish-result.result
     (rw c.new-output.ensures at c.lay.ensures) c.finish-result.ensures

@@ -6,10 +6,10 @@ use Rattle.edif_writer.proofs.forms.lay_each.Goals as goal
 pub loop-item-preserved : goal.loop-item-preserved
 loop-item-preserved g c b rest s =
     c.lay.ensures b _
-    (subst (λ (z : List ℕ). ToCome b (state g.O.Sink.taken g.O.Sink.accepts g.O.Sink.faults c.loop-item.sink c.loop-item.output) z)
+    (subst (λ (z : List ℕ). ToCome b (state g.O.Sink.receipt c.loop-item.sink c.loop-item.output) z)
     (lines_next c.args.indent g.T.OnLines.block c.args.items.now c.loop-item.item-index c.item-item.result rest c.loop-item-test.true c.item-item.is) (c.loop-item.invariant b rest s))
 
 pub returns : goal.returns
 returns g c b rest s =
-    subst (λ (z : List ℕ). ToCome b (state g.O.Sink.taken g.O.Sink.accepts g.O.Sink.faults c.loop-item.sink c.loop-item.output) z)
+    subst (λ (z : List ℕ). ToCome b (state g.O.Sink.receipt c.loop-item.sink c.loop-item.output) z)
     (lines_end c.args.indent g.T.OnLines.block c.args.items.now c.loop-item.item-index rest c.loop-item-test.false) (c.loop-item.invariant b rest s)

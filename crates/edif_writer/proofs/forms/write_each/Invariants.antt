@@ -5,5 +5,5 @@ use Rattle.edif_writer.proofs.forms.write_each.Given as goal
 
 abbrev pub invariant-loop-item : goal.invariant-loop-item
 invariant-loop-item g l =
-    (b : Begin) (rest : List ℕ) → ToCome b (state g.O.Sink.taken g.O.Sink.accepts g.O.Sink.faults l.fn.sink l.fn.output) (spaced (each g.T.OnLine.form l.items) rest)
-    → ToCome b (state g.O.Sink.taken g.O.Sink.accepts g.O.Sink.faults l.sink l.output) (spaced (each g.T.OnLine.form (drop l.item-index l.items)) rest)
+    (b : Begin) (rest : List ℕ) → ToCome b (state g.O.Sink.receipt l.fn.sink l.fn.output) (spaced (each g.T.OnLine.form l.items) rest)
+    → ToCome b (state g.O.Sink.receipt l.sink l.output) (spaced (each g.T.OnLine.form (drop l.item-index l.items)) rest)

@@ -23,10 +23,10 @@ write_tree-returns-in-List g t c = rw (c.in-List.is, list_form) (rw c.items.ensu
 pub write_trees-loop-tree-preserved : goal.write_trees-loop-tree-preserved
 write_trees-loop-tree-preserved g t c b rest s =
     c.write_tree.ensures b _ (c.put_blank.ensures b _
-    (subst (λ (z : List ℕ). ToCome b (state g.O.Sink.taken g.O.Sink.accepts g.O.Sink.faults c.loop-tree.sink c.loop-tree.output) z)
+    (subst (λ (z : List ℕ). ToCome b (state g.O.Sink.receipt c.loop-tree.sink c.loop-tree.output) z)
     (between_next tree_form c.loop-tree.due c.args.trees.now c.loop-tree.tree-index c.tree-item.result rest c.loop-tree-test.true c.tree-item.is) (c.loop-tree.invariant b rest s)))
 
 pub write_trees-returns : goal.write_trees-returns
 write_trees-returns g t c b rest s =
-    subst (λ (z : List ℕ). ToCome b (state g.O.Sink.taken g.O.Sink.accepts g.O.Sink.faults c.loop-tree.sink c.loop-tree.output) z)
+    subst (λ (z : List ℕ). ToCome b (state g.O.Sink.receipt c.loop-tree.sink c.loop-tree.output) z)
     (between_end tree_form c.loop-tree.due c.args.trees.now c.loop-tree.tree-index rest c.loop-tree-test.false) (c.loop-tree.invariant b rest s)

@@ -6,5 +6,5 @@ use Rattle.edif_writer.proofs.note.+trees.Given as goal
 
 abbrev pub invariant-write_trees-loop-tree : goal.invariant-write_trees-loop-tree
 invariant-write_trees-loop-tree g l =
-    (b : Begin) (rest : List ℕ) → ToCome b (state g.O.Sink.taken g.O.Sink.accepts g.O.Sink.faults l.fn.sink l.fn.output) (between l.fn.blank (each tree_form l.trees) rest)
-    → ToCome b (state g.O.Sink.taken g.O.Sink.accepts g.O.Sink.faults l.sink l.output) (between l.due (each tree_form (drop l.tree-index l.trees)) rest)
+    (b : Begin) (rest : List ℕ) → ToCome b (state g.O.Sink.receipt l.fn.sink l.fn.output) (between l.fn.blank (each tree_form l.trees) rest)
+    → ToCome b (state g.O.Sink.receipt l.sink l.output) (between l.due (each tree_form (drop l.tree-index l.trees)) rest)

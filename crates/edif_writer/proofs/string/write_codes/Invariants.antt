@@ -5,4 +5,4 @@ use Rattle.edif_writer.proofs.string.write_codes.Given as goal
 
 abbrev pub invariant-loop-byte : goal.invariant-loop-byte
 invariant-loop-byte g l =
-    (b : Begin) (rest : List ℕ) → ToCome b (state g.O.Sink.taken g.O.Sink.accepts g.O.Sink.faults l.fn.sink l.fn.output) (codes_text l.bytes rest) → ToCome b (state g.O.Sink.taken g.O.Sink.accepts g.O.Sink.faults l.sink l.output) (codes_text (drop l.byte-index l.bytes) rest)
+    (b : Begin) (rest : List ℕ) → ToCome b (state g.O.Sink.receipt l.fn.sink l.fn.output) (codes_text l.bytes rest) → ToCome b (state g.O.Sink.receipt l.sink l.output) (codes_text (drop l.byte-index l.bytes) rest)

@@ -12,7 +12,7 @@ returns-clause-shorter g c =
 pub returns-clause-puts : goal.returns-clause-puts
 returns-clause-puts g c b rest s =
     c.write_escape.ensures b _ (c.put.ensures b _
-    (subst (λ (z : List ℕ). ToCome b (state g.O.Sink.taken g.O.Sink.accepts g.O.Sink.faults c.args.sink.now c.args.output.now) z)
+    (subst (λ (z : List ℕ). ToCome b (state g.O.Sink.receipt c.args.sink.now c.args.output.now) z)
     (run_next c.args.bytes.now c.split_at.result.0.now c.split_at.result.1.now c.split_at-2.result.0.now c.split_at-2.result.1.now rest
     (c.split_at.ensures.front ∙ ap (λ (n : ℕ). take n c.args.bytes.now) c.plain_front.ensures.count)
     (c.split_at.ensures.back ∙ ap (λ (n : ℕ). drop n c.args.bytes.now) c.plain_front.ensures.count)

@@ -20,7 +20,7 @@ loop-place-preserved g c = λ paths of b rest h.
     let place : ℕ = get_or c.args.places.now c.loop-place.place-index 0 in
     let lt : place < length c.args.flat.now.terminals = c.requires.places c.loop-place.place-index 0 c.loop-place-test.true in
     let text = terminals_next c.args.hier.now.cells c.args.flat.now.spots paths c.args.flat.now.terminals c.terminals.result.now c.args.places.now c.loop-place.place-index (Port 0 0) rest c.terminals.ensures c.loop-place-test.true lt in
-    let puts : (ps : List Path) → ArePaths c.args.hier.now.cells c.args.flat.now.spots ps → (z : Begin) (r : List ℕ) → ToCome z (state g.O.Sink.taken g.O.Sink.accepts g.O.Sink.faults c.loop-place.sink c.loop-place.output) (terminal_then c.args.hier.now.cells c.args.flat.now.spots ps (Some (get_or c.terminals.result.now place (Port 0 0))) r) → ToCome z (state g.O.Sink.taken g.O.Sink.accepts g.O.Sink.faults c.put_terminal.new.sink c.put_terminal.new.output) r =
-    subst (λ ss. (ps : List Path) → ArePaths c.args.hier.now.cells ss ps → (z : Begin) (r : List ℕ) → ToCome z (state g.O.Sink.taken g.O.Sink.accepts g.O.Sink.faults c.loop-place.sink c.loop-place.output) (terminal_then c.args.hier.now.cells ss ps (Some (get_or c.terminals.result.now place (Port 0 0))) r) → ToCome z (state g.O.Sink.taken g.O.Sink.accepts g.O.Sink.faults c.put_terminal.new.sink c.put_terminal.new.output) r) c.spots-spots.ensures c.put_terminal.ensures in
+    let puts : (ps : List Path) → ArePaths c.args.hier.now.cells c.args.flat.now.spots ps → (z : Begin) (r : List ℕ) → ToCome z (state g.O.Sink.receipt c.loop-place.sink c.loop-place.output) (terminal_then c.args.hier.now.cells c.args.flat.now.spots ps (Some (get_or c.terminals.result.now place (Port 0 0))) r) → ToCome z (state g.O.Sink.receipt c.put_terminal.new.sink c.put_terminal.new.output) r =
+    subst (λ ss. (ps : List Path) → ArePaths c.args.hier.now.cells ss ps → (z : Begin) (r : List ℕ) → ToCome z (state g.O.Sink.receipt c.loop-place.sink c.loop-place.output) (terminal_then c.args.hier.now.cells ss ps (Some (get_or c.terminals.result.now place (Port 0 0))) r) → ToCome z (state g.O.Sink.receipt c.put_terminal.new.sink c.put_terminal.new.output) r) c.spots-spots.ensures c.put_terminal.ensures in
     puts paths of b (terminals_then c.args.hier.now.cells c.args.flat.now.spots paths c.args.flat.now.terminals (drop (c.loop-place.place-index + 1) c.args.places.now) rest)
-    (subst (ToCome b (state g.O.Sink.taken g.O.Sink.accepts g.O.Sink.faults c.loop-place.sink c.loop-place.output)) text (c.loop-place.invariant paths of b rest h))
+    (subst (ToCome b (state g.O.Sink.receipt c.loop-place.sink c.loop-place.output)) text (c.loop-place.invariant paths of b rest h))

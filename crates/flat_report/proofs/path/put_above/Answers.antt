@@ -18,5 +18,5 @@ loop-place-preserved g c = record {
       ∙ ap (λ n. quoted n (codes "/" ++ names_then (map (instance_name c.args.hier.now.cells c.args.spots.now) (take (c.loop-place.place - 1) c.args.above.now)) rest)) (sym c.instance_name.ensures)) in
       c.put.ensures b (names_then (map (instance_name c.args.hier.now.cells c.args.spots.now) (take (c.loop-place.place - 1) c.args.above.now)) rest)
       (c.write_string.ensures b (codes "/" ++ names_then (map (instance_name c.args.hier.now.cells c.args.spots.now) (take (c.loop-place.place - 1) c.args.above.now)) rest)
-      (subst (ToCome b (state g.O.Sink.taken g.O.Sink.accepts g.O.Sink.faults c.loop-place.sink c.loop-place.output)) text (c.loop-place.invariant.to_come b rest h)));
+      (subst (ToCome b (state g.O.Sink.receipt c.loop-place.sink c.loop-place.output)) text (c.loop-place.invariant.to_come b rest h)));
 }

@@ -35,4 +35,4 @@ pub returns : goal.returns
 returns g c = λ path at b rest h.
     let o = way_of_path c.args.hier.now c.cells-cells.ensures.valid.valid c.args.spots.now c.requires.spots path c.args.spot at in
     let text = ap (λ ws. path_then (map (instance_name c.args.hier.now.cells c.args.spots.now) ws) rest) (c.way_up-count.ensures.way o.way o.is_way) ∙ ap (λ p. path_then p rest) o.names in
-    c.put_way.ensures b rest (subst (ToCome b (state g.O.Sink.taken g.O.Sink.accepts g.O.Sink.faults c.args.sink.now c.args.output.now)) (sym text) h)
+    c.put_way.ensures b rest (subst (ToCome b (state g.O.Sink.receipt c.args.sink.now c.args.output.now)) (sym text) h)

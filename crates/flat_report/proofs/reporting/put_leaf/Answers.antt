@@ -30,7 +30,7 @@ returns g c = λ paths of b rest h.
     let name = name_read c.args.hier.now.cells c.args.spots.now c.args.leaf spot c.index-cells-cell.result c.bytes.result.now (10 ∷ rest) there is (c.bytes.ensures ∙ ap (λ (w : HCell). w.name) (sym c.index-cells-cell.is)) in
     c.put-3.ensures b rest
     (c.write_string.ensures b (10 ∷ rest)
-    (subst (ToCome b (state g.O.Sink.taken g.O.Sink.accepts g.O.Sink.faults c.put-2.new.sink c.put-2.new.self)) name
+    (subst (ToCome b (state g.O.Sink.receipt c.put-2.new.sink c.put-2.new.self)) name
     (c.put-2.ensures b (name_then (cell_of c.args.hier.now.cells (slice_get c.args.spots.now c.args.leaf)) (10 ∷ rest))
     (c.put_path.ensures (path_at paths c.args.leaf) (listed_path c.args.hier.now c.cells-cells.ensures.valid.valid c.args.spots.now c.requires.spots paths of c.args.leaf c.requires.leaf) b (32 ∷ name_then (cell_of c.args.hier.now.cells (slice_get c.args.spots.now c.args.leaf)) (10 ∷ rest))
     (c.put.ensures b (path_then (path_at paths c.args.leaf) (32 ∷ name_then (cell_of c.args.hier.now.cells (slice_get c.args.spots.now c.args.leaf)) (10 ∷ rest))) h)))))

@@ -7,5 +7,5 @@ use Rattle.flat_report.proofs.reporting.put_nets.Given as goal
 abbrev pub invariant-loop-places : goal.invariant-loop-places
 invariant-loop-places g l =
     (paths : List Path) → ArePaths l.hier.cells l.flat.spots paths → (b : Begin) (rest : List ℕ) →
-    ToCome b (state g.O.Sink.taken g.O.Sink.accepts g.O.Sink.faults l.fn.sink l.fn.output) (nets_then l.hier.cells l.flat.spots paths l.flat.terminals (map (λ list. list.items) l.members) rest)
-    → ToCome b (state g.O.Sink.taken g.O.Sink.accepts g.O.Sink.faults l.sink l.output) (nets_then l.hier.cells l.flat.spots paths l.flat.terminals (map (λ list. list.items) (drop l.places-index l.members)) rest)
+    ToCome b (state g.O.Sink.receipt l.fn.sink l.fn.output) (nets_then l.hier.cells l.flat.spots paths l.flat.terminals (map (λ list. list.items) l.members) rest)
+    → ToCome b (state g.O.Sink.receipt l.sink l.output) (nets_then l.hier.cells l.flat.spots paths l.flat.terminals (map (λ list. list.items) (drop l.places-index l.members)) rest)

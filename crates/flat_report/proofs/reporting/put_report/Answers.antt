@@ -17,12 +17,12 @@ returns g c = λ paths of b rest h.
     let nets : List ℕ = nets_then c.args.hier.now.cells c.args.flat.now.spots paths c.args.flat.now.terminals (groups_of c.args.flat.now) rest in
     let counted : List ℕ = count_then (codes "nets") (length (filter has_two (groups_of c.args.flat.now))) nets in
     let leaves : List ℕ = leaves_then c.args.hier.now.cells c.args.flat.now.spots paths c.args.flat.now.leaves counted in
-    let puts_leaves : (z : Begin) (r : List ℕ) → ToCome z (state g.O.Sink.taken g.O.Sink.accepts g.O.Sink.faults c.put_count.new.sink c.put_count.new.output) (leaves_then c.args.hier.now.cells c.args.flat.now.spots paths c.args.flat.now.leaves r) → ToCome z (state g.O.Sink.taken g.O.Sink.accepts g.O.Sink.faults c.put_leaves.new.sink c.put_leaves.new.output) r =
-    subst₂ (λ ls ss. (ps : List Path) → ArePaths c.args.hier.now.cells ss ps → (z : Begin) (r : List ℕ) → ToCome z (state g.O.Sink.taken g.O.Sink.accepts g.O.Sink.faults c.put_count.new.sink c.put_count.new.output) (leaves_then c.args.hier.now.cells ss ps ls r) → ToCome z (state g.O.Sink.taken g.O.Sink.accepts g.O.Sink.faults c.put_leaves.new.sink c.put_leaves.new.output) r) c.leaves-2.ensures c.spots.ensures c.put_leaves.ensures paths of in
-    let puts_nets : ToCome b (state g.O.Sink.taken g.O.Sink.accepts g.O.Sink.faults c.put_count-2.new.sink c.put_count-2.new.output) nets → ToCome b (state g.O.Sink.taken g.O.Sink.accepts g.O.Sink.faults c.put_nets.new.sink c.put_nets.new.output) rest =
-    subst (λ ls. ToCome b (state g.O.Sink.taken g.O.Sink.accepts g.O.Sink.faults c.put_count-2.new.sink c.put_count-2.new.output) (nets_then c.args.hier.now.cells c.args.flat.now.spots paths c.args.flat.now.terminals ls rest) → ToCome b (state g.O.Sink.taken g.O.Sink.accepts g.O.Sink.faults c.put_nets.new.sink c.put_nets.new.output) rest) lists (c.put_nets.ensures paths of b rest) in
-    let puts_count : ToCome b (state g.O.Sink.taken g.O.Sink.accepts g.O.Sink.faults c.put_leaves.new.sink c.put_leaves.new.output) counted → ToCome b (state g.O.Sink.taken g.O.Sink.accepts g.O.Sink.faults c.put_count-2.new.sink c.put_count-2.new.output) nets =
-    subst (λ n. ToCome b (state g.O.Sink.taken g.O.Sink.accepts g.O.Sink.faults c.put_leaves.new.sink c.put_leaves.new.output) (count_then (codes "nets") n nets) → ToCome b (state g.O.Sink.taken g.O.Sink.accepts g.O.Sink.faults c.put_count-2.new.sink c.put_count-2.new.output) nets) count (c.put_count-2.ensures b nets) in
-    let puts_first : ToCome b (state g.O.Sink.taken g.O.Sink.accepts g.O.Sink.faults c.put_design.new.sink c.put_design.new.output) (count_then (codes "leaves") (length c.args.flat.now.leaves) leaves) → ToCome b (state g.O.Sink.taken g.O.Sink.accepts g.O.Sink.faults c.put_count.new.sink c.put_count.new.output) leaves =
-    subst (λ ls. ToCome b (state g.O.Sink.taken g.O.Sink.accepts g.O.Sink.faults c.put_design.new.sink c.put_design.new.output) (count_then (codes "leaves") (length ls) leaves) → ToCome b (state g.O.Sink.taken g.O.Sink.accepts g.O.Sink.faults c.put_count.new.sink c.put_count.new.output) leaves) c.leaves.ensures (c.put_count.ensures b leaves) in
+    let puts_leaves : (z : Begin) (r : List ℕ) → ToCome z (state g.O.Sink.receipt c.put_count.new.sink c.put_count.new.output) (leaves_then c.args.hier.now.cells c.args.flat.now.spots paths c.args.flat.now.leaves r) → ToCome z (state g.O.Sink.receipt c.put_leaves.new.sink c.put_leaves.new.output) r =
+    subst₂ (λ ls ss. (ps : List Path) → ArePaths c.args.hier.now.cells ss ps → (z : Begin) (r : List ℕ) → ToCome z (state g.O.Sink.receipt c.put_count.new.sink c.put_count.new.output) (leaves_then c.args.hier.now.cells ss ps ls r) → ToCome z (state g.O.Sink.receipt c.put_leaves.new.sink c.put_leaves.new.output) r) c.leaves-2.ensures c.spots.ensures c.put_leaves.ensures paths of in
+    let puts_nets : ToCome b (state g.O.Sink.receipt c.put_count-2.new.sink c.put_count-2.new.output) nets → ToCome b (state g.O.Sink.receipt c.put_nets.new.sink c.put_nets.new.output) rest =
+    subst (λ ls. ToCome b (state g.O.Sink.receipt c.put_count-2.new.sink c.put_count-2.new.output) (nets_then c.args.hier.now.cells c.args.flat.now.spots paths c.args.flat.now.terminals ls rest) → ToCome b (state g.O.Sink.receipt c.put_nets.new.sink c.put_nets.new.output) rest) lists (c.put_nets.ensures paths of b rest) in
+    let puts_count : ToCome b (state g.O.Sink.receipt c.put_leaves.new.sink c.put_leaves.new.output) counted → ToCome b (state g.O.Sink.receipt c.put_count-2.new.sink c.put_count-2.new.output) nets =
+    subst (λ n. ToCome b (state g.O.Sink.receipt c.put_leaves.new.sink c.put_leaves.new.output) (count_then (codes "nets") n nets) → ToCome b (state g.O.Sink.receipt c.put_count-2.new.sink c.put_count-2.new.output) nets) count (c.put_count-2.ensures b nets) in
+    let puts_first : ToCome b (state g.O.Sink.receipt c.put_design.new.sink c.put_design.new.output) (count_then (codes "leaves") (length c.args.flat.now.leaves) leaves) → ToCome b (state g.O.Sink.receipt c.put_count.new.sink c.put_count.new.output) leaves =
+    subst (λ ls. ToCome b (state g.O.Sink.receipt c.put_design.new.sink c.put_design.new.output) (count_then (codes "leaves") (length ls) leaves) → ToCome b (state g.O.Sink.receipt c.put_count.new.sink c.put_count.new.output) leaves) c.leaves.ensures (c.put_count.ensures b leaves) in
     puts_nets (puts_count (puts_leaves b counted (puts_first (c.put_design.ensures b (count_then (codes "leaves") (length c.args.flat.now.leaves) leaves) h))))

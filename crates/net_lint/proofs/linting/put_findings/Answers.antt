@@ -15,4 +15,4 @@ returns g c = λ paths of b rest h.
     (c.put_terminals.ensures paths of b _
     (c.put_count.ensures b _
     (c.put_design.ensures b _
-    (subst (ToCome b (state g.O.Sink.taken g.O.Sink.accepts g.O.Sink.faults c.args.sink.now c.args.output.now)) text h)))))))
+    (subst (ToCome b (state g.O.Sink.receipt c.args.sink.now c.args.output.now)) text h)))))))

@@ -18,9 +18,9 @@ loop-first-preserved g c = λ paths of b rest h.
     let set : c.as_slice-set.result.now ≡ drivers_at c.args.flat.now.groups lists first = row_read c.args.drivers.now c.args.flat.now.groups first c.group.result c.index-drivers-group.result c.as_slice-set.result.now group (omega (arith, group, within, c.requires.groups)) c.index-drivers-group.is c.as_slice-set.ensures.value in
     let text = sets_next c.args.hier.now.cells c.args.flat.now.spots paths c.args.flat.now.terminals c.args.flat.now.groups lists c.args.firsts.now c.loop-first.first-index c.as_slice-set.result.now rest c.loop-first-test.true set in
     c.put_net.ensures paths of b (nets_then c.args.hier.now.cells c.args.flat.now.spots paths c.args.flat.now.terminals (sets_of c.args.flat.now.groups lists (drop (c.loop-first.first-index + 1) c.args.firsts.now)) rest)
-    (subst (ToCome b (state g.O.Sink.taken g.O.Sink.accepts g.O.Sink.faults c.loop-first.sink c.loop-first.output)) text (c.loop-first.invariant paths of b rest h))
+    (subst (ToCome b (state g.O.Sink.receipt c.loop-first.sink c.loop-first.output)) text (c.loop-first.invariant paths of b rest h))
 
 pub returns : goal.returns
 returns g c = λ paths of b rest h.
-    subst (λ fs. ToCome b (state g.O.Sink.taken g.O.Sink.accepts g.O.Sink.faults c.loop-first.sink c.loop-first.output) (nets_then c.args.hier.now.cells c.args.flat.now.spots paths c.args.flat.now.terminals (sets_of c.args.flat.now.groups (map (λ (list : Vec ℕ Global). list.items) c.args.drivers.now) fs) rest))
+    subst (λ fs. ToCome b (state g.O.Sink.receipt c.loop-first.sink c.loop-first.output) (nets_then c.args.hier.now.cells c.args.flat.now.spots paths c.args.flat.now.terminals (sets_of c.args.flat.now.groups (map (λ (list : Vec ℕ Global). list.items) c.args.drivers.now) fs) rest))
     (drop_all c.loop-first.first-index c.args.firsts.now c.loop-first-test.false) (c.loop-first.invariant paths of b rest h)

@@ -5,8 +5,8 @@ use Rattle.netlist_cli.proofs.generating.put_text.Goals as goal
 
 pub returns : goal.returns
 returns g c =
-    let wrote = writes_whole g.O.Sink.taken g.O.Sink.accepts g.O.Sink.faults c.args.sink.now c.finish-result.new.sink
-    (state g.O.Sink.taken g.O.Sink.accepts g.O.Sink.faults c.put.new.sink c.put.new.self)
+    let wrote = writes_whole g.O.Sink.receipt c.args.sink.now c.finish-result.new.sink
+    (state g.O.Sink.receipt c.put.new.sink c.put.new.self)
     (λ rest. c.bytes.result.now ++ rest) c.finish-result.result
     (λ b rest h. rw c.new-output.ensures at c.put.ensures b rest h) c.finish-result.ensures in
-    subst (λ (z : List ℕ). Writes g.O.Sink.taken g.O.Sink.accepts g.O.Sink.faults c.args.sink.now c.finish-result.new.sink z c.finish-result.result) (append-nil c.bytes.result.now ∙ c.bytes.ensures) wrote
+    subst (λ (z : List ℕ). Writes g.O.Sink.receipt c.args.sink.now c.finish-result.new.sink z c.finish-result.result) (append-nil c.bytes.result.now ∙ c.bytes.ensures) wrote

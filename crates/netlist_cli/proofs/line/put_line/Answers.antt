@@ -8,7 +8,7 @@ pub returns : goal.returns
 unfolding line
 returns g c =
     let message = rw c.new-output.ensures at c.put_message.ensures in
-    writes_whole g.E.Sink.taken g.E.Sink.accepts g.E.Sink.faults c.args.errors.now c.finish-result.new.sink
-    (state g.E.Sink.taken g.E.Sink.accepts g.E.Sink.faults c.put.new.sink c.put.new.self)
+    writes_whole g.E.Sink.receipt c.args.errors.now c.finish-result.new.sink
+    (state g.E.Sink.receipt c.put.new.sink c.put.new.self)
     (λ rest. message_then c.args.failure.now (codes "\n" ++ rest)) c.finish-result.result
     (λ b rest h. c.put.ensures b rest (message b (codes "\n" ++ rest) h)) c.finish-result.ensures

@@ -31,10 +31,10 @@ write_expr-returns-in-Rep g t c =
 pub write_exprs-loop-expr-preserved : goal.write_exprs-loop-expr-preserved
 write_exprs-loop-expr-preserved g t c b rest s =
     c.write_expr.ensures b _ (c.put_comma.ensures b _
-    (subst (λ (z : List ℕ). ToCome b (state g.O.Sink.taken g.O.Sink.accepts g.O.Sink.faults c.loop-expr.sink c.loop-expr.output) z)
+    (subst (λ (z : List ℕ). ToCome b (state g.O.Sink.receipt c.loop-expr.sink c.loop-expr.output) z)
     (between_next expr_form c.loop-expr.due c.args.exprs.now c.loop-expr.expr-index c.expr-item.result rest c.loop-expr-test.true c.expr-item.is) (c.loop-expr.invariant b rest s)))
 
 pub write_exprs-returns : goal.write_exprs-returns
 write_exprs-returns g t c b rest s =
-    subst (λ (z : List ℕ). ToCome b (state g.O.Sink.taken g.O.Sink.accepts g.O.Sink.faults c.loop-expr.sink c.loop-expr.output) z)
+    subst (λ (z : List ℕ). ToCome b (state g.O.Sink.receipt c.loop-expr.sink c.loop-expr.output) z)
     (between_end expr_form c.loop-expr.due c.args.exprs.now c.loop-expr.expr-index rest c.loop-expr-test.false) (c.loop-expr.invariant b rest s)

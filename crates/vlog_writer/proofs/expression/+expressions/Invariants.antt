@@ -6,5 +6,5 @@ use Rattle.vlog_writer.proofs.expression.+expressions.Given as goal
 
 abbrev pub invariant-write_exprs-loop-expr : goal.invariant-write_exprs-loop-expr
 invariant-write_exprs-loop-expr g l =
-    (b : Begin) (rest : List ℕ) → ToCome b (state g.O.Sink.taken g.O.Sink.accepts g.O.Sink.faults l.fn.sink l.fn.output) (between false (each expr_form l.exprs) rest)
-    → ToCome b (state g.O.Sink.taken g.O.Sink.accepts g.O.Sink.faults l.sink l.output) (between l.due (each expr_form (drop l.expr-index l.exprs)) rest)
+    (b : Begin) (rest : List ℕ) → ToCome b (state g.O.Sink.receipt l.fn.sink l.fn.output) (between false (each expr_form l.exprs) rest)
+    → ToCome b (state g.O.Sink.receipt l.sink l.output) (between l.due (each expr_form (drop l.expr-index l.exprs)) rest)

@@ -6,5 +6,5 @@ use Rattle.vlog_writer.proofs.file.lay_modules.Given as goal
 
 abbrev pub invariant-loop-module : goal.invariant-loop-module
 invariant-loop-module g l =
-    (b : Begin) (rest : List ℕ) → ToCome b (state g.O.Sink.taken g.O.Sink.accepts g.O.Sink.faults l.fn.sink l.fn.output) (laid (file_lines true l.modules) rest)
-    → ToCome b (state g.O.Sink.taken g.O.Sink.accepts g.O.Sink.faults l.sink l.output) (laid (file_lines l.before (drop l.module-index l.modules)) rest)
+    (b : Begin) (rest : List ℕ) → ToCome b (state g.O.Sink.receipt l.fn.sink l.fn.output) (laid (file_lines true l.modules) rest)
+    → ToCome b (state g.O.Sink.receipt l.sink l.output) (laid (file_lines l.before (drop l.module-index l.modules)) rest)

@@ -6,5 +6,5 @@ use Rattle.vlog_writer.proofs.item.lay_items.Given as goal
 
 abbrev pub invariant-loop-item : goal.invariant-loop-item
 invariant-loop-item g l =
-    (b : Begin) (rest : List ℕ) → ToCome b (state g.O.Sink.taken g.O.Sink.accepts g.O.Sink.faults l.fn.sink l.fn.output) (laid (all item_lines l.items) rest)
-    → ToCome b (state g.O.Sink.taken g.O.Sink.accepts g.O.Sink.faults l.sink l.output) (laid (all item_lines (drop l.item-index l.items)) rest)
+    (b : Begin) (rest : List ℕ) → ToCome b (state g.O.Sink.receipt l.fn.sink l.fn.output) (laid (all item_lines l.items) rest)
+    → ToCome b (state g.O.Sink.receipt l.sink l.output) (laid (all item_lines (drop l.item-index l.items)) rest)

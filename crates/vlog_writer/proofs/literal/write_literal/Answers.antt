@@ -7,4 +7,4 @@ pub returns : goal.returns
 returns g c b rest s =
     let size = rw c.from.ensures at c.put_u64.ensures in
     c.write_based.ensures b rest (size b _
-    (subst (λ (z : List ℕ). ToCome b (state g.O.Sink.taken g.O.Sink.accepts g.O.Sink.faults c.args.sink.now c.args.output.now) z) (literal_text c.args.literal.now rest) s))
+    (subst (λ (z : List ℕ). ToCome b (state g.O.Sink.receipt c.args.sink.now c.args.output.now) z) (literal_text c.args.literal.now rest) s))

@@ -6,5 +6,5 @@ use Rattle.vlog_writer.proofs.statement.write_overrides.Given as goal
 
 abbrev pub invariant-loop-set : goal.invariant-loop-set
 invariant-loop-set g l =
-    (b : Begin) (rest : List ℕ) → ToCome b (state g.O.Sink.taken g.O.Sink.accepts g.O.Sink.faults l.fn.sink l.fn.output) (further (each override_form l.sets) rest)
-    → ToCome b (state g.O.Sink.taken g.O.Sink.accepts g.O.Sink.faults l.sink l.output) (further (each override_form (drop l.set-index l.sets)) rest)
+    (b : Begin) (rest : List ℕ) → ToCome b (state g.O.Sink.receipt l.fn.sink l.fn.output) (further (each override_form l.sets) rest)
+    → ToCome b (state g.O.Sink.receipt l.sink l.output) (further (each override_form (drop l.set-index l.sets)) rest)

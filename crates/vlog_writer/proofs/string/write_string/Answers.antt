@@ -7,5 +7,5 @@ use Rattle.vlog_writer.proofs.string.write_string.Goals as goal
 pub returns : goal.returns
 returns g c b rest s =
     let none : length c.loop-rest.rest.now ≡ 0 = grind (arith, nat_tests, c.is_empty.ensures, c.loop-rest-test.false) in
-    c.put-2.ensures b rest (subst (λ (z : List ℕ). ToCome b (state g.O.Sink.taken g.O.Sink.accepts g.O.Sink.faults c.loop-rest.sink c.loop-rest.output) z)
+    c.put-2.ensures b rest (subst (λ (z : List ℕ). ToCome b (state g.O.Sink.receipt c.loop-rest.sink c.loop-rest.output) z)
     (string_end c.loop-rest.rest.now rest none) (c.loop-rest.invariant b rest s))

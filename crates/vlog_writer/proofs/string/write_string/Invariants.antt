@@ -5,7 +5,7 @@ use Rattle.vlog_writer.proofs.string.write_string.Given as goal
 
 abbrev pub invariant-loop-rest : goal.invariant-loop-rest
 invariant-loop-rest g l =
-    (b : Begin) (rest : List ℕ) → ToCome b (state g.O.Sink.taken g.O.Sink.accepts g.O.Sink.faults l.fn.sink l.fn.output) (quoted l.bytes rest) → ToCome b (state g.O.Sink.taken g.O.Sink.accepts g.O.Sink.faults l.sink l.output) (written l.rest rest)
+    (b : Begin) (rest : List ℕ) → ToCome b (state g.O.Sink.receipt l.fn.sink l.fn.output) (quoted l.bytes rest) → ToCome b (state g.O.Sink.receipt l.sink l.output) (written l.rest rest)
 
 abbrev pub decreases-loop-rest : goal.decreases-loop-rest
 decreases-loop-rest g l = length l.rest
