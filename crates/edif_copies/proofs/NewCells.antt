@@ -17,7 +17,7 @@ use Rattle.edif_design.specs.Design.{cell_value, instance_value, net_joins, port
 use Rattle.edif_design.specs.Parts.{nets, numbered}
 use Rattle.edif_design.specs.References.{LinkedCell, linked_cell, place_in}
 use Rattle.edif_lookup.specs.Candidates.{the_only}
-use Rattle.edif_naming.specs.Naming.{name_for}
+use Rattle.edif_written.specs.Naming.{name_for}
 use Rattle.edif_naming.proofs.NamingLaws.{original_name_for}
 use Rattle.edif_written.specs.Written.{cell_of}
 use Rattle.edif_written.proofs.Parts.{instances_are, nets_are, ports_are}

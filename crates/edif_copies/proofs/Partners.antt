@@ -9,8 +9,8 @@ use Rattle.edif_design.specs.References.{linked_cell, place_in}
 use Rattle.edif_plans.specs.Plans.{constant_number, head_at, head_of, number_of}
 use Rattle.edif_partners.proofs.Same.{made_same}
 use Rattle.edif_copies.specs.Answers.{IsEdifDesign}
-use Rattle.edif_copies.specs.Missing.{IsNeeded}
-use Rattle.edif_copies.specs.Planned.{IsOldAt, IsPlannedFile}
+use Rattle.edif_plans.specs.Missing.{IsNeeded}
+use Rattle.edif_plans.specs.Planned.{IsOldAt, IsPlannedFile}
 use Rattle.edif_copies.proofs.Lists.{at_most_two, stands_once}
 use Rattle.edif_copies.proofs.NewCells.{joins_name_none, new_is_constant}
 use Rattle.edif_copies.proofs.Placing.{IsCopy, are_placed, constant_stands, copy_at, copy_of, needed_by}

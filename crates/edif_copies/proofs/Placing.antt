@@ -12,7 +12,7 @@ use Rattle.edif_values.specs.declared.file.EdifFile.{EdifFile}
 use Rattle.edif_meanings.specs.Apart.{AreApart}
 use Rattle.edif_design.specs.CellRules.{means_view, port_ident}
 use Rattle.edif_design.specs.Parts.{ports}
-use Rattle.edif_naming.specs.Naming.{name_for}
+use Rattle.edif_written.specs.Naming.{name_for}
 use Rattle.edif_written.specs.Written.{cell_of, netlist}
 use Rattle.edif_written.proofs.Parts.{ports_are, view_is_meant}
 use Rattle.edif_plans.specs.Faces.{PortFace, face_for, face_of, size_for}
@@ -23,8 +23,8 @@ use Rattle.edif_plans.proofs.Lists.{at_get}
 use Rattle.edif_partners.specs.Files.{AreMadeCells, IsNewCell, IsOldCell}
 use Rattle.edif_partners.specs.Placed.{ArePlaced, ConstantStands, IsHeadFor, StandsAt}
 use Rattle.edif_partners.proofs.Free.{shown_at}
-use Rattle.edif_copies.specs.Missing.{IsNeeded}
-use Rattle.edif_copies.specs.Planned.{IsMadeOf, IsOldAt, IsPlannedFile}
+use Rattle.edif_plans.specs.Missing.{IsNeeded}
+use Rattle.edif_plans.specs.Planned.{IsMadeOf, IsOldAt, IsPlannedFile}
 use Rattle.edif_copies.proofs.Lists.{only_item, same_shown}
 use Rattle.net_bits.specs.Classes.{AreClasses, ClassTable}
 use Rattle.net_graph.proofs.ListLaws.{element_there, same_element}

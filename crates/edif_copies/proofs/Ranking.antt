@@ -6,7 +6,7 @@ use Rattle.edif_values.specs.declared.file.EdifFile.{EdifFile}
 use Rattle.edif_plans.specs.Plans.{number_of}
 use Rattle.edif_plans.proofs.Lists.{at_get}
 use Rattle.edif_copies.specs.Answers.{IsEdifDesign}
-use Rattle.edif_copies.specs.Planned.{IsPlannedFile}
+use Rattle.edif_plans.specs.Planned.{IsPlannedFile}
 use Rattle.edif_copies.proofs.Partners.{first_twin, made_at, same_copy}
 use Rattle.edif_copies.proofs.Placing.{all_below, kind_of}
 use Rattle.edif_copies.proofs.Reaching.{whole}

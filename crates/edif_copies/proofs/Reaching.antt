@@ -11,7 +11,7 @@ use Rattle.edif_design.specs.FileRules.{refusals}
 use Rattle.edif_design.specs.Parts.{instances}
 use Rattle.edif_design.specs.Reach.{is_reached, reached_marks}
 use Rattle.edif_design.specs.References.{CellPlace, all_cells, cell_meant, link_meant, linked_cell, number_meant, place_in, top}
-use Rattle.edif_naming.specs.Naming.{name_for}
+use Rattle.edif_written.specs.Naming.{name_for}
 use Rattle.edif_resolve.proofs.Linking.{inner_there}
 use Rattle.edif_resolve.proofs.Renumbering.{ComesFrom, design_at, design_from, top_reached}
 use Rattle.edif_written.specs.Written.{file_of, work}
@@ -23,8 +23,8 @@ use Rattle.edif_plans.specs.References.{Scene, added_place}
 use Rattle.edif_partners.proofs.AddedMeans.{IsAddedAt, added_at, get_right}
 use Rattle.edif_partners.proofs.FileRules.{made_file_none}
 use Rattle.edif_partners.proofs.Free.{get_left, shown_at}
-use Rattle.edif_copies.specs.Missing.{IsNeeded}
-use Rattle.edif_copies.specs.Planned.{IsMadeOf, IsPlannedFile}
+use Rattle.edif_plans.specs.Missing.{IsNeeded}
+use Rattle.edif_plans.specs.Planned.{IsMadeOf, IsPlannedFile}
 use Rattle.edif_copies.proofs.Lists.{all_counted, as_many, passed, stands_once}
 use Rattle.edif_copies.proofs.Placing.{IsCopy, are_made, are_placed, copy_at, head_for, kind_of}
 use Rattle.net_graph.specs.Graph.{IsAbove}

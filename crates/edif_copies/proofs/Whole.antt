@@ -7,7 +7,7 @@ use Rattle.edif_design.specs.FileRules.{first_E, recursion_refusals}
 use Rattle.edif_resolve.proofs.Fitting.{good_cells}
 use Rattle.edif_resolve.proofs.Recursion.{first_of_design, no_recursion_refusals}
 use Rattle.edif_copies.specs.Answers.{IsEdifDesign, IsEdifFor}
-use Rattle.edif_copies.specs.Planned.{IsPlannedFile}
+use Rattle.edif_plans.specs.Planned.{IsPlannedFile}
 use Rattle.edif_copies.proofs.Partners.{same_cells}
 use Rattle.edif_copies.proofs.Ranking.{none_reaches_itself}
 use Rattle.edif_copies.proofs.Reaching.{clean, is_top, start, whole}

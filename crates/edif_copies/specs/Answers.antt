@@ -7,7 +7,7 @@ use Rattle.net_hier.specs.SameDesign.{SameDesign}
 use Rattle.edif_values.specs.declared.file.EdifFile.{EdifFile}
 use Rattle.edif_design.specs.Design.{edif_design}
 use Rattle.edif_design.specs.FileRules.{first_E}
-use Rattle.edif_copies.specs.Missing.{AreMissing}
+use Rattle.edif_plans.specs.Missing.{AreMissing}
 
 -- The design has the cells, the top and the properties that the file says; of the order of its cells nothing is asked.
 pub record IsEdifDesign (file : EdifFile) (design : Design) : Type 0 where

@@ -1,7 +1,7 @@
 // The laws of files that are made of a design.
 ghost use Rattle.std.specs.Prelude.{ℕ, Bool, List};
 ghost use Rattle.edif_copies.specs.Answers.{IsEdifFor};
-ghost use Rattle.edif_copies.specs.Planned.{IsPlannedFile};
+ghost use Rattle.edif_plans.specs.Planned.{IsPlannedFile};
 ghost use Rattle.edif_design.specs.Design.{cell_value};
 ghost use Rattle.edif_design.specs.References.{linked_cell, place_in};
 ghost use Rattle.edif_values.specs.declared.file.EdifFile.{EdifFile};

@@ -16,10 +16,11 @@ use Rattle.edif_values.specs.declared.name.NameDef.{NameDef}
 use Rattle.edif_values.specs.declared.property.Property.{Property}
 use Rattle.edif_values.specs.declared.net.NetItem.TheVariants as net_items
 use Rattle.edif_design.specs.Design.{net_property, property_value}
-use Rattle.edif_naming.specs.Naming.{name_for, seen}
-use Rattle.edif_naming.specs.Sound.{AreSoundProps, IsShort, IsSoundProp}
+use Rattle.edif_written.specs.Naming.{name_for, seen}
+use Rattle.edif_written.specs.Sound.{AreSoundProps, IsShort, IsSoundProp}
 use Rattle.edif_naming.proofs.NamingLaws.{original_name_for}
-use Rattle.edif_naming.proofs.SoundLaws.{all_append, all_at, ascii_bytes}
+use Rattle.edif_naming.proofs.SoundLaws.{ascii_bytes}
+use Rattle.edif_written.proofs.Lists.{all_append, all_at}
 use Rattle.net_bits.specs.Classes.{ClassTable, members_of}
 use Rattle.net_hier.specs.Cells.{width_of}
 use Rattle.net_hier.specs.declared.cells.HNet.{HNet}

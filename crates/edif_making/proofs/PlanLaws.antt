@@ -7,7 +7,7 @@ use Rattle.std.proofs.lemmas.Option.{slice_get-map}
 use Rattle.edif_values.specs.Values.{IsString}
 use Rattle.net_bits.specs.Classes.{ClassTable}
 use Rattle.net_hier.specs.declared.cells.HCell.{HCell}
-use Rattle.edif_naming.proofs.SoundLaws.{all_push}
+use Rattle.edif_written.proofs.Lists.{all_push}
 use Rattle.edif_plans.proofs.Lists.{is_at}
 use Rattle.edif_plans.specs.NetNames.{net_names}
 use Rattle.edif_making.specs.Named.{IsNamed}

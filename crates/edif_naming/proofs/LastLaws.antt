@@ -8,10 +8,10 @@ use Rattle.std.proofs.lemmas.List.{map-append, take_all}
 use Rattle.edif_meanings.specs.Apart.{AreApart}
 use Rattle.edif_meanings.proofs.ApartLaws.{apart_more}
 use Rattle.edif_naming.specs.Few.{ArePlain}
-use Rattle.edif_naming.specs.Naming.{ident_of, name_of, property_for, seen, value_of}
-use Rattle.edif_naming.specs.Sound.{AreSoundProps, IsSoundProp}
+use Rattle.edif_written.specs.Naming.{ident_of, name_of, property_for, seen, value_of}
+use Rattle.edif_written.specs.Sound.{AreSoundProps, IsSoundProp}
 use Rattle.edif_naming.proofs.NamingLaws.{original_name_for, value_of_made}
-use Rattle.edif_naming.proofs.SoundLaws.{all_at}
+use Rattle.edif_written.proofs.Lists.{all_at}
 use Rattle.edif_spaces.specs.Plain.{IsPlain, IsPlainStep}
 use Rattle.edif_spaces.specs.Spaces.{AreIdents, AreIdentsBehind}
 use Rattle.edif_spaces.proofs.IdentLaws.{behind_len, behind_more}

@@ -13,7 +13,7 @@ use Rattle.edif_values.specs.declared.property.Property.{Property}
 use Rattle.net_hier.specs.declared.cells.HProp.{HProp}
 use Rattle.std.proofs.Math.ListN.{drop_of_length-le}
 use Rattle.edif_spaces.specs.Spaces.{AreIdents}
-use Rattle.edif_naming.specs.Naming.{IsSmallRange, array_text, ident_of, name_for, port_name_for, property_for, seen, value_of}
+use Rattle.edif_written.specs.Naming.{IsSmallRange, array_text, ident_of, name_for, port_name_for, property_for, seen, value_of}
 
 -- the original name is the one that was handed in
 pub original_name_for : (ident name : List ℕ) → original (name_for ident name) ≡ name

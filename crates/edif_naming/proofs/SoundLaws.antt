@@ -14,22 +14,9 @@ use Rattle.edif_values.specs.Proper.{AreBytes}
 use Rattle.edif_values.specs.Values.{IsString, IsWord, IsNameDef, IsPortName, IsProperty}
 use Rattle.edif_values.specs.declared.property.Property.{Property}
 use Rattle.net_hier.specs.declared.cells.HProp.{HProp}
-use Rattle.edif_naming.specs.Naming.{IsSmallRange, array_text, name_for, port_name_for, property_for, seen}
-use Rattle.edif_naming.specs.Sound.{AreSoundProps, IsShort, IsSoundProp}
-
--- ---- lists of which each item keeps something
-
-pub all_append : {A : Type 0} (P : A → Type 0) (xs ys : List A) → AllByRecursion P xs → AllByRecursion P ys → AllByRecursion P (xs ++ ys)
-all_append P [] ys h k = k
-all_append P (x ∷ xs) ys h k = (h.0, all_append P xs ys h.1 k)
-
-pub all_push : {A : Type 0} (P : A → Type 0) (xs new : List A) (x : A) → AllByRecursion P xs → P x → new ≡ xs ++ x ∷ [] → AllByRecursion P new
-all_push P xs new x h here is = subst (AllByRecursion P) (sym is) (all_append P xs (x ∷ []) h (here, tt))
-
-pub all_at : {A : Type 0} (P : A → Type 0) (xs : List A) (i : ℕ) (x d : A) → AllByRecursion P xs → i < length xs → x ≡ get_or xs i d → P x
-all_at P [] i x d h within is = absurd (omega arith)
-all_at P (y ∷ ys) zero x d h within is = subst P (sym is) h.0
-all_at P (y ∷ ys) (suc i) x d h within is = all_at P ys i x d h.1 (omega arith) is
+use Rattle.edif_written.specs.Naming.{IsSmallRange, array_text, name_for, port_name_for, property_for, seen}
+use Rattle.edif_written.specs.Sound.{AreSoundProps, IsShort, IsSoundProp}
+use Rattle.edif_written.proofs.Lists.{all_append, all_push}
 
 -- ---- names
 

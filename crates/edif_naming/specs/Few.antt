@@ -1,7 +1,7 @@
 -- The identifiers of few properties, of which no name begins with the stem of identifiers that are made.
 use Rattle.std.specs.Prelude.{ℕ, List, [], map}
 use Rattle.edif_meanings.specs.Apart.{AreApart}
-use Rattle.edif_naming.specs.Naming.{ident_of, name_of}
+use Rattle.edif_written.specs.Naming.{ident_of, name_of}
 use Rattle.edif_spaces.specs.Plain.{IsPlain}
 use Rattle.edif_spaces.specs.Spaces.{AreIdentsBehind}
 use Rattle.edif_values.specs.declared.property.Property.{Property}

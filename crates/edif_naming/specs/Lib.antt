@@ -1,3 +1,1 @@
 pub mod Few
-pub mod Naming
-pub mod Sound

@@ -3,8 +3,8 @@ ghost use Rattle.std.specs.Prelude.{◌≡◌, ◌+◌, ◌≤◌, ◌<◌, ◌^
 ghost use Rattle.std.specs.List.{AllByRecursion, list_any};
 ghost use Rattle.edif_meanings.specs.Apart.{is_alike_any};
 ghost use Rattle.edif_naming.specs.Few.{ArePlain};
-ghost use Rattle.edif_naming.specs.Naming.{ident_of, value_of};
-ghost use Rattle.edif_naming.specs.Sound.{AreSoundProps, IsSoundProp};
+ghost use Rattle.edif_written.specs.Naming.{ident_of, value_of};
+ghost use Rattle.edif_written.specs.Sound.{AreSoundProps, IsSoundProp};
 ghost use Rattle.edif_spaces.specs.Plain.{has_stem as has_stem_text, is_own_behind};
 ghost use Rattle.edif_spaces.specs.Spaces.{AreIdents};
 ghost use Rattle.edif_values.specs.Values.{IsProperty};

@@ -4,8 +4,8 @@ ghost use Rattle.std.specs.Fmt.{signed_decimal};
 ghost use Rattle.nl_base.specs.Ranges.{range_bits};
 ghost use Rattle.edif_values.specs.declared.name.PortName.TheVariants.{Array};
 ghost use Rattle.edif_values.specs.Values.{IsString, IsWord, IsNameDef, IsPortName};
-ghost use Rattle.edif_naming.specs.Naming.{IsSmallRange, array_text as text_of_array, name_for, port_name_for};
-ghost use Rattle.edif_naming.specs.Sound.{IsShort};
+ghost use Rattle.edif_written.specs.Naming.{IsSmallRange, array_text as text_of_array, name_for, port_name_for};
+ghost use Rattle.edif_written.specs.Sound.{IsShort};
 
 use edif_values::{NameDef, PortName};
 use itoa::Buffer;

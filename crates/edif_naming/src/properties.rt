@@ -2,9 +2,9 @@
 ghost use Rattle.std.specs.Prelude.{◌≡◌, map, length, IfOk};
 ghost use Rattle.std.specs.List.{AllByRecursion};
 ghost use Rattle.edif_values.specs.Values.{IsProperty};
-ghost use Rattle.edif_naming.specs.Naming.{ident_of, property_for, seen, value_of};
+ghost use Rattle.edif_written.specs.Naming.{ident_of, property_for, seen, value_of};
 ghost use Rattle.edif_spaces.specs.Spaces.{AreIdents};
-ghost use Rattle.edif_naming.specs.Sound.{AreSoundProps, IsSoundProp};
+ghost use Rattle.edif_written.specs.Sound.{AreSoundProps, IsSoundProp};
 
 use crate::names::{copied, name_by};
 use edif_spaces::idents_of;

@@ -8,7 +8,7 @@ use Rattle.net_stars.specs.StandIns.{AreAddedAfter}
 use Rattle.edif_plans.specs.Made.{AreAddedTo}
 use Rattle.edif_plans.specs.References.{Scene, added_place}
 use Rattle.edif_plans.specs.declared.added.Added.{Added}
-use Rattle.edif_making.proofs.CellLaws.{idents_count}
+use Rattle.edif_plans.proofs.Needed.{idents_count}
 use Rattle.edif_partners.specs.Placed.{added_number}
 use Rattle.edif_partners.proofs.Free.{shown_at}
 

@@ -13,7 +13,7 @@ use Rattle.edif_design.specs.CellRules.{cell_refusals}
 use Rattle.edif_design.specs.References.{place_in}
 use Rattle.edif_written.specs.Written.{file_of}
 use Rattle.edif_written.proofs.CellLaws.{cell_none}
-use Rattle.edif_naming.specs.Naming.{name_for}
+use Rattle.edif_written.specs.Naming.{name_for}
 use Rattle.edif_plans.specs.Made.{IsMadeCell}
 use Rattle.edif_plans.specs.References.{Scene}
 use Rattle.edif_plans.specs.declared.head.Head.{Head}

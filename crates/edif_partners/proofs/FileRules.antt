@@ -20,7 +20,7 @@ use Rattle.edif_design.specs.FileRules.{refusals}
 use Rattle.edif_design.specs.Parts.{numbered, ports, views}
 use Rattle.edif_design.specs.References.{LinkedCell, linked_cell, place_in}
 use Rattle.edif_lookup.specs.Refusals.{is_in}
-use Rattle.edif_naming.specs.Naming.{name_for}
+use Rattle.edif_written.specs.Naming.{name_for}
 use Rattle.edif_written.specs.Written.{cell_of, file_of, netlist}
 use Rattle.edif_written.proofs.CellLaws.{AreInstances, AreNets, ArePorts, cell_none}
 use Rattle.edif_written.proofs.Rules.{file_none}

@@ -22,7 +22,7 @@ use Rattle.edif_plans.specs.declared.added.Instances.{Instances}
 use Rattle.edif_plans.specs.declared.plan.Plan.{Plan}
 use Rattle.edif_partners.specs.Placed.{ArePlaced, ConstantStands}
 use Rattle.edif_partners.proofs.Free.{free_append, names_own, none_earlier, own_free, shown_at}
-use Rattle.edif_making.proofs.CellLaws.{added_value}
+use Rattle.edif_plans.proofs.Needed.{added_value}
 
 map_twice : {A B C : Type 0} (f : B → C) (g : A → B) (xs : List A) → map f (map g xs) ≡ map (λ x. f (g x)) xs
 map_twice f g [] = refl

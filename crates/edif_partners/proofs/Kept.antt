@@ -33,7 +33,7 @@ use Rattle.edif_design.specs.Parts.{numbered}
 use Rattle.edif_design.specs.References.{LinkedCell, linked_cell, place_in}
 use Rattle.edif_written.specs.Written.{cell_of, file_of}
 use Rattle.edif_written.proofs.Parts.{nets_are}
-use Rattle.edif_naming.specs.Naming.{name_for}
+use Rattle.edif_written.specs.Naming.{name_for}
 use Rattle.edif_plans.specs.Made.{AreAddedTo, AreInstancesFor, AreNetsFor, ArePortsFor, IsMadeCell}
 use Rattle.edif_plans.specs.declared.head.Head.{Head}
 use Rattle.edif_plans.specs.declared.plan.Plan.{Plan}

@@ -35,7 +35,7 @@ use Rattle.edif_plans.specs.Made.{AreAddedTo, AreInstancesFor, AreNetsFor, ArePo
 use Rattle.edif_plans.specs.Plans.{constant_head, constant_number}
 use Rattle.edif_plans.specs.References.{Scene, added_place, constant_ref_for, ref_for, refs_for}
 use Rattle.edif_plans.proofs.Lists.{at_get}
-use Rattle.edif_making.proofs.CellLaws.{constant_is_needed}
+use Rattle.edif_plans.proofs.Needed.{constant_is_needed}
 use Rattle.edif_partners.specs.Placed.{ArePlaced, ConstantStands, added_number}
 use Rattle.edif_partners.proofs.AddedMeans.{added_at, get_right}
 use Rattle.edif_partners.proofs.Free.{shown_at}

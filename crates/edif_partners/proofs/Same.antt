@@ -35,7 +35,7 @@ use Rattle.edif_design.specs.References.{LinkedCell, linked_cell, place_in}
 use Rattle.edif_written.specs.Written.{cell_of, file_of, work}
 use Rattle.edif_written.proofs.Cells.{numbered_at}
 use Rattle.edif_written.proofs.Parts.{instances_are, ports_are, properties_are}
-use Rattle.edif_naming.specs.Naming.{name_for}
+use Rattle.edif_written.specs.Naming.{name_for}
 use Rattle.edif_naming.proofs.NamingLaws.{original_name_for}
 use Rattle.edif_plans.specs.Faces.{InstanceFace, PortFace, added_face, face_for, face_of, instance_face, instance_faces, kept_port, own_face}
 use Rattle.edif_plans.specs.Made.{IsMadeCell, needed_values}
@@ -43,7 +43,7 @@ use Rattle.edif_plans.specs.Plans.{constant_head, constant_number, head_of, numb
 use Rattle.edif_plans.specs.References.{Scene, added_place}
 use Rattle.edif_plans.specs.declared.added.Added.{Added}
 use Rattle.edif_plans.specs.declared.plan.Plan.{Plan}
-use Rattle.edif_making.proofs.CellLaws.{added_value, idents_count}
+use Rattle.edif_plans.proofs.Needed.{added_value, idents_count}
 use Rattle.edif_partners.specs.Placed.{ArePlaced, ConstantStands, added_number}
 use Rattle.edif_partners.proofs.AddedMeans.{added_after, added_at, get_right}
 use Rattle.edif_partners.proofs.Free.{get_left, shown_at, within}

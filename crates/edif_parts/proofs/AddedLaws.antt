@@ -13,9 +13,10 @@ use Rattle.net_bits.specs.Names.{IsFresh, NameSet, alike, has_name, numbered, wi
 use Rattle.net_bits.proofs.CallerLaws.{has-with_name}
 use Rattle.net_hier.specs.Constants.{ConstantNames, name_of_constant}
 use Rattle.net_hier.specs.declared.cells.HInst.{HInst}
-use Rattle.edif_naming.specs.Sound.{IsShort}
-use Rattle.edif_naming.proofs.SoundLaws.{all_append, all_push, ascii_bytes}
-use Rattle.edif_naming.specs.Naming.{seen}
+use Rattle.edif_written.specs.Sound.{IsShort}
+use Rattle.edif_naming.proofs.SoundLaws.{ascii_bytes}
+use Rattle.edif_written.proofs.Lists.{all_append, all_push}
+use Rattle.edif_written.specs.Naming.{seen}
 use Rattle.edif_plans.proofs.Lists.{map_turn}
 use Rattle.edif_plans.specs.AddedNames.{AreNamedBehind, AreNamedFor, IsFirstFree, told_by_bytes}
 use Rattle.edif_plans.specs.Faces.{instance_names}

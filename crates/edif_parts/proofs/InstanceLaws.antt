@@ -6,7 +6,7 @@ use Rattle.edif_values.specs.Values.{IsWord, IsProperty, IsInstanceItem}
 use Rattle.edif_values.specs.declared.property.Property.{Property}
 use Rattle.edif_values.specs.declared.instance.Instance.{Instance}
 use Rattle.edif_values.specs.declared.instance.InstanceItem.TheVariants as instance_items
-use Rattle.edif_naming.specs.Naming.{name_for, value_of}
+use Rattle.edif_written.specs.Naming.{name_for, value_of}
 use Rattle.edif_naming.proofs.NamingLaws.{original_name_for}
 use Rattle.edif_design.specs.Design.{instance_property, property_value}
 use Rattle.edif_written.specs.Written.{netlist, work}

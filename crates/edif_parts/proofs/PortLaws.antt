@@ -12,7 +12,7 @@ use Rattle.edif_values.specs.declared.port.PortItem.{PortItem}
 use Rattle.edif_values.specs.declared.port.PortItem.TheVariants as port_items
 use Rattle.net_hier.specs.declared.cells.HPort.{HPort}
 use Rattle.net_live.specs.Last.{last_of}
-use Rattle.edif_naming.specs.Naming.{IsSmallRange, port_name_for, value_of}
+use Rattle.edif_written.specs.Naming.{IsSmallRange, port_name_for, value_of}
 use Rattle.edif_naming.proofs.NamingLaws.{port_original_for}
 use Rattle.edif_design.specs.CellRules.{ident_of, port_ident, size_of}
 use Rattle.edif_design.specs.Design.{port_property, property_value}

@@ -4,7 +4,7 @@ use Rattle.std.specs.List.{AllByRecursion}
 use Rattle.edif_lookup.specs.Refusals.{is_in}
 use Rattle.net_bits.specs.Names.{NameSet, has_name}
 use Rattle.net_hier.specs.declared.cells.HInst.{HInst}
-use Rattle.edif_naming.specs.Sound.{IsShort}
+use Rattle.edif_written.specs.Sound.{IsShort}
 use Rattle.edif_plans.specs.Made.{AreFree}
 use Rattle.edif_plans.specs.declared.added.Added.{Added}
 

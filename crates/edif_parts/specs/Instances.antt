@@ -3,7 +3,7 @@ use Rattle.std.specs.Prelude.{ℕ, List, map, Some}
 use Rattle.edif_values.specs.declared.property.Property.{Property}
 use Rattle.edif_values.specs.declared.instance.Instance.{Instance}
 use Rattle.edif_values.specs.declared.instance.InstanceItem.TheVariants as instance_items
-use Rattle.edif_naming.specs.Naming.{name_for}
+use Rattle.edif_written.specs.Naming.{name_for}
 use Rattle.edif_written.specs.Written.{netlist, work}
 
 -- the instance of this identifier, name, cell and properties

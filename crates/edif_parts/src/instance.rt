@@ -3,7 +3,7 @@ ghost use Rattle.std.specs.Prelude.{◌≡◌, map, IfOk};
 ghost use Rattle.std.specs.List.{AllByRecursion};
 ghost use Rattle.edif_values.specs.Values.{IsString, IsWord, IsProperty, IsInstance};
 ghost use Rattle.edif_values.specs.declared.instance.InstanceItem.TheVariants as instance_items;
-ghost use Rattle.edif_naming.specs.Naming.{value_of};
+ghost use Rattle.edif_written.specs.Naming.{value_of};
 ghost use Rattle.edif_written.specs.Written.{netlist, work};
 ghost use Rattle.edif_plans.specs.Faces.{face_with, instance_face, instance_ident};
 ghost use Rattle.edif_plans.specs.NetNames.{HasNoSpareText};

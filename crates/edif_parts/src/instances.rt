@@ -3,8 +3,8 @@ ghost use Rattle.std.specs.Prelude.{◌≡◌, ◌+◌, ◌<◌, ◌≤◌, ◌+
 ghost use Rattle.std.specs.List.{AllByRecursion};
 ghost use Rattle.net_hier.specs.Valid.{Each};
 ghost use Rattle.edif_values.specs.Values.{IsInstance, IsProperty};
-ghost use Rattle.edif_naming.specs.Naming.{value_of};
-ghost use Rattle.edif_naming.specs.Sound.{AreSoundProps, IsShort};
+ghost use Rattle.edif_written.specs.Naming.{value_of};
+ghost use Rattle.edif_written.specs.Sound.{AreSoundProps, IsShort};
 ghost use Rattle.net_live.specs.Last.{last_of as last_values_of};
 ghost use Rattle.edif_plans.specs.Faces.{added_face, instance_face, instance_ident, own_face};
 ghost use Rattle.edif_plans.specs.Made.{AreInstancesFor};

@@ -7,8 +7,8 @@ ghost use Rattle.edif_values.specs.declared.port.PortItem.TheVariants as port_it
 ghost use Rattle.edif_values.specs.declared.view.InterfaceItem.TheVariants as interface_items;
 ghost use Rattle.edif_design.specs.CellRules.{port_ident};
 ghost use Rattle.net_live.specs.Last.{last_of as last_values_of};
-ghost use Rattle.edif_naming.specs.Naming.{value_of};
-ghost use Rattle.edif_naming.specs.Sound.{AreSoundProps};
+ghost use Rattle.edif_written.specs.Naming.{value_of};
+ghost use Rattle.edif_written.specs.Sound.{AreSoundProps};
 ghost use Rattle.edif_plans.specs.Faces.{face_for, face_of};
 ghost use Rattle.edif_plans.specs.PortNames.{HasPlainText};
 ghost use Rattle.edif_plans.specs.Sound.{IsSoundPort};

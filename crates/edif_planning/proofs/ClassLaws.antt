@@ -12,7 +12,7 @@ use Rattle.net_hier.specs.Valid.{IsGoodCell, IsValid}
 use Rattle.net_hier.specs.declared.cells.HCell.{HCell}
 use Rattle.net_live.specs.Live.{AreCounted, needs_constant}
 use Rattle.net_live.proofs.NeedLaws.{need_is}
-use Rattle.edif_copies.specs.Missing.{IsNeeded}
+use Rattle.edif_plans.specs.Missing.{IsNeeded}
 use Rattle.edif_planning.specs.Classes.{AreAllClasses}
 
 only : {A : Type 0} (o : Option A) (a b : A) → o ≡ Some a → o ≡ Some b → a ≡ b

@@ -11,7 +11,7 @@ use Rattle.net_hier.specs.Constants.{ConstantNames}
 use Rattle.net_hier.specs.Design.{Design, IsCell}
 use Rattle.net_hier.specs.Valid.{IsHier, IsValid}
 use Rattle.net_hier.specs.declared.cells.HCell.{HCell}
-use Rattle.edif_copies.specs.Missing.{AreMissing, IsMissing, IsNeeded}
+use Rattle.edif_plans.specs.Missing.{AreMissing, IsMissing, IsNeeded}
 use Rattle.edif_planning.specs.Constants.{IsConstantAt, IsFirstPlace, IsKnown, is_missing, missing_of}
 use Rattle.edif_planning.specs.declared.constants.Known.{Known}
 use Rattle.edif_planning.proofs.OrderLaws.{order_all, place_fits}

@@ -15,8 +15,8 @@ use Rattle.edif_plans.specs.Plans.{FitsCells, HasHead, constant_number, head_at,
 use Rattle.edif_plans.specs.declared.head.Head.{Head}
 use Rattle.edif_plans.specs.declared.plan.Plan.{Plan}
 use Rattle.edif_plans.proofs.Lists.{at_get}
-use Rattle.edif_copies.specs.Missing.{IsNeeded}
-use Rattle.edif_copies.specs.Planned.{IsOldAt, IsPlan, names_of_cells}
+use Rattle.edif_plans.specs.Missing.{IsNeeded}
+use Rattle.edif_plans.specs.Planned.{IsOldAt, IsPlan, names_of_cells}
 use Rattle.edif_planning.specs.Constants.{IsFirstPlace, IsKnown, is_missing, missing_of, number_for}
 use Rattle.edif_planning.specs.Numbers.{AreHeads, AreNumbers, CellNames, new_names, old_names}
 use Rattle.edif_planning.specs.Plans.{IsPlanned}

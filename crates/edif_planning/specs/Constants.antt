@@ -4,7 +4,7 @@ use Rattle.net_hier.specs.Cells.{IsConstantCell}
 use Rattle.net_hier.specs.Constants.{ConstantNames}
 use Rattle.net_hier.specs.Design.{Design, IsCell}
 use Rattle.net_hier.specs.declared.cells.HCell.{HCell}
-use Rattle.edif_copies.specs.Missing.{IsNeeded}
+use Rattle.edif_plans.specs.Missing.{IsNeeded}
 use Rattle.edif_planning.specs.declared.constants.Known.{Known}
 
 -- the cell at this place of the order stands for the constant

@@ -2,8 +2,8 @@
 use Rattle.net_hier.specs.Constants.{ConstantNames}
 use Rattle.net_hier.specs.Design.{Design}
 use Rattle.edif_plans.specs.Plans.{FitsCells}
-use Rattle.edif_copies.specs.Missing.{AreMissing}
-use Rattle.edif_copies.specs.Planned.{IsPlan}
+use Rattle.edif_plans.specs.Missing.{AreMissing}
+use Rattle.edif_plans.specs.Planned.{IsPlan}
 use Rattle.edif_planning.specs.declared.planning.Planned.{Planned}
 
 -- the constants that are missing, and a plan for new cells of these and for the cells of the design, each of which has a head

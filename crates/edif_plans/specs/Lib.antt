@@ -1,7 +1,9 @@
 pub mod AddedNames
 pub mod Faces
 pub mod Made
+pub mod Missing
 pub mod NetNames
+pub mod Planned
 pub mod Plans
 pub mod PortNames
 pub mod References

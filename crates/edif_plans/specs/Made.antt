@@ -25,8 +25,8 @@ use Rattle.edif_meanings.specs.Apart.{AreApart}
 use Rattle.edif_design.specs.CellRules.{port_ident}
 use Rattle.edif_design.specs.Design.{net_value, property_value}
 use Rattle.edif_written.specs.Written.{cell_of}
-use Rattle.edif_naming.specs.Naming.{name_for}
-use Rattle.edif_naming.specs.Sound.{AreSoundProps, IsShort}
+use Rattle.edif_written.specs.Naming.{name_for}
+use Rattle.edif_written.specs.Sound.{AreSoundProps, IsShort}
 use Rattle.edif_spaces.specs.Spaces.{AreIdents}
 use Rattle.edif_plans.specs.AddedNames.{AreNamedFor}
 use Rattle.edif_plans.specs.Faces.{face_for, face_of, instance_face, instance_faces, instance_ident, instance_names}

@@ -11,7 +11,7 @@ use Rattle.net_hier.specs.declared.nodes.Node.{Node}
 use Rattle.net_hier.specs.declared.nodes.Node.TheVariants.{Port, Pin, Net, Zero, One}
 use Rattle.net_bits.specs.Classes.{ClassTable, members_of}
 use Rattle.net_live.specs.Live.{bit_word, first_net}
-use Rattle.edif_naming.specs.Naming.{name_for}
+use Rattle.edif_written.specs.Naming.{name_for}
 
 -- the name of a net where neither a net nor a port bit has one for it
 abbrev pub plain_name : List ℕ

@@ -3,7 +3,7 @@ use Rattle.std.specs.Prelude.{◌≡◌}
 use Rattle.edif_values.specs.Names.{port_original}
 use Rattle.edif_values.specs.declared.name.PortName.{PortName}
 use Rattle.edif_design.specs.CellRules.{ident_of}
-use Rattle.edif_naming.specs.Naming.{port_name_for}
+use Rattle.edif_written.specs.Naming.{port_name_for}
 
 -- the text of an array is its name and its range in square brackets; beside the identifier of a scalar stands a text only where it is another name
 abbrev pub HasPlainText : PortName → Type 0

@@ -2,7 +2,7 @@
 use Rattle.std.specs.Prelude.{ℕ, ◌≤◌, List, length}
 use Rattle.std.specs.List.{AllByRecursion}
 use Rattle.edif_values.specs.Proper.{AreBytes}
-use Rattle.edif_naming.specs.Sound.{AreSoundProps, IsShort}
+use Rattle.edif_written.specs.Sound.{AreSoundProps, IsShort}
 use Rattle.net_hier.specs.Constants.{ConstantNames}
 use Rattle.net_hier.specs.Design.{Design}
 use Rattle.net_hier.specs.declared.cells.HCell.{HCell}

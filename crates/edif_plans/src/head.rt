@@ -1,6 +1,6 @@
 // The identifiers by which a cell and its ports are named.
 ghost use Rattle.std.specs.Prelude.{◌≡◌, ◌∷◌, [], map, IfOk};
-ghost use Rattle.edif_naming.specs.Naming.{seen};
+ghost use Rattle.edif_written.specs.Naming.{seen};
 ghost use Rattle.edif_plans.specs.Plans.{IsHeadOf};
 
 use edif_spaces::idents_of;

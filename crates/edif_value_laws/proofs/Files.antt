@@ -6,8 +6,8 @@ use Rattle.std.specs.Option.{option_map_or}
 use Rattle.edif_values.specs.Values.{IsString, IsWord, IsNameDef}
 use Rattle.edif_values.specs.declared.cell.Cell.{Cell}
 use Rattle.edif_values.specs.declared.name.NameDef.{NameDef}
-use Rattle.edif_naming.specs.Naming.{name_for}
-use Rattle.edif_naming.specs.Sound.{AreSoundProps, IsSoundProp}
+use Rattle.edif_written.specs.Naming.{name_for}
+use Rattle.edif_written.specs.Sound.{AreSoundProps, IsSoundProp}
 use Rattle.edif_naming.proofs.SoundLaws.{short_string, sound_name}
 use Rattle.edif_partners.specs.Files.{IsOldCell}
 use Rattle.edif_plans.specs.Made.{IsMadeCell, new_cell_for, output_for}

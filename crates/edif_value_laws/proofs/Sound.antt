@@ -3,7 +3,7 @@ use Rattle.std.proofs.Common.{List, ℕ}
 use Rattle.nl_base.specs.declared.value.PropValue.{PropValue}
 use Rattle.nl_base.specs.declared.value.PropValue.TheVariants as values
 use Rattle.edif_values.specs.Values.{IsPropValue}
-use Rattle.edif_naming.specs.Sound as edif
+use Rattle.edif_written.specs.Sound as edif
 use Rattle.edif_plans.specs.Sound.{IsSoundCell, IsSoundDesign, IsSoundInstance, IsSoundNet, IsSoundPort}
 use Rattle.net_hier.specs.Design.{Design}
 use Rattle.net_hier.specs.declared.cells.HCell.{HCell}

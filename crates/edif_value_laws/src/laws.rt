@@ -3,7 +3,7 @@ ghost use Rattle.std.specs.Prelude.{ℕ, List};
 ghost use Rattle.edif_values.specs.Values.{IsWord, IsNameDef, IsEdifValue};
 ghost use Rattle.edif_values.specs.declared.cell.Cell.{Cell};
 ghost use Rattle.edif_values.specs.declared.name.NameDef.{NameDef};
-ghost use Rattle.edif_naming.specs.Naming.{name_for};
+ghost use Rattle.edif_written.specs.Naming.{name_for};
 ghost use Rattle.edif_plans.specs.Sound.{AreStems, IsSoundDesign};
 ghost use Rattle.edif_plans.specs.declared.plan.Plan.{Plan};
 ghost use Rattle.edif_value_laws.specs.Named.{AreNamedCells};

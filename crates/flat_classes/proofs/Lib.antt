@@ -10,3 +10,4 @@ pub mod OneFlat
 pub mod Ordering
 pub mod Stars
 pub mod TerminalLaws
+pub mod WayLaws

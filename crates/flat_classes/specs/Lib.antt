@@ -4,3 +4,4 @@ pub mod Groups
 pub mod Kinds
 pub mod TerminalNumbers
 pub mod Terminals
+pub mod Ways

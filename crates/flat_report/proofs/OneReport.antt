@@ -13,9 +13,10 @@ use Rattle.flat_numbers.proofs.PathSpots.{one_path}
 use Rattle.flat_numbers.proofs.SpotLaws.{SpotFacts, spot_facts}
 use Rattle.flat_classes.specs.Terminals.{AreFlatClasses, FlatValue}
 use Rattle.flat_classes.proofs.OneFlat.{one_flat}
-use Rattle.flat_report.specs.Report.{ArePaths, IsReport, path_at, report_then}
+use Rattle.flat_report.specs.Report.{IsReport, report_then}
+use Rattle.flat_classes.specs.Ways.{ArePaths, path_at}
 use Rattle.flat_report.proofs.GroupTexts.{same_list}
-use Rattle.flat_report.proofs.WayLaws.{some_way}
+use Rattle.flat_classes.proofs.WayLaws.{some_way}
 
 module _ (design : Design) (valid : IsValid design) (spots : List Spot) (are : AreSpots design spots) where
   facts : SpotFacts design.cells design.top spots

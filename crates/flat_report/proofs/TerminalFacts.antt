@@ -24,7 +24,7 @@ use Rattle.edif_writer.specs.Strings.{quoted}
 use Rattle.net_hier.specs.Paths.{Path}
 use Rattle.flat_numbers.specs.Spots.{Walks, top_spot}
 use Rattle.flat_report.specs.Report.{name_then, terminal_then, terminals_then}
-use Rattle.flat_report.specs.Ways.{IsTerminal, a_port, a_pin, is_zero, is_one}
+use Rattle.flat_classes.specs.Ways.{IsTerminal, a_port, a_pin, is_zero, is_one}
 
 module _ (names : ConstantNames) (design : Design) (flat : FlatValue) (are : AreFlatClasses names design flat) where
   -- the spots of the leaves are there

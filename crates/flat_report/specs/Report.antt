@@ -9,21 +9,12 @@ use Rattle.net_hier.specs.Design.{Design}
 use Rattle.net_hier.specs.Paths.{Path}
 use Rattle.net_hier.specs.declared.cells.HCell.{HCell}
 use Rattle.net_hier.specs.declared.cells.HPort.{HPort}
-use Rattle.flat_numbers.specs.Spots.{IsSpotOf}
 use Rattle.flat_numbers.specs.declared.spots.Spot.{Spot}
 use Rattle.flat_classes.specs.Groups.{places_of}
+use Rattle.flat_classes.specs.Ways.{ArePaths, path_at}
 use Rattle.flat_classes.specs.Terminals.{AreFlatClasses, FlatValue, cell_of, ports_at}
 use Rattle.flat_classes.specs.declared.flat.Terminal.{Terminal}
 use Rattle.flat_classes.specs.declared.flat.Terminal.TheVariants.{Port, Pin, Zero, One}
-
--- the path of each spot
-pub record ArePaths (cells : List HCell) (spots : List Spot) (paths : List Path) : Type 0 where
-  pub len : length paths ≡ length spots
-  pub are : (number : ℕ) (path : Path) → slice_get paths number ≡ Some path → IsSpotOf cells spots path number
-
--- the path of the spot of this number
-abbrev pub path_at : List Path → ℕ → Path
-path_at paths number = slice_index_or paths number []
 
 -- names as strings, the last first, each with `/` behind it
 abbrev pub names_then : List (List ℕ) → List ℕ → List ℕ

@@ -2,7 +2,7 @@
 ghost use Rattle.std.specs.Prelude.{ℕ, ◌≡◌, ◌<◌, ◌≤◌, List, length, map, take};
 ghost use Rattle.flat_numbers.specs.Spots.{AreSpots, IsSpotOf};
 ghost use Rattle.flat_report.specs.Report.{names_then, path_then};
-ghost use Rattle.flat_report.specs.Ways.{AreInner, IsInner, IsWay, instance_name};
+ghost use Rattle.flat_classes.specs.Ways.{AreInner, IsInner, IsWay, instance_name};
 ghost use Rattle.net_hier.specs.Paths.{Path};
 ghost use Rattle.nl_output.specs.Writing.{Puts, state};
 

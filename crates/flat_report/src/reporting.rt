@@ -3,7 +3,8 @@ ghost use Rattle.std.specs.Prelude.{ℕ, ◌≡◌, ◌<◌, ◌≤◌, List, []
 ghost use Rattle.flat_classes.specs.Groups.{AreMembers};
 ghost use Rattle.flat_classes.specs.Terminals.{AreFlatClasses};
 ghost use Rattle.flat_numbers.specs.Spots.{AreSpots};
-ghost use Rattle.flat_report.specs.Report.{ArePaths, has_two, leaf_then, leaves_then, net_then, nets_then, report_then};
+ghost use Rattle.flat_report.specs.Report.{has_two, leaf_then, leaves_then, net_then, nets_then, report_then};
+ghost use Rattle.flat_classes.specs.Ways.{ArePaths};
 ghost use Rattle.flat_report.specs.Reports.{Reports};
 ghost use Rattle.flat_report.specs.declared.reporting.ReportError.TheVariants.{NoMemory};
 ghost use Rattle.net_hier.specs.Constants.{ConstantNames};

@@ -7,7 +7,7 @@ use Rattle.flat_classes.specs.FlatSums.{IsFewFlat}
 use Rattle.flat_classes.specs.Terminals.{AreFlatClasses, FlatValue}
 use Rattle.flat_classes.specs.declared.flat.FlatFault.{FlatFault}
 use Rattle.flat_classes.specs.declared.flat.FlatFault.TheVariants as faults
-use Rattle.flat_report.specs.Report.{ArePaths}
+use Rattle.flat_classes.specs.Ways.{ArePaths}
 use Rattle.net_flatten.proofs.Fits.{all_reached, face_or_top, good, leaves, long, numbers, the_leaf}
 use Rattle.net_flatten.proofs.UnitLaws.{numbers_short}
 use Rattle.net_flatten.specs.Flattening.{IsFlattenError, IsFlattening, flatten_fault}

@@ -5,7 +5,7 @@ use Rattle.flat_classes.specs.FlatSums.{IsFewFlat}
 use Rattle.flat_classes.specs.Terminals.{AreFlatClasses, FlatValue}
 use Rattle.flat_classes.specs.declared.flat.FlatFault.{FlatFault}
 use Rattle.flat_classes.specs.declared.flat.FlatFault.TheVariants as faults
-use Rattle.flat_report.specs.Report.{ArePaths}
+use Rattle.flat_classes.specs.Ways.{ArePaths}
 use Rattle.net_flatten.specs.declared.flattening.FlattenError.{FlattenError}
 use Rattle.net_flatten.specs.declared.flattening.FlattenError.TheVariants.{FlatTooLarge, Refused, NoMemory}
 use Rattle.net_flatten_rules.specs.FlatDesign.{IsFlattened}

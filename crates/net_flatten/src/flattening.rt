@@ -2,7 +2,7 @@
 ghost use Rattle.std.specs.Prelude.{ℕ, ◌≡◌, ◌-◌, ◌≤◌, List, [], length, IfOk, MatchResult};
 ghost use Rattle.flat_classes.specs.FlatSums.{IsFewFlat};
 ghost use Rattle.flat_classes.specs.Terminals.{AreFlatClasses};
-ghost use Rattle.flat_report.specs.Report.{ArePaths};
+ghost use Rattle.flat_classes.specs.Ways.{ArePaths};
 ghost use Rattle.net_flatten.specs.Flattening.{IsFlattenError, IsFlattening, flatten_fault, refusal_of};
 ghost use Rattle.net_flatten.specs.declared.flattening.FlattenError.TheVariants.{NoMemory};
 ghost use Rattle.net_flatten_rules.specs.FlatDesign.{flat_cells};

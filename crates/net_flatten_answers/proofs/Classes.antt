@@ -11,7 +11,7 @@ use Rattle.flat_numbers.proofs.SpotLaws.{SpotFacts, spot_facts}
 use Rattle.flat_numbers.specs.Spots.{AreSpots, IsSpotBelow, IsSpotOf, top_spot}
 use Rattle.flat_numbers.specs.declared.spots.Spot.{Spot}
 use Rattle.flat_report.proofs.OneReport.{listed_path, some_paths}
-use Rattle.flat_report.specs.Report.{ArePaths, path_at}
+use Rattle.flat_classes.specs.Ways.{ArePaths, path_at}
 use Rattle.net_flatten_answers.proofs.Chosen.{AreChosen, chosen_there}
 use Rattle.net_flatten_answers.proofs.Few.{terminals_few}
 use Rattle.net_flatten_answers.proofs.Grouped.{Grouping, IsEquivalence, groups_there}

@@ -9,7 +9,7 @@ use Rattle.flat_classes.specs.declared.flat.Terminal.{Terminal}
 use Rattle.flat_numbers.proofs.SpotLaws.{HasParent, SpotFacts, spot_facts}
 use Rattle.flat_numbers.specs.declared.spots.Spot.{Spot}
 use Rattle.flat_report.proofs.TerminalFacts.{terminal_at}
-use Rattle.flat_report.specs.Ways.{AreInner, IsInner, IsTerminal, a_port, a_pin, is_zero, is_one}
+use Rattle.flat_classes.specs.Ways.{AreInner, IsInner, IsTerminal, a_port, a_pin, is_zero, is_one}
 use Rattle.net_flatten_cells.specs.Wired.{HasSpot, HaveSpots}
 use Rattle.net_flatten_rules.specs.FlatDesign.{inner}
 use Rattle.net_hier.specs.Constants.{ConstantNames}

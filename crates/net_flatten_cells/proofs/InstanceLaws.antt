@@ -5,8 +5,8 @@ use Rattle.std.proofs.lemmas.Option.{get_or_from_slice_get, slice_get_within}
 use Rattle.flat_numbers.proofs.SpotLaws.{listed_cells}
 use Rattle.flat_numbers.specs.Spots.{AreSpots}
 use Rattle.flat_numbers.specs.declared.spots.Spot.{Spot}
-use Rattle.flat_report.proofs.WayLaws.{InnerFacts, inner_facts}
-use Rattle.flat_report.specs.Ways.{IsInner}
+use Rattle.flat_classes.proofs.WayLaws.{InnerFacts, inner_facts}
+use Rattle.flat_classes.specs.Ways.{IsInner}
 use Rattle.net_flatten_rules.specs.FlatDesign.{cell_at, leaf_instance, place_in, props_of}
 use Rattle.net_flatten_rules.specs.Joined.{instance_at, name_at}
 use Rattle.net_hier.specs.Design.{Design}

@@ -2,7 +2,7 @@
 ghost use Rattle.std.specs.Prelude.{◌≡◌, List, length, IfOk};
 ghost use Rattle.flat_classes.specs.FlatSums.{IsFewFlat};
 ghost use Rattle.flat_classes.specs.Terminals.{AreFlatClasses};
-ghost use Rattle.flat_report.specs.Report.{ArePaths};
+ghost use Rattle.flat_classes.specs.Ways.{ArePaths};
 ghost use Rattle.net_flatten_rules.specs.FlatDesign.{flat_cells, flat_top, inner, leaf_cells};
 ghost use Rattle.net_hier.specs.Constants.{ConstantNames};
 ghost use Rattle.net_hier.specs.Paths.{Path};

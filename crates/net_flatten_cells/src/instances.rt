@@ -1,8 +1,8 @@
 // The instances of the flattened top.
 ghost use Rattle.std.specs.Prelude.{◌≡◌, List, length, map, IfOk};
 ghost use Rattle.flat_numbers.specs.Spots.{AreSpots};
-ghost use Rattle.flat_report.specs.Report.{ArePaths};
-ghost use Rattle.flat_report.specs.Ways.{AreInner, IsInner};
+ghost use Rattle.flat_classes.specs.Ways.{ArePaths};
+ghost use Rattle.flat_classes.specs.Ways.{AreInner, IsInner};
 ghost use Rattle.net_flatten_rules.specs.FlatDesign.{leaf_instance, props_of};
 ghost use Rattle.net_flatten_rules.specs.Joined.{instance_at};
 ghost use Rattle.net_hier.specs.Paths.{Path};

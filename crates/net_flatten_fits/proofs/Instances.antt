@@ -4,7 +4,7 @@ use Rattle.std.specs.List.{AllByRecursion}
 use Rattle.std.specs.Option.{option_and_then}
 use Rattle.edif_design_laws.proofs.Lists.{at_place}
 use Rattle.flat_numbers.specs.declared.spots.Spot.{Spot}
-use Rattle.flat_report.specs.Ways.{instance_of}
+use Rattle.flat_classes.specs.Ways.{instance_of}
 use Rattle.net_flatten_fits.proofs.Lists.{then_good, then_such}
 use Rattle.net_flatten_rules.specs.Joined.{instance_at}
 use Rattle.net_hier.specs.declared.cells.HCell.{HCell}

@@ -10,7 +10,7 @@ use Rattle.flat_classes.specs.Groups.{places_of}
 use Rattle.flat_classes.specs.Terminals.{AreFlatClasses, FlatValue}
 use Rattle.flat_numbers.specs.Spots.{IsSpotBelow, IsSpotOf}
 use Rattle.flat_numbers.specs.declared.spots.Spot.{Spot}
-use Rattle.flat_report.specs.Report.{ArePaths, path_at}
+use Rattle.flat_classes.specs.Ways.{ArePaths, path_at}
 use Rattle.net_flatten.specs.Flattening.{IsFlattening}
 use Rattle.net_flatten_cells.proofs.NetLaws.{groups_few}
 use Rattle.net_flatten_cells.proofs.SizeLaws.{filtered_few}

@@ -9,7 +9,7 @@ use Rattle.net_hier.specs.declared.cells.HCell.{HCell}
 use Rattle.net_hier.specs.declared.cells.HProp.{HProp}
 use Rattle.flat_classes.specs.Terminals.{AreFlatClasses, FlatValue}
 use Rattle.flat_classes.proofs.OneFlat.{one_flat}
-use Rattle.flat_report.specs.Report.{ArePaths}
+use Rattle.flat_classes.specs.Ways.{ArePaths}
 use Rattle.flat_report.proofs.OneReport.{one_paths}
 use Rattle.net_flatten_rules.specs.FlatDesign.{IsFlattened, flat_cells}
 use Rattle.net_flatten_rules.specs.Rules.{refusals}

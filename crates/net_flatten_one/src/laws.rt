@@ -1,7 +1,7 @@
 // The law of designs that are flattened.
 ghost use Rattle.std.specs.Prelude.{ℕ, ◌≡◌, List};
 ghost use Rattle.flat_classes.specs.Terminals.{AreFlatClasses, FlatValue};
-ghost use Rattle.flat_report.specs.Report.{ArePaths};
+ghost use Rattle.flat_classes.specs.Ways.{ArePaths};
 ghost use Rattle.net_flatten_one.specs.Parts.{HasParts};
 ghost use Rattle.net_flatten_rules.specs.FlatDesign.{IsFlattened};
 ghost use Rattle.net_flatten_rules.specs.Rules.{refusals};

@@ -10,10 +10,10 @@ use Rattle.net_hier.specs.Valid.{IsValid}
 use Rattle.flat_numbers.specs.Spots.{AreSpots}
 use Rattle.flat_numbers.specs.declared.spots.Spot.{Spot}
 use Rattle.flat_classes.proofs.KindLaws.{in_first}
-use Rattle.flat_report.specs.Report.{ArePaths, path_at}
-use Rattle.flat_report.specs.Ways.{IsInner, at_top, instance_name}
+use Rattle.flat_classes.specs.Ways.{ArePaths, path_at}
+use Rattle.flat_classes.specs.Ways.{IsInner, at_top, instance_name}
 use Rattle.flat_report.proofs.OneReport.{listed_path}
-use Rattle.flat_report.proofs.WayLaws.{WayOf, WayStep, some_way, way_of_path, way_step}
+use Rattle.flat_classes.proofs.WayLaws.{WayOf, WayStep, some_way, way_of_path, way_step}
 use Rattle.net_flatten_rules.specs.Joined.{name_at, names_before}
 use Rattle.net_flatten_rules.proofs.JoinedLaws.{one_way}
 use Rattle.net_flatten_refusals.specs.Digests.{digest_from, digest_of, digest_step, no_bytes}

@@ -11,7 +11,7 @@ use Rattle.std.proofs.lemmas.Slice.Eq.{bytes_eq-Decides}
 use Rattle.net_hier.specs.Paths.{Path}
 use Rattle.net_hier.specs.declared.cells.HCell.{HCell}
 use Rattle.flat_numbers.specs.declared.spots.Spot.{Spot}
-use Rattle.flat_report.specs.Report.{ArePaths}
+use Rattle.flat_classes.specs.Ways.{ArePaths}
 use Rattle.net_flatten_rules.specs.Joined.{name_at}
 use Rattle.net_flatten_rules.specs.Rules.{first_of, repeated}
 use Rattle.net_flatten_refusals.specs.Digests.{digest_of, under}

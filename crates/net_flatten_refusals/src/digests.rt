@@ -1,7 +1,7 @@
 // The digests of joined names.
 ghost use Rattle.std.specs.Prelude.{ℕ, ◌≡◌, ◌<◌, List, length, take, IfOk};
 ghost use Rattle.flat_numbers.specs.Spots.{AreSpots};
-ghost use Rattle.flat_report.specs.Report.{ArePaths};
+ghost use Rattle.flat_classes.specs.Ways.{ArePaths};
 ghost use Rattle.net_flatten_refusals.specs.Digests.{digest_from, digest_of};
 ghost use Rattle.net_flatten_refusals.specs.PathDigests.{digests_of};
 ghost use Rattle.net_flatten_rules.specs.Joined.{name_at};

@@ -1,7 +1,7 @@
 // Names that are too long for a flattened design.
 ghost use Rattle.std.specs.Prelude.{ℕ, ◌≡◌, ◌≢◌, ◌<◌, ◌++◌, List, All, length, IfOk};
 ghost use Rattle.flat_numbers.specs.Spots.{AreSpots};
-ghost use Rattle.flat_report.specs.Report.{ArePaths};
+ghost use Rattle.flat_classes.specs.Ways.{ArePaths};
 ghost use Rattle.net_flatten_refusals.specs.LongNames.{long_leaf, refused_face, refused_faces, refused_in, refused_leaves, refused_names, refused_top};
 ghost use Rattle.net_flatten_rules.specs.Rules.{IsFirst, first_of, long_in_design};
 ghost use Rattle.net_hier.specs.Paths.{Path};

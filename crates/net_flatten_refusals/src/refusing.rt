@@ -2,7 +2,7 @@
 ghost use Rattle.std.specs.Prelude.{ℕ, ◌≡◌, ◌<◌, List, All, length, IfOk};
 ghost use Rattle.flat_classes.specs.Terminals.{AreFlatClasses, FlatValue};
 ghost use Rattle.flat_numbers.specs.Spots.{AreSpots};
-ghost use Rattle.flat_report.specs.Report.{ArePaths};
+ghost use Rattle.flat_classes.specs.Ways.{ArePaths};
 ghost use Rattle.net_flatten_rules.specs.FlatDesign.{inner};
 ghost use Rattle.net_flatten_rules.specs.Rules.{first_of, names_twice, refusals};
 ghost use Rattle.net_hier.specs.Constants.{ConstantNames};

@@ -2,7 +2,7 @@
 ghost use Rattle.std.specs.Prelude.{ℕ, ◌≡◌, ◌<◌, List, [], All, bytes_eq, length, map, IfOk};
 ghost use Rattle.std.specs.List.{list_any};
 ghost use Rattle.flat_numbers.specs.Spots.{AreSpots};
-ghost use Rattle.flat_report.specs.Report.{ArePaths};
+ghost use Rattle.flat_classes.specs.Ways.{ArePaths};
 ghost use Rattle.net_flatten_refusals.specs.PathDigests.{digests_of};
 ghost use Rattle.net_flatten_rules.specs.Joined.{name_at};
 ghost use Rattle.net_flatten_rules.specs.Rules.{first_of, repeated};

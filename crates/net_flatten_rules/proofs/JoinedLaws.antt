@@ -5,8 +5,8 @@ use Rattle.std.proofs.lemmas.List.{append-nil, drop_more}
 use Rattle.std.proofs.lemmas.Option.{get_or_from_slice_get, slice_get_within}
 use Rattle.net_graph.proofs.ListLaws.{same_element}
 use Rattle.flat_numbers.specs.declared.spots.Spot.{Spot}
-use Rattle.flat_report.specs.Ways.{IsWay, at_top, below}
-use Rattle.flat_report.proofs.WayLaws.{WayStep, way_step}
+use Rattle.flat_classes.specs.Ways.{IsWay, at_top, below}
+use Rattle.flat_classes.proofs.WayLaws.{WayStep, way_step}
 use Rattle.net_flatten_rules.specs.Joined.{names_before}
 
 -- the spots so far are the first of the way from the start, and what is left of it begins at the spot

@@ -17,7 +17,7 @@ use Rattle.flat_classes.specs.Groups.{places_of}
 use Rattle.flat_classes.specs.Terminals.{AreFlatClasses, FlatValue}
 use Rattle.flat_classes.specs.declared.flat.Terminal.{Terminal}
 use Rattle.flat_classes.specs.declared.flat.Terminal.TheVariants.{Port, Pin, Zero, One}
-use Rattle.flat_report.specs.Report.{ArePaths}
+use Rattle.flat_classes.specs.Ways.{ArePaths}
 use Rattle.net_flatten_rules.specs.Joined.{instance_at, name_at}
 
 -- the leaves below the top, whose spot has the number 0

@@ -5,8 +5,8 @@ use Rattle.net_hier.specs.Paths.{Path}
 use Rattle.net_hier.specs.declared.cells.HCell.{HCell}
 use Rattle.net_hier.specs.declared.cells.HInst.{HInst}
 use Rattle.flat_numbers.specs.declared.spots.Spot.{Spot}
-use Rattle.flat_report.specs.Report.{path_at}
-use Rattle.flat_report.specs.Ways.{instance_of}
+use Rattle.flat_classes.specs.Ways.{path_at}
+use Rattle.flat_classes.specs.Ways.{instance_of}
 
 -- the names of a path, the outermost first, each with `/` behind it
 abbrev pub names_before : Path → List ℕ

@@ -1,7 +1,7 @@
 // The joined names of leaves.
 ghost use Rattle.std.specs.Prelude.{ℕ, ◌≡◌, ◌<◌, List, Some, length, map, IfOk};
 ghost use Rattle.flat_numbers.specs.Spots.{AreSpots, IsSpotOf};
-ghost use Rattle.flat_report.specs.Ways.{AreInner, IsInner, IsWay, instance_name};
+ghost use Rattle.flat_classes.specs.Ways.{AreInner, IsInner, IsWay, instance_name};
 ghost use Rattle.net_flatten_rules.specs.Joined.{instance_at, joined, names_before};
 ghost use Rattle.net_hier.specs.Paths.{Path};
 

@@ -21,8 +21,8 @@ use Rattle.flat_numbers.proofs.PathSpots.{cell_of_spot, one_path, spot_of_cell}
 use Rattle.flat_numbers.proofs.SpotLaws.{SpotFacts, spot_facts}
 use Rattle.flat_classes.specs.Terminals.{AreFlatClasses, FlatValue, IsLeafSpot}
 use Rattle.flat_classes.proofs.LeafLists.{to_filter}
-use Rattle.flat_report.specs.Report.{ArePaths, path_at}
-use Rattle.flat_report.specs.Ways.{instance_of}
+use Rattle.flat_classes.specs.Ways.{ArePaths, path_at}
+use Rattle.flat_classes.specs.Ways.{instance_of}
 use Rattle.net_flatten_rules.specs.FlatDesign.{cell_at, cell_or_none, inner, leaf_cells, no_cell, place_in, stands_at}
 use Rattle.net_flatten_rules.specs.Joined.{instance_at, joined, name_at}
 use Rattle.net_flatten_rules.specs.Rules.{repeated}

@@ -10,7 +10,7 @@ use Rattle.net_hier.specs.declared.cells.HCell.{HCell}
 use Rattle.net_hier.specs.declared.cells.HProp.{HProp}
 use Rattle.flat_classes.specs.Terminals.{AreFlatClasses, FlatValue}
 use Rattle.flat_classes.proofs.OneFlat.{one_flat}
-use Rattle.flat_report.specs.Report.{ArePaths}
+use Rattle.flat_classes.specs.Ways.{ArePaths}
 use Rattle.flat_report.proofs.OneReport.{one_paths}
 use Rattle.net_flatten_rules.specs.FlatDesign.{IsFlattened, cell_or_none, face, flat_cells, inner}
 use Rattle.net_flatten_rules.specs.Joined.{name_at}

@@ -10,7 +10,8 @@ use Rattle.net_graph.proofs.OrderLaws.{contained}
 use Rattle.flat_classes.specs.Terminals.{FlatValue}
 use Rattle.flat_classes.proofs.KindLaws.{first_or_rest, in_first, in_rest, nothing_in}
 use Rattle.flat_classes.proofs.OneFlat.{one_flat}
-use Rattle.flat_report.specs.Report.{ArePaths, count_then, design_then, nets_then, terminals_then}
+use Rattle.flat_report.specs.Report.{count_then, design_then, nets_then, terminals_then}
+use Rattle.flat_classes.specs.Ways.{ArePaths}
 use Rattle.flat_report.proofs.OneReport.{one_paths}
 use Rattle.net_lint.specs.Findings.{AreSeveral, FoundIn, View}
 use Rattle.net_lint.specs.Groups.{drivers_at, sets_of}

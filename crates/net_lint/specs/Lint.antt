@@ -4,7 +4,8 @@ use Rattle.net_hier.specs.Constants.{ConstantNames}
 use Rattle.net_hier.specs.Design.{Design}
 use Rattle.net_hier.specs.Paths.{Path}
 use Rattle.flat_classes.specs.Terminals.{AreFlatClasses, FlatValue}
-use Rattle.flat_report.specs.Report.{ArePaths, count_then, design_then, nets_then, terminals_then}
+use Rattle.flat_report.specs.Report.{count_then, design_then, nets_then, terminals_then}
+use Rattle.flat_classes.specs.Ways.{ArePaths}
 use Rattle.net_lint.specs.Findings.{FoundIn, View}
 
 -- the terminals that flat classes list

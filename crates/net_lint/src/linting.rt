@@ -1,7 +1,8 @@
 // The text of the findings.
 ghost use Rattle.std.specs.Prelude.{ℕ, ◌≡◌, ◌<◌, ◌≤◌, List, [], All, length, map};
 ghost use Rattle.flat_classes.specs.Terminals.{AreFlatClasses};
-ghost use Rattle.flat_report.specs.Report.{ArePaths, nets_then};
+ghost use Rattle.flat_report.specs.Report.{nets_then};
+ghost use Rattle.flat_classes.specs.Ways.{ArePaths};
 ghost use Rattle.net_hier.specs.Constants.{ConstantNames};
 ghost use Rattle.net_hier.specs.Paths.{Path};
 ghost use Rattle.net_lint.specs.Findings.{FoundIn};

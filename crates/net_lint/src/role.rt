@@ -1,6 +1,6 @@
 // What a terminal does to those that are connected to it.
 ghost use Rattle.std.specs.Prelude.{◌≡◌};
-ghost use Rattle.flat_report.specs.Ways.{IsTerminal};
+ghost use Rattle.flat_classes.specs.Ways.{IsTerminal};
 ghost use Rattle.net_lint.specs.Roles.{is_driver, is_sink, pin_role, port_role, role_of};
 
 use flat_classes::{Spot, Terminal};

@@ -10,7 +10,7 @@ use Rattle.net_hier.specs.Facts.{cell_props}
 use Rattle.net_hier.specs.declared.cells.HCell.{HCell}
 use Rattle.net_bits.specs.Classes.{AreClasses, ClassTable}
 use Rattle.edif_values.specs.declared.cell.Cell.{Cell}
-use Rattle.edif_copies.specs.Planned.{AreCells, IsMadeOf}
+use Rattle.edif_plans.specs.Planned.{AreCells, IsMadeOf}
 use Rattle.edif_plans.specs.Made.{IsMadeUnder, new_cell_for}
 use Rattle.edif_plans.specs.Plans.{head_at, head_of, no_head}
 use Rattle.edif_plans.specs.declared.head.Head.{Head}

@@ -21,7 +21,7 @@ use Rattle.edif_plans.specs.Plans.{HasConstant, constant_number, head_at, head_o
 use Rattle.edif_plans.specs.Sound.{AreStems, IsSoundCell, IsSoundDesign}
 use Rattle.edif_plans.specs.declared.plan.Plan.{Plan}
 use Rattle.edif_copies.specs.Answers.{IsEdifFor}
-use Rattle.edif_copies.specs.Planned.{AreCells, IsAlone, IsOldAt, IsPlan, IsPlannedFile}
+use Rattle.edif_plans.specs.Planned.{AreCells, IsAlone, IsOldAt, IsPlan, IsPlannedFile}
 use Rattle.edif_copies.proofs.Whole.{planned_is_edif}
 use Rattle.edif_planning.specs.Plans.{IsPlanned}
 use Rattle.edif_planning.specs.declared.planning.Planned.{Planned}

@@ -3,7 +3,7 @@ use Rattle.std.proofs.Common.{arith, ◌≡◌, ◌⊎◌, inl, inr, ℕ, zero, 
 use Rattle.std.specs.Prelude.{slice_get}
 use Rattle.std.proofs.lemmas.Option.{slice_get_within}
 use Rattle.edif_values.specs.declared.cell.Cell.{Cell}
-use Rattle.edif_copies.specs.Planned.{AreCells, IsMadeOf, IsPlan}
+use Rattle.edif_plans.specs.Planned.{AreCells, IsMadeOf, IsPlan}
 use Rattle.edif_partners.specs.Files.{IsOldCell}
 use Rattle.edif_plans.specs.Plans.{head_at}
 use Rattle.edif_plans.specs.declared.plan.Plan.{Plan}

@@ -5,7 +5,7 @@ use Rattle.edif_values.specs.Names.{original}
 use Rattle.edif_values.specs.declared.name.NameDef.{NameDef}
 use Rattle.edif_values.specs.declared.file.EdifFile.{EdifFile}
 use Rattle.edif_design.specs.Parts.{designs}
-use Rattle.edif_copies.specs.Planned.{IsAlone}
+use Rattle.edif_plans.specs.Planned.{IsAlone}
 use Rattle.net_hier.specs.Design.{Design, top_name}
 
 -- the name is written alone in its name space, and can be written where it is a string

@@ -1,6 +1,6 @@
 // The cells of the file.
 ghost use Rattle.std.specs.Prelude.{◌≡◌, ◌<◌, Bool, List, true, length, IfOk};
-ghost use Rattle.edif_copies.specs.Planned.{AreCells};
+ghost use Rattle.edif_plans.specs.Planned.{AreCells};
 ghost use Rattle.edif_planning.specs.Classes.{AreAllClasses};
 ghost use Rattle.edif_plans.specs.Plans.{FitsCells};
 ghost use Rattle.edif_plans.specs.Sound.{AreStems};

@@ -1,7 +1,7 @@
 // The translation.
 ghost use Rattle.std.specs.Prelude.{IfOk};
 ghost use Rattle.edif_copies.specs.Answers.{IsEdifFor};
-ghost use Rattle.edif_copies.specs.Planned.{IsPlannedFile};
+ghost use Rattle.edif_plans.specs.Planned.{IsPlannedFile};
 ghost use Rattle.edif_planning.specs.Classes.{AreAllClasses};
 ghost use Rattle.edif_planning.specs.Plans.{IsPlanned};
 ghost use Rattle.edif_plans.specs.Sound.{IsSoundDesign};

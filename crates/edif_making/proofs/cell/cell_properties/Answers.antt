@@ -1,5 +1,5 @@
 use Rattle.std.proofs.Common.{ap, ◌∙◌}
-use Rattle.edif_naming.specs.Naming.{seen}
+use Rattle.edif_written.specs.Naming.{seen}
 use Rattle.net_hier.specs.Facts.{cell_props}
 use Rattle.net_live.specs.Last.{last_of}
 use Rattle.edif_naming.proofs.LastLaws.{seen_sound}

@@ -2,7 +2,7 @@ use Rattle.std.proofs.Common.{◌++◌, List, ap, length, map, subst, sym, ◌�
 use Rattle.std.specs.List.{AllByRecursion}
 use Rattle.net_hier.specs.Valid.{Each}
 use Rattle.net_hier.specs.declared.cells.HInst.{HInst}
-use Rattle.edif_naming.specs.Naming.{name_for}
+use Rattle.edif_written.specs.Naming.{name_for}
 use Rattle.edif_written.specs.Written.{cell_of}
 use Rattle.edif_plans.specs.AddedNames.{AreNamedFor}
 use Rattle.edif_plans.specs.Faces.{added_face, face_for, own_face}

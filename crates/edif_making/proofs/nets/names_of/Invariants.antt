@@ -1,5 +1,5 @@
 use Rattle.std.proofs.Common.{◌≡◌, ◌++◌, drop, map}
-use Rattle.edif_naming.specs.Naming.{seen}
+use Rattle.edif_written.specs.Naming.{seen}
 use Rattle.edif_making.specs.declared.nets.Planned.{Planned}
 use Rattle.edif_making.proofs.nets.names_of.Given as goal
 

@@ -1,5 +1,5 @@
 use Rattle.std.proofs.Common.{ap, ◌∙◌}
-use Rattle.edif_naming.specs.Naming.{seen}
+use Rattle.edif_written.specs.Naming.{seen}
 use Rattle.net_live.specs.Last.{last_of}
 use Rattle.edif_making.proofs.NetLaws.{kept_class_sound}
 use Rattle.edif_making.proofs.nets.net_properties.Goals as goal

@@ -9,7 +9,7 @@ use Rattle.net_bits.specs.Classes.{members_of}
 use Rattle.net_live.specs.Last.{last_of}
 use Rattle.net_live.specs.Live.{class_props}
 use Rattle.edif_naming.proofs.NamingLaws.{original_name_for}
-use Rattle.edif_naming.proofs.SoundLaws.{all_push}
+use Rattle.edif_written.proofs.Lists.{all_push}
 use Rattle.edif_plans.specs.NetNames.{HasNoSpareText}
 use Rattle.edif_plans.specs.References.{CanRefer, refs_for}
 use Rattle.edif_plans.proofs.Lists.{all_turn, item_turn, map_turn}

@@ -1,5 +1,5 @@
 use Rattle.std.proofs.Common.{map, ap, subst}
-use Rattle.edif_naming.specs.Naming.{ident_of}
+use Rattle.edif_written.specs.Naming.{ident_of}
 use Rattle.edif_naming.proofs.LastLaws.{pushed_plain, pushed_value}
 use Rattle.edif_spaces.specs.Plain.{IsPlainStep}
 use Rattle.edif_spaces.proofs.PlainLaws.{told_own}

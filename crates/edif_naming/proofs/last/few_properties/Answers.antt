@@ -1,6 +1,6 @@
 use Rattle.std.proofs.Common.{arith, ◌++◌, ap, map, subst, sym}
 use Rattle.std.specs.List.{AllByRecursion}
-use Rattle.edif_naming.specs.Naming.{value_of}
+use Rattle.edif_written.specs.Naming.{value_of}
 use Rattle.edif_naming.proofs.LastLaws.{last_end, last_turn, none_plain, plain_idents, sound_there}
 use Rattle.edif_values.specs.Values.{IsProperty}
 use Rattle.net_live.specs.Last.{last_of}

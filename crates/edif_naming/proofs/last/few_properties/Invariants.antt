@@ -1,8 +1,8 @@
 use Rattle.std.proofs.Common.{◌≡◌, ◌≤◌, ◌++◌, drop, map}
 use Rattle.std.specs.List.{AllByRecursion}
 use Rattle.edif_naming.specs.Few.{ArePlain}
-use Rattle.edif_naming.specs.Naming.{value_of}
-use Rattle.edif_naming.specs.Sound.{AreSoundProps}
+use Rattle.edif_written.specs.Naming.{value_of}
+use Rattle.edif_written.specs.Sound.{AreSoundProps}
 use Rattle.edif_values.specs.Values.{IsProperty}
 use Rattle.net_live.specs.Last.{last_of}
 use Rattle.edif_naming.proofs.last.few_properties.Given as goal

@@ -1,8 +1,8 @@
 use Rattle.std.proofs.Common.{◌≡◌, ◌++◌, drop, map}
 use Rattle.std.specs.List.{AllByRecursion}
 use Rattle.edif_values.specs.Values.{IsProperty}
-use Rattle.edif_naming.specs.Naming.{ident_of, seen, value_of}
-use Rattle.edif_naming.specs.Sound.{AreSoundProps}
+use Rattle.edif_written.specs.Naming.{ident_of, seen, value_of}
+use Rattle.edif_written.specs.Sound.{AreSoundProps}
 use Rattle.edif_naming.proofs.properties.properties_of.Given as goal
 
 abbrev pub invariant-loop-place : goal.invariant-loop-place

@@ -1,5 +1,5 @@
 use Rattle.std.proofs.Common.{◌≡◌, ◌++◌, drop, map}
-use Rattle.edif_naming.specs.Naming.{seen}
+use Rattle.edif_written.specs.Naming.{seen}
 use Rattle.net_hier.specs.declared.cells.HInst.{HInst}
 use Rattle.edif_plans.specs.Faces.{instance_names}
 use Rattle.edif_plans.specs.declared.added.Added.{Added}

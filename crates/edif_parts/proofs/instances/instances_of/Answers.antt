@@ -1,7 +1,7 @@
 use Rattle.std.proofs.Common.{◌≡◌, ◌+◌, ◌<◌, ◌++◌, List, arith, ap, drop, length, map, subst, sym, ◌∙◌}
 use Rattle.std.specs.List.{AllByRecursion}
 use Rattle.net_hier.specs.Valid.{Each}
-use Rattle.edif_naming.specs.Sound.{IsShort}
+use Rattle.edif_written.specs.Sound.{IsShort}
 use Rattle.edif_plans.specs.Faces.{added_face, instance_face, instance_ident, own_face}
 use Rattle.edif_plans.specs.Plans.{constant_number}
 use Rattle.edif_plans.specs.declared.added.Added.{Added}

@@ -1,7 +1,7 @@
 use Rattle.std.proofs.Common.{refl, rules, arith}
 use Rattle.edif_values.specs.Values.{IsInstance}
 use Rattle.edif_values.specs.declared.instance.Instance.{Instance}
-use Rattle.edif_naming.proofs.SoundLaws.{all_push}
+use Rattle.edif_written.proofs.Lists.{all_push}
 use Rattle.edif_plans.specs.Faces.{instance_face, instance_ident, own_face}
 use Rattle.edif_plans.specs.NetNames.{HasNoSpareText}
 use Rattle.edif_plans.specs.Sound.{IsSoundInstance}

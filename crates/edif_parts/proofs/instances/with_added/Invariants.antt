@@ -2,7 +2,7 @@ use Rattle.std.proofs.Common.{◌≡◌, ◌+◌, ◌++◌, drop, length, map}
 use Rattle.std.specs.List.{AllByRecursion}
 use Rattle.edif_values.specs.Values.{IsInstance}
 use Rattle.edif_values.specs.declared.instance.Instance.{Instance}
-use Rattle.edif_naming.specs.Sound.{IsShort}
+use Rattle.edif_written.specs.Sound.{IsShort}
 use Rattle.edif_plans.specs.Faces.{added_face, instance_face, instance_ident}
 use Rattle.edif_plans.specs.NetNames.{HasNoSpareText}
 use Rattle.edif_plans.specs.declared.added.Added.{Added}

@@ -2,7 +2,7 @@ use Rattle.std.proofs.Common.{◌<◌, subst, sym, refl, rules}
 use Rattle.edif_design.specs.CellRules.{port_ident}
 use Rattle.edif_values.specs.Values.{IsPort}
 use Rattle.edif_plans.specs.Faces.{face_for, face_of}
-use Rattle.edif_naming.proofs.SoundLaws.{all_push}
+use Rattle.edif_written.proofs.Lists.{all_push}
 use Rattle.edif_values.specs.declared.port.Port.{Port}
 use Rattle.edif_plans.specs.PortNames.{HasPlainText}
 use Rattle.edif_plans.specs.Sound.{IsSoundPort}

@@ -3,8 +3,9 @@ use Rattle.std.proofs.lemmas.Option.{slice_get-get_or}
 use Rattle.net_hier.specs.Paths.{Path}
 use Rattle.nl_output.specs.Writing.{Begin, state, ToCome}
 use Rattle.flat_classes.specs.declared.flat.Terminal.TheVariants.{Port}
-use Rattle.flat_report.specs.Report.{ArePaths, terminal_then, terminals_then}
-use Rattle.flat_report.specs.Ways.{IsTerminal}
+use Rattle.flat_report.specs.Report.{terminal_then, terminals_then}
+use Rattle.flat_classes.specs.Ways.{ArePaths}
+use Rattle.flat_classes.specs.Ways.{IsTerminal}
 use Rattle.flat_report.proofs.TerminalFacts.{terminal_at, terminals_next}
 use Rattle.flat_report.proofs.lines.put_terminals.Goals as goal
 

@@ -3,7 +3,7 @@ use Rattle.std.specs.Prelude.{codes}
 use Rattle.edif_writer.specs.Strings.{quoted}
 use Rattle.nl_output.specs.Writing.{state, ToCome}
 use Rattle.flat_report.specs.Report.{names_then}
-use Rattle.flat_report.specs.Ways.{instance_name}
+use Rattle.flat_classes.specs.Ways.{instance_name}
 use Rattle.flat_report.proofs.PathTexts.{names_taken}
 use Rattle.flat_report.proofs.path.put_above.Goals as goal
 

@@ -1,7 +1,7 @@
 use Rattle.std.proofs.Common.{ℕ, ◌≤◌, List, length, map, take}
 use Rattle.nl_output.specs.Writing.{Begin, state, ToCome}
 use Rattle.flat_report.specs.Report.{names_then}
-use Rattle.flat_report.specs.Ways.{instance_name}
+use Rattle.flat_classes.specs.Ways.{instance_name}
 use Rattle.flat_report.proofs.path.put_above.Given as goal
 
 abbrev pub invariant-loop-place : goal.invariant-loop-place

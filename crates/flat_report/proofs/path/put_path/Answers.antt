@@ -3,8 +3,8 @@ use Rattle.std.specs.Prelude.{Contains}
 use Rattle.std.proofs.lemmas.List.{length-take-le}
 use Rattle.nl_output.specs.Writing.{state, ToCome}
 use Rattle.flat_report.specs.Report.{path_then}
-use Rattle.flat_report.specs.Ways.{instance_name}
-use Rattle.flat_report.proofs.WayLaws.{some_way, way_of_path}
+use Rattle.flat_classes.specs.Ways.{instance_name}
+use Rattle.flat_classes.proofs.WayLaws.{some_way, way_of_path}
 use Rattle.flat_report.proofs.path.put_path.Goals as goal
 
 pub way_up-count-requires : goal.way_up-count-requires

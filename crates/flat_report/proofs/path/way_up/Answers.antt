@@ -1,5 +1,5 @@
 use Rattle.std.proofs.Common.{◌<◌, length, arith}
-use Rattle.flat_report.proofs.WayLaws.{way_counted, way_done, way_has_room, way_more}
+use Rattle.flat_classes.proofs.WayLaws.{way_counted, way_done, way_has_room, way_more}
 use Rattle.flat_report.proofs.path.way_up.Goals as goal
 
 pub loop-at-preserved : goal.loop-at-preserved

@@ -1,6 +1,6 @@
 use Rattle.std.proofs.Common.{ℕ, List}
-use Rattle.flat_report.specs.Ways.{IsWay}
-use Rattle.flat_report.proofs.WayLaws.{WayLeft}
+use Rattle.flat_classes.specs.Ways.{IsWay}
+use Rattle.flat_classes.proofs.WayLaws.{WayLeft}
 use Rattle.flat_report.proofs.path.way_up.Given as goal
 
 abbrev pub invariant-loop-at : goal.invariant-loop-at

@@ -7,7 +7,8 @@ use Rattle.nl_output.specs.Writing.{state, ToCome}
 use Rattle.flat_numbers.specs.declared.spots.Spot.{Spot}
 use Rattle.flat_numbers.proofs.Reading.{element_read}
 use Rattle.flat_classes.specs.Terminals.{cell_of}
-use Rattle.flat_report.specs.Report.{name_then, path_at, path_then}
+use Rattle.flat_report.specs.Report.{name_then, path_then}
+use Rattle.flat_classes.specs.Ways.{path_at}
 use Rattle.flat_report.proofs.OneReport.{listed_path}
 use Rattle.flat_report.proofs.TerminalFacts.{cell_at, name_read}
 use Rattle.flat_report.proofs.reporting.put_leaf.Goals as goal

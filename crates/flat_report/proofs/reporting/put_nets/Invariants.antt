@@ -1,7 +1,8 @@
 use Rattle.std.proofs.Common.{ℕ, List, drop, map}
 use Rattle.nl_output.specs.Writing.{Begin, state, ToCome}
 use Rattle.net_hier.specs.Paths.{Path}
-use Rattle.flat_report.specs.Report.{ArePaths, nets_then}
+use Rattle.flat_report.specs.Report.{nets_then}
+use Rattle.flat_classes.specs.Ways.{ArePaths}
 use Rattle.flat_report.proofs.reporting.put_nets.Given as goal
 
 abbrev pub invariant-loop-places : goal.invariant-loop-places

@@ -2,7 +2,8 @@ use Rattle.std.proofs.Common.{ℕ, ◌≡◌, ◌<◌, ◌++◌, List, ap, subst
 use Rattle.std.specs.Prelude.{All, codes}
 use Rattle.net_hier.specs.Paths.{Path}
 use Rattle.nl_output.specs.Writing.{Begin, state, ToCome}
-use Rattle.flat_report.specs.Report.{ArePaths, count_then, groups_of, has_two, leaves_then, nets_then}
+use Rattle.flat_report.specs.Report.{count_then, groups_of, has_two, leaves_then, nets_then}
+use Rattle.flat_classes.specs.Ways.{ArePaths}
 use Rattle.flat_report.proofs.GroupTexts.{members_are, passed_long}
 use Rattle.flat_report.proofs.TerminalFacts.{leaves_within}
 use Rattle.flat_report.proofs.reporting.put_report.Goals as goal

@@ -1,5 +1,5 @@
 use Rattle.std.proofs.Common.{ap, subst, subst₂, sym, ◌∙◌}
-use Rattle.flat_report.specs.Ways.{AreInner}
+use Rattle.flat_classes.specs.Ways.{AreInner}
 use Rattle.net_flatten_cells.proofs.FlatLaws.{are_inner, have_spots}
 use Rattle.net_flatten_cells.specs.Places.{Numbers}
 use Rattle.net_flatten_cells.specs.Wired.{HaveSpots}

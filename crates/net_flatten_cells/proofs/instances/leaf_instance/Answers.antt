@@ -1,6 +1,6 @@
 use Rattle.std.proofs.Common.{ap, ◌∙◌, arith}
 use Rattle.flat_report.proofs.OneReport.{listed_path}
-use Rattle.flat_report.specs.Report.{path_at}
+use Rattle.flat_classes.specs.Ways.{path_at}
 use Rattle.net_flatten_rules.specs.FlatDesign.{place_in}
 use Rattle.net_flatten_cells.proofs.InstanceLaws.{leaf_made, leaf_read}
 use Rattle.net_flatten_cells.proofs.instances.leaf_instance.Goals as goal

@@ -1,5 +1,5 @@
 use Rattle.std.proofs.Common.{◌≡◌, List, map, take}
-use Rattle.flat_report.specs.Report.{ArePaths}
+use Rattle.flat_classes.specs.Ways.{ArePaths}
 use Rattle.net_flatten_rules.specs.FlatDesign.{leaf_instance}
 use Rattle.net_hier.specs.Paths.{Path}
 use Rattle.net_flatten_cells.proofs.instances.leaf_instances.Given as goal

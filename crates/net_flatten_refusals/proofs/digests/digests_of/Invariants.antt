@@ -1,6 +1,6 @@
 use Rattle.std.proofs.Common.{◌≡◌, List, length, take}
 use Rattle.net_hier.specs.Paths.{Path}
-use Rattle.flat_report.specs.Report.{ArePaths}
+use Rattle.flat_classes.specs.Ways.{ArePaths}
 use Rattle.net_flatten_refusals.specs.PathDigests.{digests_of}
 use Rattle.net_flatten_refusals.proofs.digests.digests_of.Given as goal
 

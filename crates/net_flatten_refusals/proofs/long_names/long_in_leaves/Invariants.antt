@@ -1,6 +1,6 @@
 use Rattle.std.proofs.Common.{◌≡◌, List, drop}
 use Rattle.net_hier.specs.Paths.{Path}
-use Rattle.flat_report.specs.Report.{ArePaths}
+use Rattle.flat_classes.specs.Ways.{ArePaths}
 use Rattle.net_flatten_rules.specs.Rules.{first_of}
 use Rattle.net_flatten_refusals.specs.LongNames.{refused_leaves}
 use Rattle.net_flatten_refusals.proofs.long_names.long_in_leaves.Given as goal

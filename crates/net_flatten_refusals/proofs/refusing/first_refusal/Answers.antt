@@ -1,6 +1,6 @@
 use Rattle.std.proofs.Common.{ap, subst, subst₂, sym, ◌∙◌, ◌<◌, ◌≢◌, ◌≡◌, None, length}
 use Rattle.std.specs.Prelude.{All}
-use Rattle.flat_report.specs.Report.{ArePaths}
+use Rattle.flat_classes.specs.Ways.{ArePaths}
 use Rattle.net_flatten_rules.specs.FlatDesign.{inner}
 use Rattle.net_flatten_rules.specs.Rules.{first_of, names_twice}
 use Rattle.net_flatten_refusals.specs.LongNames.{refused_names}

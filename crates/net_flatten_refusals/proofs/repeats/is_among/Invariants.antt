@@ -1,7 +1,7 @@
 use Rattle.std.proofs.Common.{◌≡◌, List, bytes_eq, drop, map}
 use Rattle.std.specs.List.{list_any}
 use Rattle.net_hier.specs.Paths.{Path}
-use Rattle.flat_report.specs.Report.{ArePaths}
+use Rattle.flat_classes.specs.Ways.{ArePaths}
 use Rattle.net_flatten_rules.specs.Joined.{name_at}
 use Rattle.net_flatten_refusals.proofs.repeats.is_among.Given as goal
 

@@ -1,5 +1,5 @@
 use Rattle.std.proofs.Common.{◌∙◌}
-use Rattle.flat_report.specs.Report.{path_at}
+use Rattle.flat_classes.specs.Ways.{path_at}
 use Rattle.flat_report.proofs.OneReport.{listed_path}
 use Rattle.net_flatten_refusals.proofs.repeats.name_at.Goals as goal
 

@@ -1,7 +1,7 @@
 use Rattle.std.proofs.Common.{◌∙◌, ap, map, subst}
 use Rattle.std.specs.Prelude.{Contains}
-use Rattle.flat_report.specs.Ways.{instance_name}
-use Rattle.flat_report.proofs.WayLaws.{some_way, way_of_path}
+use Rattle.flat_classes.specs.Ways.{instance_name}
+use Rattle.flat_classes.proofs.WayLaws.{some_way, way_of_path}
 use Rattle.net_flatten_rules.proofs.JoinedLaws.{one_way}
 use Rattle.net_flatten_rules.specs.Joined.{joined}
 use Rattle.net_flatten_rules.proofs.joined.joined_name.Goals as goal

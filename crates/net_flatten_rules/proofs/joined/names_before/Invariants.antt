@@ -1,4 +1,4 @@
-use Rattle.flat_report.specs.Ways.{instance_name}
+use Rattle.flat_classes.specs.Ways.{instance_name}
 use Rattle.net_flatten_rules.proofs.JoinedLaws.{NamesMade}
 use Rattle.net_flatten_rules.proofs.joined.names_before.Given as goal
 

@@ -1,7 +1,7 @@
 use Rattle.std.proofs.Common.{◌<◌, ap, arith, get_or, length, subst₂, sym}
 use Rattle.std.proofs.lemmas.Option.{slice_get-get_or}
 use Rattle.flat_classes.specs.declared.flat.Terminal.TheVariants.{Port}
-use Rattle.flat_report.specs.Ways.{IsTerminal}
+use Rattle.flat_classes.specs.Ways.{IsTerminal}
 use Rattle.flat_report.proofs.TerminalFacts.{terminal_at}
 use Rattle.net_lint.proofs.findings.roles_of.Goals as goal
 

@@ -1,7 +1,8 @@
 use Rattle.std.proofs.Common.{ℕ, List, drop, map}
 use Rattle.nl_output.specs.Writing.{Begin, state, ToCome}
 use Rattle.net_hier.specs.Paths.{Path}
-use Rattle.flat_report.specs.Report.{ArePaths, nets_then}
+use Rattle.flat_report.specs.Report.{nets_then}
+use Rattle.flat_classes.specs.Ways.{ArePaths}
 use Rattle.net_lint.specs.Groups.{sets_of}
 use Rattle.net_lint.proofs.linting.put_sets.Given as goal
 

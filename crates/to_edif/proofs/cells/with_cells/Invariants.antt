@@ -1,5 +1,5 @@
 use Rattle.std.proofs.Common.{Bool, List, take}
-use Rattle.edif_copies.specs.Planned.{AreCells}
+use Rattle.edif_plans.specs.Planned.{AreCells}
 use Rattle.to_edif.specs.Cells.{AreNewCells}
 use Rattle.to_edif.proofs.cells.with_cells.Given as goal
 

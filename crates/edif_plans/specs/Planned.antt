@@ -9,7 +9,7 @@ use Rattle.net_hier.specs.Constants.{ConstantNames, name_of_constant}
 use Rattle.net_hier.specs.Design.{Design, IsCell, top_name}
 use Rattle.net_hier.specs.Facts.{cell_props}
 use Rattle.net_hier.specs.declared.cells.HCell.{HCell}
-use Rattle.edif_naming.specs.Naming.{name_for}
+use Rattle.edif_written.specs.Naming.{name_for}
 use Rattle.edif_spaces.specs.Spaces.{AreIdents, IsIdentFor}
 use Rattle.edif_written.specs.Written.{file_of}
 use Rattle.edif_plans.specs.AddedNames.{AreNamedFor}
@@ -17,7 +17,7 @@ use Rattle.edif_plans.specs.Made.{IsMadeCell, new_cell_for}
 use Rattle.edif_plans.specs.Plans.{constant_number, head_at, head_of, number_of}
 use Rattle.edif_plans.specs.References.{name_at}
 use Rattle.edif_plans.specs.declared.plan.Plan.{Plan}
-use Rattle.edif_copies.specs.Missing.{AreMissing, IsNeeded}
+use Rattle.edif_plans.specs.Missing.{AreMissing, IsNeeded}
 
 -- the cell of this number, behind so many new ones, is made of a cell of the design that stands for the constant
 pub record IsOldAt (names : ConstantNames) (design : Design) (count : ℕ) (value : Bool) (number : ℕ) : Type 0 where

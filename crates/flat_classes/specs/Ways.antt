@@ -1,11 +1,12 @@
--- The way from a spot up to the top.
-use Rattle.std.specs.Prelude.{◌≡◌, ℕ, ◌<◌, List, [], ◌∷◌, map, slice_get, Option, Some, None, Contains}
+-- The way from a spot up to the top, and the path of each spot.
+use Rattle.std.specs.Prelude.{◌≡◌, ℕ, ◌<◌, List, [], ◌∷◌, map, slice_get, Option, Some, None, Contains, length, slice_index_or}
 use Rattle.std.specs.Option.{option_and_then}
 use Rattle.net_hier.specs.Cells.{IsPortBit}
+use Rattle.net_hier.specs.Paths.{Path}
 use Rattle.net_hier.specs.declared.cells.HCell.{HCell}
 use Rattle.net_hier.specs.declared.cells.HInst.{HInst}
 use Rattle.flat_numbers.specs.Numbers.{CellOf}
-use Rattle.flat_numbers.specs.Spots.{IsSpotBelow}
+use Rattle.flat_numbers.specs.Spots.{IsSpotBelow, IsSpotOf}
 use Rattle.flat_numbers.specs.declared.spots.Spot.{Spot}
 use Rattle.flat_classes.specs.declared.flat.Terminal.{Terminal}
 use Rattle.flat_classes.specs.declared.flat.Terminal.TheVariants.{Port, Pin, Zero, One}
@@ -41,3 +42,12 @@ pub data IsTerminal (cells : List HCell) (spots : List Spot) : Terminal → Type
   a_pin : {cell : HCell} {spot port bit : ℕ} → CellOf cells spots spot cell → IsPortBit cell port bit → IsTerminal cells spots (Pin spot port bit)
   is_zero : IsTerminal cells spots Zero
   is_one : IsTerminal cells spots One
+
+-- the path of each spot
+pub record ArePaths (cells : List HCell) (spots : List Spot) (paths : List Path) : Type 0 where
+  pub len : length paths ≡ length spots
+  pub are : (number : ℕ) (path : Path) → slice_get paths number ≡ Some path → IsSpotOf cells spots path number
+
+-- the path of the spot of this number
+abbrev pub path_at : List Path → ℕ → Path
+path_at paths number = slice_index_or paths number []

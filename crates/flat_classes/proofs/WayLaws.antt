@@ -15,7 +15,7 @@ use Rattle.flat_numbers.proofs.Linking.{contains_there}
 use Rattle.flat_numbers.proofs.PathSpots.{spot_has_path}
 use Rattle.flat_numbers.proofs.SpotLaws.{HasParent, SpotFacts, spot_facts}
 use Rattle.flat_classes.proofs.KindLaws.{first_or_rest, in_first, in_rest, nothing_in}
-use Rattle.flat_report.specs.Ways.{AreInner, IsInner, IsWay, at_top, below, instance_name, instance_of, name_of}
+use Rattle.flat_classes.specs.Ways.{AreInner, IsInner, IsWay, at_top, below, instance_name, instance_of, name_of}
 
 -- ---- walking up
 -- of the way from the start, a front is in the room and the rest begins at the spot
