@@ -22,8 +22,7 @@ use Rattle.edif_keywords.specs.Reasons.{trailing}
 use Rattle.edif_values.specs.declared.file.EdifFile.{EdifFile}
 use Rattle.edif_library.specs.Grammar.{file}
 use Rattle.edif_library.proofs.Live.{live_file, closed_file}
-use Rattle.edif_rereading.specs.Whole.{EdifSpells}
-use Rattle.edif_laws.specs.AnyLength.{EdifFails}
+use Rattle.edif_library.specs.AnyLength.{EdifSpells, EdifFails}
 use Rattle.grammar_laws.proofs.Ending.{one_end, none_more, whole_ends}
 use Rattle.edif_limits.proofs.Front.{all_finish}
 use Rattle.edif_limits.proofs.Looked.{end_is_last}

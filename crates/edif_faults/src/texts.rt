@@ -12,8 +12,7 @@ ghost use Rattle.edif_keywords.specs.Language.{edif};
 ghost use Rattle.edif_keywords.specs.Reasons.{trailing};
 ghost use Rattle.edif_library.specs.Grammar.{file as file_part};
 ghost use Rattle.edif_values.specs.declared.file.EdifFile.{EdifFile};
-ghost use Rattle.edif_rereading.specs.Whole.{EdifSpells};
-ghost use Rattle.edif_laws.specs.AnyLength.{EdifFails};
+ghost use Rattle.edif_library.specs.AnyLength.{EdifSpells, EdifFails};
 ghost use Rattle.edif_faults.specs.GoesOn.{GoesOn};
 
 /// Tokens at the front of a text, within the limit of an input, go on to a file with any tokens exactly where they do so with tokens that

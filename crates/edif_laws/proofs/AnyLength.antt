@@ -14,8 +14,7 @@ use Rattle.edif_keywords.specs.Reasons.{trailing}
 use Rattle.edif_values.specs.declared.file.EdifFile.{EdifFile}
 use Rattle.edif_library.specs.Grammar.{file}
 use Rattle.edif_library.proofs.Live.{live_file, closed_file}
-use Rattle.edif_rereading.specs.Whole.{EdifSpells}
-use Rattle.edif_laws.specs.AnyLength.{EdifFails}
+use Rattle.edif_library.specs.AnyLength.{EdifSpells, EdifFails}
 
 clear : IsClear [] (file []) (λ _ t. (p : Place) × (t ≡ end p))
 clear = clear_fewer [] (file []) (λ _ t. (p : Place) × (t ≡ end p)) (λ _ _. Unit {0}) (λ _ _ _. tt) (closed_file [] []).closed

@@ -2,8 +2,7 @@
 ghost use Rattle.std.specs.Prelude.{◌≡◌, ℕ, List};
 ghost use Rattle.nl_base.specs.declared.fault.TextFault.{TextFault};
 ghost use Rattle.edif_values.specs.declared.file.EdifFile.{EdifFile};
-ghost use Rattle.edif_rereading.specs.Whole.{EdifSpells};
-ghost use Rattle.edif_laws.specs.AnyLength.{EdifFails};
+ghost use Rattle.edif_library.specs.AnyLength.{EdifSpells, EdifFails};
 
 /// Bytes of any length spell at most one file.
 pub fn one_file_of_any_length()

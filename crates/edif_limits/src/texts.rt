@@ -14,8 +14,7 @@ ghost use Rattle.edif_keywords.specs.Reasons.{trailing};
 ghost use Rattle.edif_values.specs.declared.file.EdifFile.{EdifFile};
 ghost use Rattle.edif_library.specs.Grammar.{file as file_part};
 ghost use Rattle.edif_library.specs.Text.{EdifReads, EdifFault, EdifCut};
-ghost use Rattle.edif_rereading.specs.Whole.{EdifSpells};
-ghost use Rattle.edif_laws.specs.AnyLength.{EdifFails};
+ghost use Rattle.edif_library.specs.AnyLength.{EdifSpells, EdifFails};
 
 /// Bytes read as a file exactly where they spell it and are within the limit of an input.
 pub fn files_within_the_limit()

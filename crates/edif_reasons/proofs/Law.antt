@@ -26,7 +26,7 @@ use Rattle.edif_values.specs.declared.file.EdifFile.{EdifFile}
 use Rattle.edif_library.specs.Grammar.{file}
 use Rattle.edif_library.specs.Text.{EdifFault}
 use Rattle.edif_library.proofs.Live.{live_file, closed_file}
-use Rattle.edif_laws.specs.AnyLength.{EdifFails}
+use Rattle.edif_library.specs.AnyLength.{EdifFails}
 use Rattle.edif_limits.proofs.Law.{faults}
 use Rattle.edif_limits.proofs.Looked.{end_is_last}
 use Rattle.edif_reasons.specs.Context.{Tokens, at_start}

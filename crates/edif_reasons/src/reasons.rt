@@ -2,7 +2,7 @@
 ghost use Rattle.std.specs.Prelude.{◌↔◌, ℕ, List};
 ghost use Rattle.nl_base.specs.declared.fault.TextFault.{TextFault};
 ghost use Rattle.edif_library.specs.Text.{EdifFault};
-ghost use Rattle.edif_laws.specs.AnyLength.{EdifFails};
+ghost use Rattle.edif_library.specs.AnyLength.{EdifFails};
 ghost use Rattle.edif_reasons.specs.FirstFault.{FailsByTable, FailsEarlyByTable};
 
 /// Bytes of any length have a first fault exactly where they have it by the table of reasons.

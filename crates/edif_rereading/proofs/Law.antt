@@ -20,7 +20,7 @@ use Rattle.edif_lexing.specs.Lexing.{Shows, EndsWell}
 use Rattle.edif_lexing.specs.Tokens.{block_tokens}
 use Rattle.edif_lexing.proofs.Laying.{text_lexes}
 use Rattle.edif_values.specs.Values.{IsEdifValue}
-use Rattle.edif_rereading.specs.Whole.{EdifSpells}
+use Rattle.edif_library.specs.AnyLength.{EdifSpells}
 use Rattle.edif_rereading.proofs.Spelled.{Row, Spelled}
 use Rattle.edif_rereading.proofs.Library.{file_spelled}
 use Rattle.edif_rereading.proofs.Writable.{file_laid}

@@ -6,7 +6,7 @@ ghost use Rattle.edif_values.specs.declared.file.EdifFile.{EdifFile};
 ghost use Rattle.edif_library.specs.Text.{EdifReads};
 ghost use Rattle.edif_writer.specs.Forms.{edif_text};
 ghost use Rattle.edif_values.specs.Values.{IsEdifValue};
-ghost use Rattle.edif_rereading.specs.Whole.{EdifSpells};
+ghost use Rattle.edif_library.specs.AnyLength.{EdifSpells};
 
 /// The written text of a file that can be written spells the file, whatever its length, and reads as the file within the limit of an input.
 pub fn reads_back()

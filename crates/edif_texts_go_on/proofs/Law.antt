@@ -28,7 +28,7 @@ use Rattle.edif_keywords.specs.Reasons.{trailing}
 use Rattle.edif_values.specs.declared.file.EdifFile.{EdifFile}
 use Rattle.edif_library.specs.Grammar.{file}
 use Rattle.edif_library.specs.Text.{EdifFault}
-use Rattle.edif_rereading.specs.Whole.{EdifSpells}
+use Rattle.edif_library.specs.AnyLength.{EdifSpells}
 use Rattle.edif_lexing.specs.Lexing.{EndsWell, Shows, Lexes}
 use Rattle.edif_lexing.proofs.Lexing.{lexes_space}
 use Rattle.edif_limits.proofs.Law.{reads}

@@ -10,7 +10,7 @@ use Rattle.edif_values.specs.Proper.{AreBytes}
 use Rattle.edif_lexing.specs.Lexing.{EndsWell}
 use Rattle.edif_values.specs.declared.file.EdifFile.{EdifFile}
 use Rattle.edif_library.specs.Text.{EdifReads}
-use Rattle.edif_rereading.specs.Whole.{EdifSpells}
+use Rattle.edif_library.specs.AnyLength.{EdifSpells}
 
 -- the same token at the same place; the byte behind a word or an integer, which shows its end, may
 -- be another or none

@@ -19,7 +19,7 @@ use Rattle.net_hier.specs.declared.cells.HCell.{HCell}
 use Rattle.net_hier.specs.declared.cells.HProp.{HProp}
 use Rattle.edif_design.specs.Design.{edif_design}
 use Rattle.edif_design.specs.FileRules.{first_E}
-use Rattle.edif_rereading.specs.Whole.{EdifSpells}
+use Rattle.edif_library.specs.AnyLength.{EdifSpells, VlogSpells}
 use Rattle.edif_resolve.specs.Answers as edif_answers
 use Rattle.spice_text.specs.Texts.{spice_text}
 use Rattle.spice_text.specs.declared.file.SpiceFile.{SpiceFile}
@@ -34,7 +34,6 @@ use Rattle.vlog_design.specs.Rules.{first_G}
 use Rattle.vlog_design_laws.specs.Designs.{IsVlogDesign}
 use Rattle.vlog_elab.specs.Answers as verilog_answers
 use Rattle.vlog_modules.specs.Text.{VlogReads, VlogFault, VlogCut}
-use Rattle.vlog_rereading.specs.Whole.{VlogSpells}
 use Rattle.vlog_values.specs.declared.module.VlogFile.{VlogFile}
 use Rattle.vlog_writer.specs.Forms.{vlog_text}
 use Rattle.netlist_words.specs.declared.command.Command.{Command}

@@ -20,8 +20,7 @@ use Rattle.vlog_values.specs.declared.module.VlogFile.{VlogFile}
 use Rattle.vlog_modules.specs.Grammar.{file}
 use Rattle.vlog_modules.proofs.Live.{live_file}
 use Rattle.vlog_modules.proofs.Clear.{clear_file}
-use Rattle.vlog_rereading.specs.Whole.{VlogSpells}
-use Rattle.vlog_laws.specs.AnyLength.{VlogFails}
+use Rattle.vlog_modules.specs.AnyLength.{VlogSpells, VlogFails}
 use Rattle.grammar_laws.specs.GoesOn.{AllOf}
 use Rattle.grammar_laws.proofs.Ending.{IsToken, one_end, none_more, whole_ends}
 use Rattle.grammar_laws.proofs.Refusing.{text_has}

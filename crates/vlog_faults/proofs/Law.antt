@@ -9,7 +9,7 @@ use Rattle.vlog_tokens.specs.declared.token.VFound.{VFound}
 use Rattle.vlog_exprs.specs.Grammar.{expr, constant, attrs}
 use Rattle.vlog_exprs.specs.Reasons.{trailing}
 use Rattle.vlog_modules.specs.Grammar.{file}
-use Rattle.vlog_laws.specs.AnyLength.{VlogFails}
+use Rattle.vlog_modules.specs.AnyLength.{VlogFails}
 use Rattle.grammar_laws.proofs.Ending.{IsToken}
 use Rattle.grammar_laws.proofs.Refusing.{refused_fits}
 use Rattle.vlog_faults.specs.Fitting.{Fits, HasReason, of_token, of_no_token}

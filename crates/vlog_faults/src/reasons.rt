@@ -7,7 +7,7 @@ ghost use Rattle.nl_base.specs.declared.fault.Reason.{Reason};
 ghost use Rattle.nl_base.specs.declared.fault.TextFault.{TextFault};
 ghost use Rattle.vlog_tokens.specs.declared.token.VFound.{VFound};
 ghost use Rattle.vlog_exprs.specs.Grammar.{expr, constant, attrs};
-ghost use Rattle.vlog_laws.specs.AnyLength.{VlogFails};
+ghost use Rattle.vlog_modules.specs.AnyLength.{VlogFails};
 ghost use Rattle.vlog_faults.specs.Fitting.{Fits, HasReason};
 
 /// A first fault of bytes of any length has a reason that fits.

@@ -2,8 +2,7 @@
 ghost use Rattle.std.specs.Prelude.{◌⊎◌, ℕ, List};
 ghost use Rattle.nl_base.specs.declared.fault.TextFault.{TextFault};
 ghost use Rattle.vlog_values.specs.declared.module.VlogFile.{VlogFile};
-ghost use Rattle.vlog_rereading.specs.Whole.{VlogSpells};
-ghost use Rattle.vlog_laws.specs.AnyLength.{VlogFails};
+ghost use Rattle.vlog_modules.specs.AnyLength.{VlogSpells, VlogFails};
 
 /// Bytes of any length spell a file or have a first fault.
 pub fn a_file_or_a_first_fault()

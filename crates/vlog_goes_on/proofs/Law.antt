@@ -32,8 +32,7 @@ use Rattle.vlog_modules.proofs.Live.{live_file}
 use Rattle.vlog_modules.proofs.Clear.{clear_file}
 use Rattle.vlog_lexing.specs.Lexing.{Shows, Lexes}
 use Rattle.vlog_lexing.proofs.Scanning.{lexes_space}
-use Rattle.vlog_rereading.specs.Whole.{VlogSpells}
-use Rattle.vlog_laws.specs.AnyLength.{VlogFails}
+use Rattle.vlog_modules.specs.AnyLength.{VlogSpells, VlogFails}
 use Rattle.vlog_limits.specs.Rises.{Rises}
 use Rattle.vlog_limits.proofs.Law.{reads}
 use Rattle.vlog_limits.proofs.Rising.{rises}

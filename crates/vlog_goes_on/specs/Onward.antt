@@ -10,7 +10,7 @@ use Rattle.vlog_tokens.specs.Language.{all_tokens}
 use Rattle.vlog_tokens.specs.Proper.{AreBytes}
 use Rattle.vlog_values.specs.declared.module.VlogFile.{VlogFile}
 use Rattle.vlog_modules.specs.Text.{VlogReads}
-use Rattle.vlog_rereading.specs.Whole.{VlogSpells}
+use Rattle.vlog_modules.specs.AnyLength.{VlogSpells}
 
 -- the same token at the same place; the byte behind it, which may show its end, may be another or
 -- none

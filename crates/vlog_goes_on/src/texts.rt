@@ -13,7 +13,7 @@ ghost use Rattle.vlog_tokens.specs.Proper.{AreBytes};
 ghost use Rattle.vlog_exprs.specs.Reasons.{trailing};
 ghost use Rattle.vlog_lexing.specs.Lexing.{Lexes};
 ghost use Rattle.vlog_modules.specs.Grammar.{file as file_part};
-ghost use Rattle.vlog_laws.specs.AnyLength.{VlogFails};
+ghost use Rattle.vlog_modules.specs.AnyLength.{VlogFails};
 ghost use Rattle.vlog_goes_on.specs.GoesOn.{IsOfBytes, CanStand, GoesOn};
 ghost use Rattle.vlog_goes_on.specs.Onward.{GoesOnToFile, GoesOnBefore};
 

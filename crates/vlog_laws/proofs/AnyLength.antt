@@ -13,8 +13,7 @@ use Rattle.vlog_values.specs.declared.module.VlogFile.{VlogFile}
 use Rattle.vlog_modules.specs.Grammar.{file}
 use Rattle.vlog_modules.proofs.Live.{live_file}
 use Rattle.vlog_modules.proofs.Clear.{clear_file}
-use Rattle.vlog_rereading.specs.Whole.{VlogSpells}
-use Rattle.vlog_laws.specs.AnyLength.{VlogFails}
+use Rattle.vlog_modules.specs.AnyLength.{VlogSpells, VlogFails}
 
 lives : IsLive tt (whole trailing file)
 lives = grammar.live_whole trailing tt file place_at_start live_file

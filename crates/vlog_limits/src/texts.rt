@@ -13,8 +13,7 @@ ghost use Rattle.vlog_exprs.specs.Reasons.{trailing};
 ghost use Rattle.vlog_values.specs.declared.module.VlogFile.{VlogFile};
 ghost use Rattle.vlog_modules.specs.Grammar.{file as file_part};
 ghost use Rattle.vlog_modules.specs.Text.{VlogReads, VlogFault, VlogCut};
-ghost use Rattle.vlog_rereading.specs.Whole.{VlogSpells};
-ghost use Rattle.vlog_laws.specs.AnyLength.{VlogFails};
+ghost use Rattle.vlog_modules.specs.AnyLength.{VlogSpells, VlogFails};
 
 /// Bytes read as a file exactly where they spell it and are within the limit of an input.
 pub fn files_within_the_limit()

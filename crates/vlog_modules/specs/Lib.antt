@@ -2,3 +2,4 @@ pub mod Grammar
 pub mod Productions
 pub mod Starts
 pub mod Text
+pub mod AnyLength

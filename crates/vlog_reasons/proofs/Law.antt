@@ -25,7 +25,7 @@ use Rattle.vlog_modules.specs.Grammar.{file}
 use Rattle.vlog_modules.specs.Text.{VlogFault}
 use Rattle.vlog_modules.proofs.Live.{live_file}
 use Rattle.vlog_modules.proofs.Clear.{clear_file}
-use Rattle.vlog_laws.specs.AnyLength.{VlogFails}
+use Rattle.vlog_modules.specs.AnyLength.{VlogFails}
 use Rattle.vlog_limits.specs.Rises.{Rises}
 use Rattle.vlog_limits.proofs.Ending.{none_behind}
 use Rattle.vlog_limits.proofs.Law.{faults}

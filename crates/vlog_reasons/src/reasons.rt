@@ -2,7 +2,7 @@
 ghost use Rattle.std.specs.Prelude.{◌↔◌, ℕ, List};
 ghost use Rattle.nl_base.specs.declared.fault.TextFault.{TextFault};
 ghost use Rattle.vlog_modules.specs.Text.{VlogFault};
-ghost use Rattle.vlog_laws.specs.AnyLength.{VlogFails};
+ghost use Rattle.vlog_modules.specs.AnyLength.{VlogFails};
 ghost use Rattle.vlog_reasons.specs.FirstFault.{FailsByTable, FailsEarlyByTable};
 
 /// Bytes of any length have a first fault exactly where they have it by the table of reasons.

@@ -19,7 +19,7 @@ use Rattle.vlog_lexing.specs.Lexing.{Shows}
 use Rattle.vlog_lexing.specs.Tokens.{line_tokens}
 use Rattle.vlog_lexing.proofs.Laying.{text_lexes}
 use Rattle.vlog_lexing.proofs.Limits.{tokens_whole}
-use Rattle.vlog_rereading.specs.Whole.{VlogSpells}
+use Rattle.vlog_modules.specs.AnyLength.{VlogSpells}
 use Rattle.vlog_rereading.proofs.Fronts.{Row, Parted, Front}
 use Rattle.vlog_rereading.proofs.Modules.{file_front}
 use Rattle.vlog_rereading.proofs.Writable.{file_laid}

@@ -6,7 +6,7 @@ ghost use Rattle.vlog_values.specs.declared.module.VlogFile.{VlogFile};
 ghost use Rattle.vlog_modules.specs.Text.{VlogReads};
 ghost use Rattle.vlog_tokens.specs.Proper.{AreBytes};
 ghost use Rattle.vlog_writer.specs.Forms.{vlog_text};
-ghost use Rattle.vlog_rereading.specs.Whole.{VlogSpells};
+ghost use Rattle.vlog_modules.specs.AnyLength.{VlogSpells};
 
 /// The written text of a file that can be written spells the file, whatever its length, and reads as the file within the limit of an input.
 pub fn reads_back()
