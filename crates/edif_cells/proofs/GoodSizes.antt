@@ -16,11 +16,11 @@ use Rattle.net_hier.specs.declared.nodes.Node.TheVariants as nodes
 use Rattle.edif_values.specs.declared.cell.Cell.{Cell}
 use Rattle.edif_design.specs.CellRules.{bit_of, has_good_sizes, is_bad_size, is_no_member, only_bit, size_of}
 use Rattle.edif_design.specs.Parts.{ports}
-use Rattle.edif_nets_rules.specs.Scopes.{ScopeLists, inner_ports, node_found, port_at}
-use Rattle.edif_nets_rules.specs.Spots.{node_at, node_of_bit}
-use Rattle.edif_nets_rules.specs.declared.bits.Spot.{Spot}
-use Rattle.edif_nets_rules.specs.declared.found.Found.{Found}
-use Rattle.edif_nets_rules.specs.declared.found.Found.TheVariants as founds
+use Rattle.edif_rules.specs.Scopes.{ScopeLists, inner_ports, node_found, port_at}
+use Rattle.edif_rules.specs.Spots.{node_at, node_of_bit}
+use Rattle.edif_rules.specs.declared.bits.BitSpot.{BitSpot}
+use Rattle.edif_rules.specs.declared.found.Target.{Target}
+use Rattle.edif_rules.specs.declared.found.Target.TheVariants as founds
 use Rattle.edif_cells.specs.Values.{HasGoodSizes, is_bad_port}
 
 or_left : (a b : Bool) → (a || b) ≡ false → a ≡ false
@@ -97,28 +97,28 @@ bit_small (Some size) (Some index) bit good e = by (is_no_member (Some size) ind
     by false is h = let same : nat_abs index ≡ bit = cc in omega (arith, same, member_small size index good is)
 
 module _ (lists : ScopeLists) (good : HasGoodSizes lists) where
-  good_port : (instance : Option ℕ) (port : ℕ) (face : Port) → port_at lists instance port ≡ Some face → is_bad_port face ≡ false
-  good_port None port face e = good_get is_bad_port lists.own port face e good.own_good
-  good_port (Some instance) port face e = by (inner_ports lists instance) refl e
+  good_port : (instance : Option ℕ) (port : ℕ) (meant : Port) → port_at lists instance port ≡ Some meant → is_bad_port meant ≡ false
+  good_port None port meant e = good_get is_bad_port lists.own port meant e good.own_good
+  good_port (Some instance) port meant e = by (inner_ports lists instance) refl e
     where
-      by : (inner : Option (List Port)) → inner_ports lists instance ≡ inner → option_and_then (λ ps. slice_get ps port) inner ≡ Some face → is_bad_port face ≡ false
+      by : (inner : Option (List Port)) → inner_ports lists instance ≡ inner → option_and_then (λ ps. slice_get ps port) inner ≡ Some meant → is_bad_port meant ≡ false
       by None is h = absurd cc
-      by (Some ps) is h = good_get is_bad_port ps port face h (good.inner_good instance ps is)
+      by (Some ps) is h = good_get is_bad_port ps port meant h (good.inner_good instance ps is)
 
   -- the position of a bit that is meant is below 65,536
-  pub spot_small : (found : Found) (member : Option ℤ) (spot : Spot) → Some (node_at spot) ≡ node_found lists found member → spot.bit < 65536
+  pub spot_small : (found : Target) (member : Option ℤ) (spot : BitSpot) → Some (node_at spot) ≡ node_found lists found member → spot.bit < 65536
   spot_small (founds.Port instance port) member spot e = by (port_at lists instance port) refl e
     where
-      at : (face : Port) → is_bad_port face ≡ false → (bit : Option ℕ) → bit_of (size_of face.name) member ≡ bit → Some (node_at spot) ≡ option_map (node_of_bit instance port) bit → spot.bit < 65536
-      at face fine None is h = absurd cc
-      at face fine (Some bit) is h =
+      at : (meant : Port) → is_bad_port meant ≡ false → (bit : Option ℕ) → bit_of (size_of meant.name) member ≡ bit → Some (node_at spot) ≡ option_map (node_of_bit instance port) bit → spot.bit < 65536
+      at meant fine None is h = absurd cc
+      at meant fine (Some bit) is h =
           let node : node_at spot ≡ node_of_bit instance port bit = cc in
           let same : spot.bit ≡ bit = sym (bit_in-node spot.instance spot.port spot.bit) ∙ (ap bit_in node ∙ bit_in-node instance port bit) in
-          omega (arith, same, bit_small (size_of face.name) member bit fine is)
+          omega (arith, same, bit_small (size_of meant.name) member bit fine is)
 
-      by : (face : Option Port) → port_at lists instance port ≡ face → Some (node_at spot) ≡ option_and_then (λ f. option_map (node_of_bit instance port) (bit_of (size_of f.name) member)) face → spot.bit < 65536
+      by : (meant : Option Port) → port_at lists instance port ≡ meant → Some (node_at spot) ≡ option_and_then (λ f. option_map (node_of_bit instance port) (bit_of (size_of f.name) member)) meant → spot.bit < 65536
       by None is h = absurd cc
-      by (Some face) is h = at face (good_port instance port face is) (bit_of (size_of face.name) member) refl h
+      by (Some meant) is h = at meant (good_port instance port meant is) (bit_of (size_of meant.name) member) refl h
   spot_small founds.NoInstance member spot e = absurd cc
   spot_small founds.SeveralInstances member spot e = absurd cc
   spot_small founds.NoCell member spot e = absurd cc

@@ -4,9 +4,9 @@ use Rattle.std.specs.Borrow.{Bor}
 use Rattle.std.specs.List.{flat_map}
 use Rattle.edif_lookup.proofs.ListLaws.{enumerate_more}
 use Rattle.edif_design.specs.Parts.{numbered}
-use Rattle.edif_nets_rules.specs.Lists.{seen}
-use Rattle.edif_nets_rules.proofs.TableTurns.{seen_at, seen_within}
-use Rattle.edif_nets_rules.proofs.Turns.{flat_grows, map_grows}
+use Rattle.edif_rules.specs.Lists.{seen}
+use Rattle.edif_rules.proofs.TableTurns.{seen_at, seen_within}
+use Rattle.edif_rules.proofs.Turns.{flat_grows, map_grows}
 use Rattle.std.proofs.lemmas.List.{take-map}
 
 module _ {A : Type 0} (items : List (Bor A)) (i : ℕ) (x : Bor A) (within : i < length items) (at : x ≡ get_or items i x) where

@@ -13,8 +13,8 @@ use crate::joins::joins_made;
 use crate::parts::{instances_made, nets_made, ports_made};
 use crate::properties::all_properties;
 use edif_design::FileTables;
-use edif_nets_rules::parts::{contents_of, instances_in, nets_in, ports_of};
-use edif_nets_rules::{InstanceTable, PortTable, Scope};
+use edif_rules::parts::{contents_of, instances_in, nets_in, ports_of};
+use edif_rules::{CellScope, InstanceTable, PortTable};
 use edif_values::{Cell, original};
 use net_hier::{HCell, HInst, HNet, HPort, Join};
 use nl_base::{NoMemory, Seq, Text};
@@ -60,11 +60,11 @@ fn cell_nets(alloc: Global, cell: &Cell) -> Result<Seq<HNet>, NoMemory>
 fn cell_joins(
     alloc: Global,
     tables: &FileTables<'_>,
-    faces: &[PortTable<'_>],
+    port_tables: &[PortTable<'_>],
     cell: &Cell,
     below: &[Option<u32>],
 ) -> Result<Seq<Join>, NoMemory>
-    requires faces { faces.now ≡ map ports (file_cells tables.now) }
+    requires port_tables { port_tables.now ≡ map ports (file_cells tables.now) }
     requires few { cell_size cell.now ≤ 268435456 }
     requires own { has_good_sizes cell.now ≡ true }
     requires inner { (place number : ℕ) (inner : Cell) → slice_get below.now place ≡ Some (Some number) → slice_get (file_cells tables.now) number ≡ Some inner → has_good_sizes inner ≡ true }
@@ -74,11 +74,11 @@ fn cell_joins(
     let nets = nets_in(alloc, items.as_slice())?;
     let own = PortTable::of(alloc, cell)?;
     let instances = InstanceTable::of(alloc, instances_in(alloc, items.as_slice())?)?;
-    let scope = Scope {
+    let scope = CellScope {
         own: &own,
         instances: &instances,
         below,
-        faces,
+        port_tables,
     };
     let made = joins_made(alloc, &scope, nets.as_slice())?;
     Ok(made)
@@ -89,20 +89,20 @@ fn cell_joins(
 pub fn cell_of(
     alloc: Global,
     tables: &FileTables<'_>,
-    faces: &[PortTable<'_>],
+    port_tables: &[PortTable<'_>],
     numbers: &[u32],
     cell: &Cell,
     below: &[Option<u32>],
 ) -> Result<HCell, NoMemory>
-    requires faces { faces.now ≡ map ports (file_cells tables.now) }
+    requires port_tables { port_tables.now ≡ map ports (file_cells tables.now) }
     requires few { cell_size cell.now ≤ 268435456 }
     requires own { has_good_sizes cell.now ≡ true }
     requires inner { (place number : ℕ) (inner : Cell) → slice_get below.now place ≡ Some (Some number) → slice_get (file_cells tables.now) number ≡ Some inner → has_good_sizes inner ≡ true }
     ensures { IfOk result (λ made. made ≡ cell_value numbers.now (linked_by (file_cells tables.now) cell.now below.now)) }
 {
-    let joins = cell_joins(alloc, tables, faces, cell, below)?;
+    let joins = cell_joins(alloc, tables, port_tables, cell, below)?;
     let ports = cell_ports(alloc, cell)?;
-    let instances = cell_instances(alloc, numbers, faces.len(), cell, below)?;
+    let instances = cell_instances(alloc, numbers, port_tables.len(), cell, below)?;
     let nets = cell_nets(alloc, cell)?;
     let props = all_properties(alloc, cell)?;
     let name = Text::copy(alloc, original(&cell.name))?;

@@ -2,20 +2,20 @@
 ghost use Rattle.std.specs.Prelude.{◌≡◌, ◌≤◌, ◌<◌, ◌^◌, ◌++◌, ℕ, IfOk, OnOk, length, map, option_to_list};
 ghost use Rattle.std.specs.List.{flat_map};
 ghost use Rattle.edif_design.specs.Parts.{numbered};
-ghost use Rattle.edif_nets_rules.specs.Breaks.{ref_node};
-ghost use Rattle.edif_nets_rules.specs.Lists.{seen};
-ghost use Rattle.edif_nets_rules.specs.Scopes.{found_of, lists_of};
-ghost use Rattle.edif_nets_rules.specs.Spots.{node_at};
+ghost use Rattle.edif_rules.specs.Breaks.{ref_node};
+ghost use Rattle.edif_rules.specs.Lists.{seen};
+ghost use Rattle.edif_rules.specs.Scopes.{found_of, lists_of};
+ghost use Rattle.edif_rules.specs.Spots.{node_at};
 ghost use Rattle.edif_cells.specs.Values.{HasGoodSizes, join_of, joins_of};
 
-use edif_nets_rules::{Scope, Spot, find_port, member_of, spot_of};
+use edif_rules::{BitSpot, CellScope, find_port, member_of, spot_of};
 use edif_values::{Net, PortRef};
 use net_hier::{Join, Node};
 use nl_base::{NoMemory, Seq};
 use std::alloc::Global;
 
 /// The node of a bit.
-fn node_at(spot: Spot) -> Node
+fn node_at(spot: BitSpot) -> Node
     requires { spot.bit < 2 ^ 32 }
     ensures { result ≡ node_at spot }
 {
@@ -34,7 +34,7 @@ fn node_at(spot: Spot) -> Node
 /// Adds the join of the net of this number and the bit that a reference means.
 fn add_join(
     alloc: Global,
-    scope: &Scope<'_, '_>,
+    scope: &CellScope<'_, '_>,
     joins: &mut Seq<Join>,
     net: u32,
     reference: &PortRef,
@@ -58,7 +58,7 @@ fn add_join(
 /// Adds the joins of the net of this number.
 fn add_joins(
     alloc: Global,
-    scope: &Scope<'_, '_>,
+    scope: &CellScope<'_, '_>,
     joins: &mut Seq<Join>,
     net: u32,
     joined: &[PortRef],
@@ -75,7 +75,7 @@ fn add_joins(
 /// The joins of the nets of a cell.
 pub fn joins_made(
     alloc: Global,
-    scope: &Scope<'_, '_>,
+    scope: &CellScope<'_, '_>,
     nets: &[&Net],
 ) -> Result<Seq<Join>, NoMemory>
     requires good { HasGoodSizes (lists_of scope.now) }

@@ -5,7 +5,7 @@ ghost use Rattle.std.specs.Option.{option_and_then};
 ghost use Rattle.edif_design.specs.Design.{net_value, number_in, port_value};
 ghost use Rattle.edif_design.specs.Parts.{numbered};
 ghost use Rattle.edif_cells.specs.Values.{instance_at, instance_of, is_bad_port, number_within};
-ghost use Rattle.edif_nets_rules.specs.Lists.{seen};
+ghost use Rattle.edif_rules.specs.Lists.{seen};
 
 use crate::properties::{instance_properties, net_properties, port_properties};
 use edif_values::{Instance, Net, Port, direction, original, port_original};

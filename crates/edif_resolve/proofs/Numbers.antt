@@ -92,9 +92,9 @@ graph_done file places are i h made is =
     ∙ (sym (map_twice (λ place. those_meant (numbers_meant file place)) place_of places) ∙ ap (map (λ place. those_meant (numbers_meant file place))) are))
 
 -- the ports that are listed place by place
-pub faces_done : (file : EdifFile) (places : List Place) → map place_of places ≡ all_cells file → (i : ℕ) → length places ≤ i → (made : List (List Port))
+pub port_tables_done : (file : EdifFile) (places : List Place) → map place_of places ≡ all_cells file → (i : ℕ) → length places ≤ i → (made : List (List Port))
     → made ≡ map (λ place. ports place.cell.now) (take i places) → made ≡ map ports (file_cells file)
-faces_done file places are i h made is =
+port_tables_done file places are i h made is =
     is ∙ (ap (map (λ place. ports place.cell.now)) (all_taken places i h)
     ∙ (sym (map_twice (λ place. ports place.cell) place_of places) ∙ (ap (map (λ place. ports place.cell)) are ∙ sym (map_twice ports (λ place. place.cell) (all_cells file)))))
 

@@ -64,10 +64,10 @@ copied_map None = refl
 copied_map (Some x) = refl
 
 -- the first refusal of the whole file
-pub file_refused : (file scene : EdifFile) → file ≡ scene → (found : List Design) → found ≡ designs file → (count parts now : Option Refusal) → count ≡ lowest (design_count_refusals found) → parts ≡ lowest (in_order (file_item_refusals scene) file.items)
+pub file_refused : (file tabled : EdifFile) → file ≡ tabled → (found : List Design) → found ≡ designs file → (count parts now : Option Refusal) → count ≡ lowest (design_count_refusals found) → parts ≡ lowest (in_order (file_item_refusals tabled) file.items)
     → now ≡ lower count parts → now ≡ lowest (refusals file)
 unfolding refusals
-file_refused file scene same found are count parts now is_count is_parts is_now =
+file_refused file tabled same found are count parts now is_count is_parts is_now =
     is_now ∙ lowest_both (design_count_refusals (designs file)) (in_order (file_item_refusals file) file.items) count parts (is_count ∙ ap (λ ds. lowest (design_count_refusals ds)) are)
     (is_parts ∙ ap (λ f. lowest (in_order (file_item_refusals f) file.items)) (sym same))
 

@@ -1,4 +1,4 @@
 pub mod Answers
 pub mod Most
-pub mod Scene
+pub mod TabledFile
 pub mod Walk

@@ -15,7 +15,7 @@ ghost use Rattle.edif_resolve.specs.Answers.{IsDesignOf, IsFaultFrom, IsFaultOf}
 use crate::cells::{design_cells, design_top, designs_properties};
 use crate::counts::counts_of;
 use crate::file::file_refusal;
-use crate::scene::Scene;
+use crate::tabled::TabledFile;
 use crate::top::designs_of;
 use edif_lookup::{one_name, refusal};
 use edif_values::{Design, EdifFile};
@@ -64,33 +64,38 @@ fn recursion_refusal(
 // E13 of a file. Its cells are made again: `Hier::build` takes those that it judges.
 fn file_recursion(
     alloc: Global,
-    scene: &Scene<'_>,
+    tabled: &TabledFile<'_>,
     numbers: &[u32],
     cell: u32,
     instance: u32,
 ) -> Result<Refusal, NoMemory>
-    requires clean { refusals scene.now ≡ [] }
-    requires small { edif_size scene.now ≤ count_limit }
-    requires numbers { numbers.now ≡ numbers_in_design scene.now }
-    requires first { IsFirstRecursion (cells_below (edif_cells scene.now)) cell instance }
-    ensures { IfOk result (λ made. slice_get (recursion_refusals (edif_cells scene.now)) 0 ≡ Some made) }
+    requires clean { refusals tabled.now ≡ [] }
+    requires small { edif_size tabled.now ≤ count_limit }
+    requires numbers { numbers.now ≡ numbers_in_design tabled.now }
+    requires first { IsFirstRecursion (cells_below (edif_cells tabled.now)) cell instance }
+    ensures { IfOk result (λ made. slice_get (recursion_refusals (edif_cells tabled.now)) 0 ≡ Some made) }
 {
-    let cells = design_cells(alloc, scene, numbers)?;
+    let cells = design_cells(alloc, tabled, numbers)?;
     let made = recursion_refusal(alloc, cells.items(), cell, instance)?;
     Ok(made)
 }
 
 // Why the cells of a file are no design.
-fn fault_of(alloc: Global, scene: &Scene<'_>, numbers: &[u32], fault: BuildFault) -> ResolveError
-    requires clean { refusals scene.now ≡ [] }
-    requires small { edif_size scene.now ≤ count_limit }
-    requires numbers { numbers.now ≡ numbers_in_design scene.now }
-    requires fault { IsBuildFault (edif_cells scene.now) fault }
-    ensures { IsFaultFrom (edif_cells scene.now) result }
+fn fault_of(
+    alloc: Global,
+    tabled: &TabledFile<'_>,
+    numbers: &[u32],
+    fault: BuildFault,
+) -> ResolveError
+    requires clean { refusals tabled.now ≡ [] }
+    requires small { edif_size tabled.now ≤ count_limit }
+    requires numbers { numbers.now ≡ numbers_in_design tabled.now }
+    requires fault { IsBuildFault (edif_cells tabled.now) fault }
+    ensures { IsFaultFrom (edif_cells tabled.now) result }
 {
     match fault {
         BuildFault::Recursion { cell, instance } => {
-            match file_recursion(alloc, scene, numbers, cell, instance) {
+            match file_recursion(alloc, tabled, numbers, cell, instance) {
                 Ok(refusal) => ResolveError::Refused(refusal),
                 Err(_) => ResolveError::NoMemory,
             }
@@ -103,22 +108,22 @@ fn fault_of(alloc: Global, scene: &Scene<'_>, numbers: &[u32], fault: BuildFault
 /// The design of a file that breaks none of the rules E1 to E12.
 pub(crate) fn design_of(
     alloc: Global,
-    scene: &Scene<'_>,
+    tabled: &TabledFile<'_>,
     found: &[&Design],
 ) -> Result<Hier, ResolveError>
-    requires clean { refusals scene.now ≡ [] }
-    requires small { edif_size scene.now ≤ count_limit }
-    requires designs { seen found.now ≡ designs scene.now }
-    ensures { MatchResult result (IsDesignOf scene.now) (IsFaultOf scene.now) }
+    requires clean { refusals tabled.now ≡ [] }
+    requires small { edif_size tabled.now ≤ count_limit }
+    requires designs { seen found.now ≡ designs tabled.now }
+    ensures { MatchResult result (IsDesignOf tabled.now) (IsFaultOf tabled.now) }
 {
-    let counts = counts_of(alloc, scene.marks())?;
+    let counts = counts_of(alloc, tabled.marks())?;
     let numbers = counts.as_slice();
-    let cells = design_cells(alloc, scene, numbers)?;
-    let top = design_top(scene, numbers);
+    let cells = design_cells(alloc, tabled, numbers)?;
+    let top = design_top(tabled, numbers);
     let props = designs_properties(alloc, found)?;
     match Hier::build(alloc, cells, top, props) {
         Ok(hier) => Ok(hier),
-        Err(fault) => Err(fault_of(alloc, scene, numbers, fault)),
+        Err(fault) => Err(fault_of(alloc, tabled, numbers, fault)),
     }
 }
 
@@ -132,9 +137,9 @@ pub fn resolve(alloc: Global, file: &EdifFile) -> Result<Hier, ResolveError>
     ensures { MatchResult result (IsDesignOf file.now) (IsFaultOf file.now) }
 {
     let found = designs_of(alloc, file)?;
-    let scene = Scene::of(alloc, file, found.as_slice())?;
-    match file_refusal(alloc, &scene, file, found.as_slice())? {
+    let tabled = TabledFile::of(alloc, file, found.as_slice())?;
+    match file_refusal(alloc, &tabled, file, found.as_slice())? {
         Some(refusal) => Err(ResolveError::Refused(refusal)),
-        None => design_of(alloc, &scene, found.as_slice()),
+        None => design_of(alloc, &tabled, found.as_slice()),
     }
 }

@@ -6,7 +6,7 @@ ghost use Rattle.edif_design.specs.References.{numbers_meant, place_in};
 
 use edif_design::links::linked_number;
 use edif_design::tables::FileTables;
-use edif_nets_rules::parts::{contents_of, instances_in};
+use edif_rules::parts::{contents_of, instances_in};
 use edif_values::{Cell, Instance};
 use nl_base::{NoMemory, Seq};
 use std::alloc::Global;

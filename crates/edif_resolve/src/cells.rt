@@ -10,7 +10,7 @@ ghost use Rattle.edif_design.specs.Tables.{place_of, seen};
 ghost use Rattle.std.specs.List.{flat_map};
 
 use crate::below::numbers_meant;
-use crate::scene::Scene;
+use crate::tabled::TabledFile;
 use edif_cells::{add_properties, cell_of};
 use edif_design::tables::Place;
 use edif_values::Design;
@@ -21,25 +21,25 @@ use std::alloc::Global;
 // Adds the cell at a place, where it is reached.
 fn add_cell(
     alloc: Global,
-    scene: &Scene<'_>,
+    tabled: &TabledFile<'_>,
     numbers: &[u32],
     cells: &mut Seq<HCell>,
     number: u32,
     place: &Place<'_>,
 ) -> Result<(), NoMemory>
-    requires clean { refusals scene.now ≡ [] }
-    requires small { edif_size scene.now ≤ count_limit }
-    requires stands { slice_get (all_cells scene.now) number ≡ Some (place_of place.now) }
-    ensures { OnOk result (cells.new ≡ cells.old ++ cond (is_reached scene.now number) (cell_value numbers.now (linked_cell scene.now (place_of place.now)) ∷ []) []) }
+    requires clean { refusals tabled.now ≡ [] }
+    requires small { edif_size tabled.now ≤ count_limit }
+    requires stands { slice_get (all_cells tabled.now) number ≡ Some (place_of place.now) }
+    ensures { OnOk result (cells.new ≡ cells.old ++ cond (is_reached tabled.now number) (cell_value numbers.now (linked_cell tabled.now (place_of place.now)) ∷ []) []) }
 {
-    if !scene.is_reached(number) {
+    if !tabled.is_reached(number) {
         return Ok(());
     }
-    let below = numbers_meant(alloc, scene.tables(), place.library, place.cell)?;
+    let below = numbers_meant(alloc, tabled.tables(), place.library, place.cell)?;
     let cell = cell_of(
         alloc,
-        scene.tables(),
-        scene.faces(),
+        tabled.tables(),
+        tabled.port_tables(),
         numbers,
         place.cell,
         below.as_slice(),
@@ -51,20 +51,20 @@ fn add_cell(
 /// The reached cells in file order.
 pub(crate) fn design_cells(
     alloc: Global,
-    scene: &Scene<'_>,
+    tabled: &TabledFile<'_>,
     numbers: &[u32],
 ) -> Result<Seq<HCell>, NoMemory>
-    requires clean { refusals scene.now ≡ [] }
-    requires small { edif_size scene.now ≤ count_limit }
-    requires numbers { numbers.now ≡ numbers_in_design scene.now }
-    ensures { IfOk result (λ cells. cells ≡ edif_cells scene.now) }
+    requires clean { refusals tabled.now ≡ [] }
+    requires small { edif_size tabled.now ≤ count_limit }
+    requires numbers { numbers.now ≡ numbers_in_design tabled.now }
+    ensures { IfOk result (λ cells. cells ≡ edif_cells tabled.now) }
 {
     let mut cells = Seq::empty(alloc);
-    let places = scene.tables().places();
+    let places = tabled.tables().places();
     for number in 0..places.len() as u32 {
         add_cell(
             alloc,
-            scene,
+            tabled,
             numbers,
             &mut cells,
             number,
@@ -75,10 +75,10 @@ pub(crate) fn design_cells(
 }
 
 /// The number of the top cell in the design.
-pub(crate) fn design_top(scene: &Scene<'_>, numbers: &[u32]) -> u32
-    ensures { result ≡ number_in numbers.now (number_meant (top scene.now)) }
+pub(crate) fn design_top(tabled: &TabledFile<'_>, numbers: &[u32]) -> u32
+    ensures { result ≡ number_in numbers.now (number_meant (top tabled.now)) }
 {
-    match scene.top() {
+    match tabled.top() {
         None => 0,
         Some(number) => match numbers.get(number as usize) {
             Some(renumbered) => *renumbered,

@@ -10,7 +10,7 @@ ghost use Rattle.edif_resolve.specs.Answers.{HasDesign, IsFaultOf};
 use crate::answer::{ResolveError, design_of};
 use crate::file::file_refusal;
 use crate::most::most_of_file;
-use crate::scene::Scene;
+use crate::tabled::TabledFile;
 use crate::top::designs_of;
 use edif_values::{Design, EdifFile};
 use net_graph::order::postorder;
@@ -19,34 +19,34 @@ use nl_base::NoMemory;
 use std::alloc::Global;
 
 // Whether it shows, with no cell made, that a file has a design which breaks none of the rules E1 to E12: `false` says nothing.
-fn shows_design(alloc: Global, scene: &Scene<'_>) -> Result<bool, NoMemory>
-    requires clean { refusals scene.now ≡ [] }
-    requires small { edif_size scene.now ≤ count_limit }
-    ensures { IfOk result (λ shows. shows ≡ true → HasDesign scene.now) }
+fn shows_design(alloc: Global, tabled: &TabledFile<'_>) -> Result<bool, NoMemory>
+    requires clean { refusals tabled.now ≡ [] }
+    requires small { edif_size tabled.now ≤ count_limit }
+    ensures { IfOk result (λ shows. shows ≡ true → HasDesign tabled.now) }
 {
-    let Some(top) = scene.top() else {
+    let Some(top) = tabled.top() else {
         return Ok(false);
     };
-    let most = most_of_file(alloc, scene)?;
+    let most = most_of_file(alloc, tabled)?;
     if most > UNIT_LIMIT {
         return Ok(false);
     }
-    let order = postorder(alloc, scene.graph(), top)?;
+    let order = postorder(alloc, tabled.graph(), top)?;
     Ok(order.is_some())
 }
 
 // Whether a file has a design that breaks none of the rules E1 to E12, or why it has none. Its cells are made only where it is
 // not shown without them.
-fn judged(alloc: Global, scene: &Scene<'_>, found: &[&Design]) -> Result<(), ResolveError>
-    requires clean { refusals scene.now ≡ [] }
-    requires small { edif_size scene.now ≤ count_limit }
-    requires designs { seen found.now ≡ designs scene.now }
-    ensures { MatchResult result (λ done. HasDesign scene.now) (IsFaultOf scene.now) }
+fn judged(alloc: Global, tabled: &TabledFile<'_>, found: &[&Design]) -> Result<(), ResolveError>
+    requires clean { refusals tabled.now ≡ [] }
+    requires small { edif_size tabled.now ≤ count_limit }
+    requires designs { seen found.now ≡ designs tabled.now }
+    ensures { MatchResult result (λ done. HasDesign tabled.now) (IsFaultOf tabled.now) }
 {
-    if shows_design(alloc, scene)? {
+    if shows_design(alloc, tabled)? {
         return Ok(());
     }
-    match design_of(alloc, scene, found) {
+    match design_of(alloc, tabled, found) {
         Ok(_design) => Ok(()),
         Err(error) => Err(error),
     }
@@ -62,9 +62,9 @@ pub fn check(alloc: Global, file: &EdifFile) -> Result<(), ResolveError>
     ensures { MatchResult result (λ done. HasDesign file.now) (IsFaultOf file.now) }
 {
     let found = designs_of(alloc, file)?;
-    let scene = Scene::of(alloc, file, found.as_slice())?;
-    match file_refusal(alloc, &scene, file, found.as_slice())? {
+    let tabled = TabledFile::of(alloc, file, found.as_slice())?;
+    match file_refusal(alloc, &tabled, file, found.as_slice())? {
         Some(refusal) => Err(ResolveError::Refused(refusal)),
-        None => judged(alloc, &scene, found.as_slice()),
+        None => judged(alloc, &tabled, found.as_slice()),
     }
 }

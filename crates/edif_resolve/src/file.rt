@@ -14,7 +14,7 @@ ghost use Rattle.edif_design.specs.Tables.{seen};
 ghost use Rattle.edif_resolve.specs.Walk.{HasPassed, lacks_view};
 
 use crate::library::{cells_of, library_refusal, second_refusal};
-use crate::scene::Scene;
+use crate::tabled::TabledFile;
 use crate::top::design_count_refusal;
 use edif_design::links::Linked;
 use edif_lookup::{Names, lower, one_name, refusal};
@@ -86,12 +86,12 @@ fn no_view_refusal(
 // What a design breaks.
 fn design_refusal(
     alloc: Global,
-    scene: &Scene<'_>,
+    tabled: &TabledFile<'_>,
     design: &Design,
 ) -> Result<Option<Refusal>, NoMemory>
-    ensures { IfOk result (λ found. found ≡ lowest (design_refusals scene.now design.now)) }
+    ensures { IfOk result (λ found. found ≡ lowest (design_refusals tabled.now design.now)) }
 {
-    let tables = scene.tables();
+    let tables = tabled.tables();
     let linked = tables.link(
         alloc,
         0,
@@ -112,13 +112,13 @@ fn design_refusal(
 // The walk, after a library.
 fn pass_library<'a>(
     alloc: Global,
-    scene: &Scene<'a>,
+    tabled: &TabledFile<'a>,
     walk: Walk<'a>,
     library: &'a Library,
 ) -> Result<Walk<'a>, NoMemory>
     requires few { (walk.libraries < count_limit) × (walk.cells ≤ count_limit) }
     requires small { library_size library.now ≤ count_limit }
-    ensures { IfOk result (λ passed. (before : List FileItem) → HasPassed scene.now before walk.entry → HasPassed scene.now (before ++ file_items.Library library.now ∷ []) passed) }
+    ensures { IfOk result (λ passed. (before : List FileItem) → HasPassed tabled.now before walk.entry → HasPassed tabled.now (before ++ file_items.Library library.now ∷ []) passed) }
 {
     let Walk {
         best,
@@ -130,7 +130,7 @@ fn pass_library<'a>(
     let ident = library.name.ident.bytes();
     let taken = names.note(ident)?;
     let second = second_refusal(alloc, taken, b"library", ident)?;
-    let parts = library_refusal(alloc, scene, libraries, cells, own.as_slice())?;
+    let parts = library_refusal(alloc, tabled, libraries, cells, own.as_slice())?;
     Ok(Walk {
         best: lower(best, lower(second, parts)),
         names,
@@ -142,11 +142,11 @@ fn pass_library<'a>(
 // The walk, after a design.
 fn pass_design<'a>(
     alloc: Global,
-    scene: &Scene<'a>,
+    tabled: &TabledFile<'a>,
     walk: Walk<'a>,
     design: &Design,
 ) -> Result<Walk<'a>, NoMemory>
-    ensures { IfOk result (λ passed. (before : List FileItem) → HasPassed scene.now before walk.entry → HasPassed scene.now (before ++ file_items.Design design.now ∷ []) passed) }
+    ensures { IfOk result (λ passed. (before : List FileItem) → HasPassed tabled.now before walk.entry → HasPassed tabled.now (before ++ file_items.Design design.now ∷ []) passed) }
 {
     let Walk {
         best,
@@ -154,7 +154,7 @@ fn pass_design<'a>(
         libraries,
         cells,
     } = walk;
-    let next = design_refusal(alloc, scene, design)?;
+    let next = design_refusal(alloc, tabled, design)?;
     Ok(Walk {
         best: lower(best, next),
         names,
@@ -166,21 +166,21 @@ fn pass_design<'a>(
 // The walk, after a part of the file.
 fn pass<'a>(
     alloc: Global,
-    scene: &Scene<'a>,
+    tabled: &TabledFile<'a>,
     walk: Walk<'a>,
     item: &'a FileItem,
 ) -> Result<Walk<'a>, NoMemory>
     requires few { (walk.libraries < count_limit) × (walk.cells ≤ count_limit) }
     requires small { file_item_size item.now ≤ count_limit }
-    ensures { IfOk result (λ passed. (before : List FileItem) → HasPassed scene.now before walk.entry → HasPassed scene.now (before ++ item.now ∷ []) passed) }
+    ensures { IfOk result (λ passed. (before : List FileItem) → HasPassed tabled.now before walk.entry → HasPassed tabled.now (before ++ item.now ∷ []) passed) }
 {
     match item {
         FileItem::Library(library) => {
-            let passed = pass_library(alloc, scene, walk, library)?;
+            let passed = pass_library(alloc, tabled, walk, library)?;
             Ok(passed)
         }
         FileItem::Design(design) => {
-            let passed = pass_design(alloc, scene, walk, design)?;
+            let passed = pass_design(alloc, tabled, walk, design)?;
             Ok(passed)
         }
         FileItem::Status(_) => Ok(walk),
@@ -191,11 +191,11 @@ fn pass<'a>(
 // The first refusal of the parts of a file.
 fn parts_refusal<'a>(
     alloc: Global,
-    scene: &Scene<'a>,
+    tabled: &TabledFile<'a>,
     items: &'a [FileItem],
 ) -> Result<Option<Refusal>, NoMemory>
     requires { list_size file_item_size items.now ≤ count_limit }
-    ensures { IfOk result (λ found. found ≡ lowest (in_order (file_item_refusals scene.now) items.now)) }
+    ensures { IfOk result (λ found. found ≡ lowest (in_order (file_item_refusals tabled.now) items.now)) }
 {
     let mut walk = Walk {
         best: None,
@@ -204,7 +204,7 @@ fn parts_refusal<'a>(
         cells: 0,
     };
     for item in items {
-        walk = pass(alloc, scene, walk, item)?;
+        walk = pass(alloc, tabled, walk, item)?;
     }
     let Walk { best, .. } = walk;
     Ok(best)
@@ -213,16 +213,16 @@ fn parts_refusal<'a>(
 /// The first refusal of a file by the rules E1 to E12.
 pub(crate) fn file_refusal<'a>(
     alloc: Global,
-    scene: &Scene<'a>,
+    tabled: &TabledFile<'a>,
     file: &'a EdifFile,
     found: &[&Design],
 ) -> Result<Option<Refusal>, NoMemory>
-    requires same { file.now ≡ scene.now }
+    requires same { file.now ≡ tabled.now }
     requires small { edif_size file.now ≤ count_limit }
     requires designs { seen found.now ≡ designs file.now }
     ensures { IfOk result (λ refusal. refusal ≡ lowest (refusals file.now)) }
 {
     let count = design_count_refusal(alloc, found)?;
-    let parts = parts_refusal(alloc, scene, file.items.items())?;
+    let parts = parts_refusal(alloc, tabled, file.items.items())?;
     Ok(lower(count, parts))
 }

@@ -18,7 +18,7 @@ mod counts;
 mod file;
 mod library;
 mod most;
-mod scene;
+mod tabled;
 mod top;
 
 pub use answer::{ResolveError, resolve};

@@ -10,9 +10,9 @@ ghost use Rattle.edif_design.specs.References.{place_in};
 ghost use Rattle.edif_design.specs.Tables.{seen};
 
 use crate::below::numbers_meant;
-use crate::scene::Scene;
+use crate::tabled::TabledFile;
 use edif_lookup::{Names, lower, refusal, two_names};
-use edif_nets_rules::cell_refusal;
+use edif_rules::cell_refusal;
 use edif_values::{Cell, Library, LibraryItem};
 use nl_base::{NoMemory, Refusal, Rule};
 use std::alloc::Global;
@@ -62,22 +62,22 @@ pub(crate) fn second_refusal(
 // What the parts of the cell of this number break, where it is reached.
 fn reached_refusal(
     alloc: Global,
-    scene: &Scene<'_>,
+    tabled: &TabledFile<'_>,
     library: u32,
     number: u32,
     cell: &Cell,
 ) -> Result<Option<Refusal>, NoMemory>
     requires { cell_size cell.now ≤ count_limit }
-    ensures { IfOk result (λ found. found ≡ lowest (reached_refusals scene.now number (place_in library cell.now))) }
+    ensures { IfOk result (λ found. found ≡ lowest (reached_refusals tabled.now number (place_in library cell.now))) }
 {
-    if !scene.is_reached(number) {
+    if !tabled.is_reached(number) {
         return Ok(None);
     }
-    let below = numbers_meant(alloc, scene.tables(), library, cell)?;
+    let below = numbers_meant(alloc, tabled.tables(), library, cell)?;
     let found = cell_refusal(
         alloc,
-        scene.tables(),
-        scene.faces(),
+        tabled.tables(),
+        tabled.port_tables(),
         library,
         cell,
         below.as_slice(),
@@ -88,38 +88,38 @@ fn reached_refusal(
 // What a cell breaks of which it is known whether an earlier one has its identifier.
 fn one_refusal(
     alloc: Global,
-    scene: &Scene<'_>,
+    tabled: &TabledFile<'_>,
     library: u32,
     number: u32,
     cell: &Cell,
     taken: bool,
 ) -> Result<Option<Refusal>, NoMemory>
     requires { cell_size cell.now ≤ count_limit }
-    ensures { IfOk result (λ found. found ≡ lowest (broken taken E5 [] (codes "cell" ∷ (cell.now.name.ident ∷ [])) ++ reached_refusals scene.now number (place_in library cell.now))) }
+    ensures { IfOk result (λ found. found ≡ lowest (broken taken E5 [] (codes "cell" ∷ (cell.now.name.ident ∷ [])) ++ reached_refusals tabled.now number (place_in library cell.now))) }
 {
     let second = second_refusal(alloc, taken, b"cell", cell.name.ident.bytes())?;
-    let parts = reached_refusal(alloc, scene, library, number, cell)?;
+    let parts = reached_refusal(alloc, tabled, library, number, cell)?;
     Ok(lower(second, parts))
 }
 
 /// What the cells of a library break, where the library has this number and its first cell that one.
 pub(crate) fn library_refusal<'a>(
     alloc: Global,
-    scene: &Scene<'a>,
+    tabled: &TabledFile<'a>,
     library: u32,
     first: u32,
     cells: &[&'a Cell],
 ) -> Result<Option<Refusal>, NoMemory>
     requires few { first + length cells.now ≤ count_limit + count_limit }
     requires small { All (λ cell. cell_size cell.now ≤ count_limit) cells.now }
-    ensures { IfOk result (λ found. found ≡ lowest (in_order (library_cell_refusals scene.now library first) (seen cells.now))) }
+    ensures { IfOk result (λ found. found ≡ lowest (in_order (library_cell_refusals tabled.now library first) (seen cells.now))) }
 {
     let mut best = None;
     let mut names = Names::new(alloc);
     for place in 0..cells.len() as u32 {
         let cell = cells[place as usize];
         let taken = names.note(cell.name.ident.bytes())?;
-        let next = one_refusal(alloc, scene, library, first + place, cell, taken)?;
+        let next = one_refusal(alloc, tabled, library, first + place, cell, taken)?;
         best = lower(best, next);
     }
     Ok(best)

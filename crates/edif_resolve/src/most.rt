@@ -9,12 +9,12 @@ ghost use Rattle.edif_design.specs.FileRules.{refusals};
 ghost use Rattle.edif_design.specs.Reach.{is_reached};
 ghost use Rattle.edif_design.specs.References.{all_cells};
 ghost use Rattle.edif_design.specs.Tables.{place_of};
-ghost use Rattle.edif_nets_rules.specs.Lists.{seen};
+ghost use Rattle.edif_rules.specs.Lists.{seen};
 ghost use Rattle.edif_resolve.specs.Most.{most_of_file, most_units, net_units, port_width};
 
-use crate::scene::Scene;
+use crate::tabled::TabledFile;
 use edif_design::tables::Place;
-use edif_nets_rules::parts::{contents_of, nets_in, ports_of};
+use edif_rules::parts::{contents_of, nets_in, ports_of};
 use edif_values::{Cell, Net, Port, port_original};
 use nl_base::NoMemory;
 use std::alloc::Global;
@@ -70,15 +70,15 @@ fn most_units(alloc: Global, cell: &Cell) -> Result<u64, NoMemory>
 // The most units that the cell at a place may have, where it is reached, or 2^64-1 where there are more.
 fn most_at(
     alloc: Global,
-    scene: &Scene<'_>,
+    tabled: &TabledFile<'_>,
     number: u32,
     place: &Place<'_>,
 ) -> Result<u64, NoMemory>
-    requires clean { refusals scene.now ≡ [] }
-    requires stands { slice_get (all_cells scene.now) number ≡ Some (place_of place.now) }
-    ensures { IfOk result (λ most. most ≡ cond (is_reached scene.now number) (min (2 ^ 64 - 1) (most_units place.now.cell.now)) 0) }
+    requires clean { refusals tabled.now ≡ [] }
+    requires stands { slice_get (all_cells tabled.now) number ≡ Some (place_of place.now) }
+    ensures { IfOk result (λ most. most ≡ cond (is_reached tabled.now number) (min (2 ^ 64 - 1) (most_units place.now.cell.now)) 0) }
 {
-    if !scene.is_reached(number) {
+    if !tabled.is_reached(number) {
         return Ok(0);
     }
     let most = most_units(alloc, place.cell)?;
@@ -86,15 +86,15 @@ fn most_at(
 }
 
 /// The most units that the design of a file may have, which breaks none of the rules E1 to E12, or 2^64-1 where there are more.
-pub(crate) fn most_of_file(alloc: Global, scene: &Scene<'_>) -> Result<u64, NoMemory>
-    requires clean { refusals scene.now ≡ [] }
-    requires small { edif_size scene.now ≤ count_limit }
-    ensures { IfOk result (λ most. most ≡ min (2 ^ 64 - 1) (most_of_file scene.now)) }
+pub(crate) fn most_of_file(alloc: Global, tabled: &TabledFile<'_>) -> Result<u64, NoMemory>
+    requires clean { refusals tabled.now ≡ [] }
+    requires small { edif_size tabled.now ≤ count_limit }
+    ensures { IfOk result (λ most. most ≡ min (2 ^ 64 - 1) (most_of_file tabled.now)) }
 {
     let mut most: u64 = 0;
-    let places = scene.tables().places();
+    let places = tabled.tables().places();
     for number in 0..places.len() as u32 {
-        let more = most_at(alloc, scene, number, &places[number as usize])?;
+        let more = most_at(alloc, tabled, number, &places[number as usize])?;
         most = most.saturating_add(more);
     }
     Ok(most)

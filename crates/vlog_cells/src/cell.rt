@@ -16,15 +16,15 @@ use net_hier::{HCell, HInst, Join};
 use nl_base::{NoMemory, Seq, Text};
 use std::alloc::Global;
 use vlog_design::names::Names;
-use vlog_rules::passes::Scope;
+use vlog_rules::passes::ModuleScope;
 use vlog_ties::joins::joins_of;
 
 /// The instances of a cell.
 fn cell_instances(
     alloc: Global,
     names: &Names,
-    scopes: &[Scope],
-    scope: &Scope,
+    scopes: &[ModuleScope],
+    scope: &ModuleScope,
 ) -> Result<Seq<HInst>, NoMemory>
     requires named { names.now ≡ map (λ m. m.name) (modules_in scopes.now) }
     requires few { length (modules_in scopes.now) < 2 ^ 32 }
@@ -38,8 +38,8 @@ fn cell_instances(
 fn cell_joins(
     alloc: Global,
     names: &Names,
-    scopes: &[Scope],
-    scope: &Scope,
+    scopes: &[ModuleScope],
+    scope: &ModuleScope,
 ) -> Result<Seq<Join>, NoMemory>
     requires named { names.now ≡ map (λ m. m.name) (modules_in scopes.now) }
     requires small { module_size scope.now.module.now ≤ 268435456 }
@@ -56,8 +56,8 @@ fn cell_joins(
 pub fn cell_of(
     alloc: Global,
     names: &Names,
-    scopes: &[Scope],
-    scope: &Scope,
+    scopes: &[ModuleScope],
+    scope: &ModuleScope,
 ) -> Result<HCell, NoMemory>
     requires named { names.now ≡ map (λ m. m.name) (modules_in scopes.now) }
     requires few { length (modules_in scopes.now) < 2 ^ 32 }

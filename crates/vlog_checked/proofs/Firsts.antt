@@ -4,7 +4,7 @@ use Rattle.std.specs.Prelude.{IfOk}
 use Rattle.nl_base.specs.declared.rule.Refusal.{Refusal}
 use Rattle.vlog_design.specs.Rules.{first_of}
 use Rattle.vlog_rules.proofs.RuleLaws.{first_behind, first_there}
-use Rattle.vlog_rules.specs.declared.passes.Scope.{Scope}
+use Rattle.vlog_rules.specs.declared.passes.ModuleScope.{ModuleScope}
 use Rattle.vlog_ties.specs.Ties.{modules_in}
 use Rattle.vlog_values.specs.declared.module.Module.{Module}
 
@@ -55,6 +55,6 @@ module _ {A : Type 0} (a b : List A) (one : Option A) (e : one ≡ first_of a) w
           four_last none result is = ok_behind (a ++ b ++ c) d (sym none ∙ to_three) result is
 
 -- a rule on modules, over scopes
-pub in_scopes : (f : Module → List Refusal) (scopes : List Scope) → flat_map (λ scope. f scope.module.now) scopes ≡ flat_map f (modules_in scopes)
+pub in_scopes : (f : Module → List Refusal) (scopes : List ModuleScope) → flat_map (λ scope. f scope.module.now) scopes ≡ flat_map f (modules_in scopes)
 in_scopes f [] = refl
 in_scopes f (scope ∷ scopes) = ap (λ rest. f scope.module.now ++ rest) (in_scopes f scopes)

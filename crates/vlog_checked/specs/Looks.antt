@@ -5,12 +5,12 @@ use Rattle.vlog_design.specs.Reach.{module_number, reached}
 use Rattle.vlog_design.specs.Rules.{first_G, refusals}
 use Rattle.vlog_ties.specs.Ties.{modules_in, most_joins}
 use Rattle.vlog_values.specs.declared.module.VlogFile.{VlogFile}
-use Rattle.vlog_checked.specs.declared.looked.Checked.{Checked}
-use Rattle.vlog_checked.specs.declared.looked.Looked.{Looked}
-use Rattle.vlog_checked.specs.declared.looked.Looked.TheVariants.{Refused, Clean}
+use Rattle.vlog_checked.specs.declared.check.CleanModules.{CleanModules}
+use Rattle.vlog_checked.specs.declared.check.Checked.{Checked}
+use Rattle.vlog_checked.specs.declared.check.Checked.TheVariants.{Refused, Clean}
 
 -- no rule is broken, and these are the reached modules, their names, the number of the top among them, and the bits of their left sides
-pub record IsChecked (file : VlogFile) (top : Name) (checked : Checked) : Type 0 where
+pub record AreCleanModules (file : VlogFile) (top : Name) (checked : CleanModules) : Type 0 where
   pub no_refusals : refusals file top ≡ []
   pub modules_are : modules_in checked.scopes.items ≡ reached file top
   pub names_are : checked.names ≡ map (λ m. m.name) (reached file top)
@@ -18,6 +18,6 @@ pub record IsChecked (file : VlogFile) (top : Name) (checked : Checked) : Type 0
   pub most_is : checked.most ≡ min (2 ^ 64 - 1) (sum_by (most_joins (reached file top)) (reached file top))
 
 -- the first object of the least rule that is broken, or the reached modules with their tables where none is
-abbrev pub IsLooked : VlogFile → Name → Looked → Type 0
-IsLooked file top (Refused refusal) = first_G file top ≡ Some refusal
-IsLooked file top (Clean checked) = IsChecked file top checked
+abbrev pub IsChecked : VlogFile → Name → Checked → Type 0
+IsChecked file top (Refused refusal) = first_G file top ≡ Some refusal
+IsChecked file top (Clean checked) = AreCleanModules file top checked

@@ -14,10 +14,10 @@ use nl_base::{NoMemory, Refusal};
 use std::alloc::Global;
 use vlog_design::names::Names;
 use vlog_rules::connections::{ExtraConnections, PortsTwice, UnknownPorts};
-use vlog_rules::library::Library;
+use vlog_rules::library::ModulePorts;
 use vlog_rules::module_rules::{BadSelects, TooWide, UnknownInstances, UnknownNames};
 use vlog_rules::modules::ParamsTwice;
-use vlog_rules::passes::{EachStatement, Scope, first_in_modules, first_in_scopes};
+use vlog_rules::passes::{EachStatement, ModuleScope, first_in_modules, first_in_scopes};
 use vlog_rules::statements::EachInstance;
 use vlog_rules::wrong_uses::have_wrong_use;
 use vlog_scopes::recursion::first_recursion;
@@ -29,7 +29,7 @@ use vlog_values::Module;
 pub(crate) fn scopes_of<'a>(
     alloc: Global,
     modules: &[&'a Module],
-) -> Result<Vec<Scope<'a>>, NoMemory>
+) -> Result<Vec<ModuleScope<'a>>, NoMemory>
     requires once { AreDeclaredOnce (modules_of modules.now) }
     requires small { AllByRecursion (λ m. module_size m ≤ 268435456) (modules_of modules.now) }
     ensures { IfOk result (λ scopes. modules_in scopes.items ≡ modules_of modules.now) }
@@ -43,7 +43,7 @@ pub(crate) fn scopes_of<'a>(
 
 /// The first name in an expression that is no port and no net, or else the first select that means no bits. Where there is none, each
 /// name is looked up once.
-fn first_in_uses(alloc: Global, scopes: &[Scope]) -> Result<Option<Refusal>, NoMemory>
+fn first_in_uses(alloc: Global, scopes: &[ModuleScope]) -> Result<Option<Refusal>, NoMemory>
     ensures { IfOk result (λ found. found ≡ first_of (in_modules G6 unknown_names (modules_in scopes.now) ++ in_modules G7 bad_selects (modules_in scopes.now))) }
 {
     let wrong = have_wrong_use(alloc, scopes)?;
@@ -59,7 +59,7 @@ fn first_in_uses(alloc: Global, scopes: &[Scope]) -> Result<Option<Refusal>, NoM
 /// The first name, select or width that breaks a rule, by the first of the two sides of two widths.
 fn first_in_names(
     alloc: Global,
-    scopes: &[Scope],
+    scopes: &[ModuleScope],
     unequal: Option<Refusal>,
 ) -> Result<Option<Refusal>, NoMemory>
     requires { unequal ≡ first_of (in_modules G8 (unequal_widths (modules_in scopes.now)) (modules_in scopes.now)) }
@@ -72,7 +72,7 @@ fn first_in_names(
 }
 
 /// The first connection that breaks a rule.
-fn first_in_connections(alloc: Global, library: &Library) -> Result<Option<Refusal>, NoMemory>
+fn first_in_connections(alloc: Global, library: &ModulePorts) -> Result<Option<Refusal>, NoMemory>
     ensures { IfOk result (λ found. found ≡ first_of (connection_refusals (modules_of library.now.modules.items))) }
 {
     let unknown = EachStatement {
@@ -101,7 +101,7 @@ fn first_in_connections(alloc: Global, library: &Library) -> Result<Option<Refus
 fn first_in_widths(
     alloc: Global,
     modules: &[&Module],
-    scopes: &[Scope],
+    scopes: &[ModuleScope],
     loose: Option<Refusal>,
 ) -> Result<Option<Refusal>, NoMemory>
     requires same { modules_of modules.now ≡ modules_in scopes.now }
@@ -142,8 +142,8 @@ fn first_in_instances(
 /// The first object of modules that breaks a rule on what their names stand for, by the first of the two sides that break one.
 pub(crate) fn first_in_tables(
     alloc: Global,
-    library: &Library,
-    scopes: &[Scope],
+    library: &ModulePorts,
+    scopes: &[ModuleScope],
     top: u32,
     unequal: Option<Refusal>,
     loose: Option<Refusal>,

@@ -15,7 +15,7 @@ use Rattle.vlog_design.specs.Names.{Name, Signal, signals}
 use Rattle.vlog_design.specs.Numbers.{HasNumbers}
 use Rattle.vlog_design.specs.Reach.{module_number, reached}
 use Rattle.vlog_design.specs.Rules.{first_G, first_of, refusals}
-use Rattle.vlog_rules.specs.declared.passes.Scope.{Scope}
+use Rattle.vlog_rules.specs.declared.passes.ModuleScope.{ModuleScope}
 use Rattle.vlog_ties.specs.Ties.{modules_in}
 use Rattle.vlog_values.specs.Sizes.{vlog_size}
 use Rattle.vlog_values.specs.Values.{IsVlogValue}
@@ -55,12 +55,12 @@ bits_more table i limit bits more lt are is = by table lt are is
         let f : sum_by signal_width (take (i + 1) (d ∷ rest)) ≡ sum_by signal_width (take i (d ∷ rest)) + signal_width (get_or (d ∷ rest) i d) = sum_by_more signal_width (d ∷ rest) i d lt in
         grind arith
 
-pub scopes_more : (scopes : List Scope) (i : ℕ) (x : Scope) → i < length scopes → x ≡ get_or scopes i x → modules_in (take (i + 1) scopes) ≡ modules_in (take i scopes) ++ x.module.now ∷ []
+pub scopes_more : (scopes : List ModuleScope) (i : ℕ) (x : ModuleScope) → i < length scopes → x ≡ get_or scopes i x → modules_in (take (i + 1) scopes) ≡ modules_in (take i scopes) ++ x.module.now ∷ []
 scopes_more scopes i x lt is =
-    ap modules_in (take_more scopes i x lt ∙ ap (λ s. take i scopes ++ s ∷ []) (sym is)) ∙ map-append (λ (scope : Scope). scope.module.now) (take i scopes) (x ∷ [])
+    ap modules_in (take_more scopes i x lt ∙ ap (λ s. take i scopes ++ s ∷ []) (sym is)) ∙ map-append (λ (scope : ModuleScope). scope.module.now) (take i scopes) (x ∷ [])
 
 -- the units of one more module
-pub units_more : (scopes : List Scope) (i : ℕ) (x : Scope) (limit count more : ℕ) → i < length scopes → x ≡ get_or scopes i x → count ≡ min limit (sum_by (module_units (modules_in scopes)) (modules_in (take i scopes)))
+pub units_more : (scopes : List ModuleScope) (i : ℕ) (x : ModuleScope) (limit count more : ℕ) → i < length scopes → x ≡ get_or scopes i x → count ≡ min limit (sum_by (module_units (modules_in scopes)) (modules_in (take i scopes)))
     → more ≡ min limit (module_units (modules_in scopes) x.module.now) → min (count + more) limit ≡ min limit (sum_by (module_units (modules_in scopes)) (modules_in (take (i + 1) scopes)))
 units_more scopes i x limit count more lt is are is_more =
     let e : sum_by (module_units (modules_in scopes)) (modules_in (take (i + 1) scopes)) ≡ sum_by (module_units (modules_in scopes)) (modules_in (take i scopes)) + module_units (modules_in scopes) x.module.now =
@@ -82,31 +82,31 @@ pub module_done : (ms : List Module) (m : Module) (table : List Signal) (limit b
 module_done ms m table limit bits joins whole are joined = let e : sum_by signal_width table ≡ sum_by signal_width (signals m) = ap (sum_by signal_width) whole in grind arith
 
 -- the units of all modules are those of their cells
-pub units_done : (scopes : List Scope) (i count : ℕ) → length scopes ≤ i → count ≡ min (2 ^ 64 - 1) (sum_by (module_units (modules_in scopes)) (modules_in (take i scopes))) → count ≡ units (cells_from (modules_in scopes))
+pub units_done : (scopes : List ModuleScope) (i count : ℕ) → length scopes ≤ i → count ≡ min (2 ^ 64 - 1) (sum_by (module_units (modules_in scopes)) (modules_in (take i scopes))) → count ≡ units (cells_from (modules_in scopes))
 units_done scopes i count le is =
     is ∙ (ap (λ those. min (2 ^ 64 - 1) (sum_by (module_units (modules_in scopes)) (modules_in those))) (all_taken scopes i le) ∙ sym (units_are (modules_in scopes)))
 
 -- ---- cells
 
 -- the cell of one more module
-pub cells_more : (scopes : List Scope) (i : ℕ) (x : Scope) (old new : List HCell) (cell : HCell) → i < length scopes → x ≡ get_or scopes i x → old ≡ map (module_cell (modules_in scopes)) (modules_in (take i scopes))
+pub cells_more : (scopes : List ModuleScope) (i : ℕ) (x : ModuleScope) (old new : List HCell) (cell : HCell) → i < length scopes → x ≡ get_or scopes i x → old ≡ map (module_cell (modules_in scopes)) (modules_in (take i scopes))
     → cell ≡ module_cell (modules_in scopes) x.module.now → new ≡ old ++ cell ∷ [] → new ≡ map (module_cell (modules_in scopes)) (modules_in (take (i + 1) scopes))
 cells_more scopes i x old new cell lt is are made is_new =
     is_new ∙ ((λ j. are j ++ made j ∷ [])
     ∙ (sym (map-append (module_cell (modules_in scopes)) (modules_in (take i scopes)) (x.module.now ∷ [])) ∙ ap (map (module_cell (modules_in scopes))) (sym (scopes_more scopes i x lt is))))
 
-pub cells_done : (scopes : List Scope) (i : ℕ) (cells : List HCell) → length scopes ≤ i → cells ≡ map (module_cell (modules_in scopes)) (modules_in (take i scopes)) → cells ≡ cells_from (modules_in scopes)
+pub cells_done : (scopes : List ModuleScope) (i : ℕ) (cells : List HCell) → length scopes ≤ i → cells ≡ map (module_cell (modules_in scopes)) (modules_in (take i scopes)) → cells ≡ cells_from (modules_in scopes)
 cells_done scopes i cells le is = is ∙ ap (λ those. map (module_cell (modules_in scopes)) (modules_in those)) (all_taken scopes i le)
 
 -- the module of a scope stands under its number
-pub scope_there : (scopes : List Scope) (i : ℕ) (x : Scope) → i < length scopes → x ≡ get_or scopes i x → slice_get (modules_in scopes) i ≡ Some x.module.now
+pub scope_there : (scopes : List ModuleScope) (i : ℕ) (x : ModuleScope) → i < length scopes → x ≡ get_or scopes i x → slice_get (modules_in scopes) i ≡ Some x.module.now
 scope_there scopes i x lt is =
-    slice_get-map (λ (scope : Scope). scope.module.now) scopes i ∙ ap (option_map (λ (scope : Scope). scope.module.now)) (slice_get-get_or scopes i x lt ∙ ap Some (sym is))
+    slice_get-map (λ (scope : ModuleScope). scope.module.now) scopes i ∙ ap (option_map (λ (scope : ModuleScope). scope.module.now)) (slice_get-get_or scopes i x lt ∙ ap Some (sym is))
 
-pub ready_there : (names : List Name) (scopes : List Scope) (i : ℕ) (x : Scope) → AreReady names (modules_in scopes) → i < length scopes → x ≡ get_or scopes i x → IsReady (modules_in scopes) x.module.now
+pub ready_there : (names : List Name) (scopes : List ModuleScope) (i : ℕ) (x : ModuleScope) → AreReady names (modules_in scopes) → i < length scopes → x ≡ get_or scopes i x → IsReady (modules_in scopes) x.module.now
 ready_there names scopes i x ready lt is = ready.each i x.module.now (scope_there scopes i x lt is)
 
-pub numbers_there : (names : List Name) (scopes : List Scope) (i : ℕ) (x : Scope) → AreReady names (modules_in scopes) → i < length scopes → x ≡ get_or scopes i x → units (cells_from (modules_in scopes)) ≤ unit_limit
+pub numbers_there : (names : List Name) (scopes : List ModuleScope) (i : ℕ) (x : ModuleScope) → AreReady names (modules_in scopes) → i < length scopes → x ≡ get_or scopes i x → units (cells_from (modules_in scopes)) ≤ unit_limit
     → All (λ signal. HasNumbers signal.slot) (signals x.module.now)
 numbers_there names scopes i x ready lt is few = numbers_fit (modules_in scopes) i x.module.now (scope_there scopes i x lt is) (ready_there names scopes i x ready lt is).narrow few
 

@@ -3,7 +3,7 @@ use Rattle.std.proofs.Common.{◌≡◌, ℕ, ◌+◌, ◌-◌, ◌^◌, ◌<◌
 use Rattle.std.proofs.lemmas.List.{take_all}
 use Rattle.std.proofs.lemmas.List.Sums.{sum_by-cons, sum_by_push}
 use Rattle.net_hier.specs.Units.{units}
-use Rattle.vlog_rules.specs.declared.passes.Scope.{Scope}
+use Rattle.vlog_rules.specs.declared.passes.ModuleScope.{ModuleScope}
 use Rattle.vlog_ties.specs.Ties.{modules_in, most_joins}
 use Rattle.vlog_ties.proofs.MostJoins.{joins_few}
 use Rattle.vlog_values.specs.declared.module.Module.{Module}
@@ -12,7 +12,7 @@ use Rattle.vlog_elab.proofs.Answering.{scopes_more}
 use Rattle.vlog_elab.proofs.Signals.{units_are}
 
 -- the bits of one more module
-pub bits_more : (scopes : List Scope) (i : ℕ) (scope : Scope) (limit bits more : ℕ) → i < length scopes → scope ≡ get_or scopes i scope → bits ≡ min limit (sum_by module_bits (modules_in (take i scopes)))
+pub bits_more : (scopes : List ModuleScope) (i : ℕ) (scope : ModuleScope) (limit bits more : ℕ) → i < length scopes → scope ≡ get_or scopes i scope → bits ≡ min limit (sum_by module_bits (modules_in (take i scopes)))
     → more ≡ min limit (sum_by signal_width scope.table) → min (bits + more) limit ≡ min limit (sum_by module_bits (modules_in (take (i + 1) scopes)))
 bits_more scopes i scope limit bits more lt is are is_more =
     let own : sum_by signal_width scope.table ≡ module_bits scope.module.now = ap (sum_by signal_width) scope.is_whole in
@@ -20,7 +20,7 @@ bits_more scopes i scope limit bits more lt is are is_more =
     ap (sum_by module_bits) (scopes_more scopes i scope lt is) ∙ sum_by_push module_bits (modules_in (take i scopes)) scope.module.now in
     grind arith
 
-pub bits_done : (scopes : List Scope) (i limit bits : ℕ) → length scopes ≤ i → bits ≡ min limit (sum_by module_bits (modules_in (take i scopes))) → bits ≡ min limit (sum_by module_bits (modules_in scopes))
+pub bits_done : (scopes : List ModuleScope) (i limit bits : ℕ) → length scopes ≤ i → bits ≡ min limit (sum_by module_bits (modules_in (take i scopes))) → bits ≡ min limit (sum_by module_bits (modules_in scopes))
 bits_done scopes i limit bits le are = are ∙ ap (λ those. min limit (sum_by module_bits (modules_in those))) (take_all i scopes le)
 
 units_few : (ms those : List Module) → sum_by (module_units ms) those ≤ sum_by module_bits those + sum_by (most_joins ms) those

@@ -18,9 +18,9 @@ use net_hier::build::{BuildFault, UNIT_LIMIT};
 use net_hier::{HCell, Hier};
 use nl_base::{NoMemory, Refusal, Seq, Text};
 use std::alloc::Global;
-use vlog_checked::{Looked, examined};
+use vlog_checked::{Checked, check_file};
 use vlog_design::names::Names;
-use vlog_rules::passes::Scope;
+use vlog_rules::passes::ModuleScope;
 use vlog_values::VlogFile;
 
 /// Why a file has no design.
@@ -61,7 +61,12 @@ fn built(alloc: Global, cells: Seq<HCell>, top: u32) -> Result<Hier, NoMemory>
 
 // Whether the units of modules are within the limit of a design. The joins are counted only where the bits of all left sides, which are
 // no fewer, pass it.
-fn few_units(alloc: Global, names: &Names, scopes: &[Scope], most: u64) -> Result<(), ResolveError>
+fn few_units(
+    alloc: Global,
+    names: &Names,
+    scopes: &[ModuleScope],
+    most: u64,
+) -> Result<(), ResolveError>
     requires ready { AreReady names.now (modules_in scopes.now) }
     requires most { most ≡ min (2 ^ 64 - 1) (sum_by (most_joins (modules_in scopes.now)) (modules_in scopes.now)) }
     ensures { MatchResult result (λ done. units (cells_from (modules_in scopes.now)) ≤ unit_limit) (IsFaultFrom (cells_from (modules_in scopes.now))) }
@@ -80,7 +85,7 @@ fn few_units(alloc: Global, names: &Names, scopes: &[Scope], most: u64) -> Resul
 fn design_of(
     alloc: Global,
     names: &Names,
-    scopes: &[Scope],
+    scopes: &[ModuleScope],
     top: u32,
     most: u64,
 ) -> Result<Hier, ResolveError>
@@ -106,9 +111,9 @@ pub fn elaborate(alloc: Global, file: &VlogFile, top: &Text) -> Result<Hier, Res
     requires small { vlog_size file.now ≤ count_limit }
     ensures { MatchResult result (IsDesignOf file.now top.now) (IsFaultOf file.now top.now) }
 {
-    match examined(alloc, file, top.bytes())? {
-        Looked::Refused(refusal) => Err(ResolveError::Refused(refusal)),
-        Looked::Clean(clean) => design_of(
+    match check_file(alloc, file, top.bytes())? {
+        Checked::Refused(refusal) => Err(ResolveError::Refused(refusal)),
+        Checked::Clean(clean) => design_of(
             alloc,
             &clean.names,
             &clean.scopes,
@@ -128,8 +133,8 @@ pub fn check(alloc: Global, file: &VlogFile, top: &Text) -> Result<(), ResolveEr
     requires small { vlog_size file.now ≤ count_limit }
     ensures { MatchResult result (λ done. HasDesign file.now top.now) (IsFaultOf file.now top.now) }
 {
-    match examined(alloc, file, top.bytes())? {
-        Looked::Refused(refusal) => Err(ResolveError::Refused(refusal)),
-        Looked::Clean(clean) => few_units(alloc, &clean.names, &clean.scopes, clean.most),
+    match check_file(alloc, file, top.bytes())? {
+        Checked::Refused(refusal) => Err(ResolveError::Refused(refusal)),
+        Checked::Clean(clean) => few_units(alloc, &clean.names, &clean.scopes, clean.most),
     }
 }

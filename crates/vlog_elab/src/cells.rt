@@ -11,13 +11,13 @@ use nl_base::{NoMemory, Seq};
 use std::alloc::Global;
 use vlog_cells::cell::cell_of;
 use vlog_design::names::Names;
-use vlog_rules::passes::Scope;
+use vlog_rules::passes::ModuleScope;
 
 /// The cells of the modules, in their order.
 pub(crate) fn cells_of(
     alloc: Global,
     names: &Names,
-    scopes: &[Scope],
+    scopes: &[ModuleScope],
 ) -> Result<Seq<HCell>, NoMemory>
     requires ready { AreReady names.now (modules_in scopes.now) }
     requires few_units { units (cells_from (modules_in scopes.now)) ≤ unit_limit }

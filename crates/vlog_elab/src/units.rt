@@ -13,7 +13,7 @@ use std::alloc::Global;
 use vlog_design::names::Names;
 use vlog_design::table::Table;
 use vlog_design::widths::range_width;
-use vlog_rules::passes::Scope;
+use vlog_rules::passes::ModuleScope;
 use vlog_ties::counts::join_count;
 
 // How many bits the port or net of this number has.
@@ -41,8 +41,8 @@ fn table_bits(table: &Table) -> u64
 fn units_of_module(
     alloc: Global,
     names: &Names,
-    scopes: &[Scope],
-    scope: &Scope,
+    scopes: &[ModuleScope],
+    scope: &ModuleScope,
 ) -> Result<u64, NoMemory>
     requires named { names.now ≡ map (λ m. m.name) (modules_in scopes.now) }
     requires ready { IsReady (modules_in scopes.now) scope.now.module.now }
@@ -53,7 +53,11 @@ fn units_of_module(
 }
 
 /// The units of the cells of the modules, or 2^64-1 where there are more.
-pub(crate) fn units_of(alloc: Global, names: &Names, scopes: &[Scope]) -> Result<u64, NoMemory>
+pub(crate) fn units_of(
+    alloc: Global,
+    names: &Names,
+    scopes: &[ModuleScope],
+) -> Result<u64, NoMemory>
     requires { AreReady names.now (modules_in scopes.now) }
     ensures { IfOk result (λ count. count ≡ units (cells_from (modules_in scopes.now))) }
 {
@@ -66,7 +70,7 @@ pub(crate) fn units_of(alloc: Global, names: &Names, scopes: &[Scope]) -> Result
 }
 
 /// How many bits the ports and nets of all modules have, or 2^64-1 where there are more.
-fn bits_of(scopes: &[Scope]) -> u64
+fn bits_of(scopes: &[ModuleScope]) -> u64
     ensures { result ≡ min (2 ^ 64 - 1) (sum_by module_bits (modules_in scopes.now)) }
 {
     let mut bits: u64 = 0;
@@ -78,7 +82,7 @@ fn bits_of(scopes: &[Scope]) -> u64
 
 /// Whether it shows, with no join counted, that the units of the cells of the modules are within the limit of a design, by the bits of
 /// their left sides: `false` says nothing.
-pub(crate) fn shows_few(scopes: &[Scope], most: u64) -> bool
+pub(crate) fn shows_few(scopes: &[ModuleScope], most: u64) -> bool
     requires { most ≡ min (2 ^ 64 - 1) (sum_by (most_joins (modules_in scopes.now)) (modules_in scopes.now)) }
     ensures { result ≡ true → units (cells_from (modules_in scopes.now)) ≤ unit_limit }
 {

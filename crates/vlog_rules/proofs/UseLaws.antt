@@ -10,7 +10,7 @@ use Rattle.vlog_design.specs.Rules.{bad_select_in, bad_selects, refused, unknown
 use Rattle.vlog_design.specs.declared.signals.Slot.{Slot}
 use Rattle.vlog_values.specs.declared.module.Module.{Module}
 use Rattle.vlog_rules.specs.WrongUses.{has_wrong_use, is_wrong}
-use Rattle.vlog_rules.specs.declared.passes.Scope.{Scope}
+use Rattle.vlog_rules.specs.declared.passes.ModuleScope.{ModuleScope}
 
 pub wrong_is : (m : Module) (table : List Signal) (us : List Use) → table ≡ signals m → us ≡ module_uses m → list_any (is_wrong table) us ≡ has_wrong_use m
 unfolding has_wrong_use
@@ -49,12 +49,12 @@ module _ (m : Module) (h : has_wrong_use m ≡ false) where
       (none_kept (bad_select_in names) (is_wrong names) (λ u e. bad_wrong (λ slot. is_none (selected slot.range u.select)) (signal_named names u.name) e) (module_uses m) h)
 
 -- no module breaks one of the two rules
-pub none_refused : (scopes : List Scope) → list_any (λ scope. has_wrong_use scope.module.now) scopes ≡ false
+pub none_refused : (scopes : List ModuleScope) → list_any (λ scope. has_wrong_use scope.module.now) scopes ≡ false
     → (flat_map (λ scope. map (refused G6 scope.module.now.name) (unknown_names scope.module.now)) scopes ≡ []) × (flat_map (λ scope. map (refused G7 scope.module.now.name) (bad_selects scope.module.now)) scopes ≡ [])
 none_refused [] h = (refl, refl)
 none_refused (scope ∷ scopes) h =
     let m = scope.module.now in
-    let parts = or_parts (has_wrong_use m) (list_any (λ (s : Scope). has_wrong_use s.module.now) scopes) h in
+    let parts = or_parts (has_wrong_use m) (list_any (λ (s : ModuleScope). has_wrong_use s.module.now) scopes) h in
     let rest = none_refused scopes parts.1 in (
       (λ j. map (refused G6 m.name) (none_unknown m parts.0 j) ++ rest.0 j),
       (λ j. map (refused G7 m.name) (none_bad m parts.0 j) ++ rest.1 j),

@@ -4,7 +4,7 @@ ghost use Rattle.vlog_design.specs.Names.{has_name};
 ghost use Rattle.vlog_design.specs.Rules.{conn_count, conn_names, ports_named};
 ghost use Rattle.vlog_design.specs.Tables.{modules_of};
 
-use crate::library::Library;
+use crate::library::ModulePorts;
 use crate::refusals::{refuse, refuse_two};
 use crate::repeats::repeated_port;
 use crate::statements::InstanceRule;
@@ -36,7 +36,7 @@ fn first_named<'a>(conns: &'a [NamedConn]) -> Option<&'a [u8]>
 }
 
 /// The first port that connections name and the module of this name has not. The module is looked up once.
-fn unknown_named<'a>(library: &Library, of: &[u8], conns: &'a [NamedConn]) -> Option<&'a [u8]>
+fn unknown_named<'a>(library: &ModulePorts, of: &[u8], conns: &'a [NamedConn]) -> Option<&'a [u8]>
     ensures { option_copied result ≡ find (λ port. not (has_name (ports_named (modules_of library.now.modules.items) of.now) port)) (map (λ conn. conn.port) conns.now) }
 {
     match library.ports(of) {
@@ -45,7 +45,7 @@ fn unknown_named<'a>(library: &Library, of: &[u8], conns: &'a [NamedConn]) -> Op
     }
 }
 
-fn unknown_port<'a>(library: &Library, of: &[u8], conns: &'a Conns) -> Option<&'a [u8]>
+fn unknown_port<'a>(library: &ModulePorts, of: &[u8], conns: &'a Conns) -> Option<&'a [u8]>
     ensures { option_copied result ≡ find (λ port. not (has_name (ports_named (modules_of library.now.modules.items) of.now) port)) (conn_names conns.now) }
 {
     match conns {
@@ -57,7 +57,7 @@ fn unknown_port<'a>(library: &Library, of: &[u8], conns: &'a Conns) -> Option<&'
 /// Connections by name are to ports that the instance's module has.
 #[derive(Clone, Copy)]
 pub struct UnknownPorts<'a> {
-    pub library: &'a Library<'a>,
+    pub library: &'a ModulePorts<'a>,
 }
 
 impl<'a> InstanceRule for UnknownPorts<'a> {
@@ -117,7 +117,7 @@ impl InstanceRule for PortsTwice {
 }
 
 /// Whether there are more connections in order than the module of this name has ports.
-fn has_extra(library: &Library, of: &[u8], conns: &Conns) -> bool
+fn has_extra(library: &ModulePorts, of: &[u8], conns: &Conns) -> bool
     ensures { result ≡ nat_lt (length (ports_named (modules_of library.now.modules.items) of.now)) (conn_count conns.now) }
 {
     match conns {
@@ -129,7 +129,7 @@ fn has_extra(library: &Library, of: &[u8], conns: &Conns) -> bool
 /// There are no more connections in order than the instance's module has ports.
 #[derive(Clone, Copy)]
 pub struct ExtraConnections<'a> {
-    pub library: &'a Library<'a>,
+    pub library: &'a ModulePorts<'a>,
 }
 
 impl<'a> InstanceRule for ExtraConnections<'a> {

@@ -10,7 +10,7 @@ use vlog_values::Module;
 
 /// Modules of different names, each with ports of different names.
 #[derive(Drop)]
-pub struct Library<'a> {
+pub struct ModulePorts<'a> {
     pub modules: Vec<&'a Module>,
     pub names: Names<'a>,
     pub ports: Vec<Names<'a>>,
@@ -18,7 +18,7 @@ pub struct Library<'a> {
     ghost have_ports: { ports.items ≡ map port_names (modules_of modules.items) },
 }
 
-impl<'a> Library<'a> {
+impl<'a> ModulePorts<'a> {
     /// The ports of the module of this name, where it is there.
     pub fn ports(&self, name: &[u8]) -> Option<&Names<'a>>
         ensures { MatchOption result (module_named (modules_of self.now.modules.items) name.now ≡ None) (λ ports. option_map port_names (module_named (modules_of self.now.modules.items) name.now) ≡ Some ports.now) }

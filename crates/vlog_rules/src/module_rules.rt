@@ -2,7 +2,7 @@
 use crate::declared::declared_twice;
 use crate::defparams::unknown_instance;
 use crate::directions::without_direction;
-use crate::passes::{ModuleRule, Scope, ScopeRule};
+use crate::passes::{ModuleRule, ModuleScope, ScopeRule};
 use crate::selects::bad_select;
 use crate::unknown_names::unknown_name;
 use crate::wide::too_wide;
@@ -69,7 +69,7 @@ impl ScopeRule for UnknownNames {
 
     ghost refusals = { λ rule m. map (refused G6 m.name) (unknown_names m) };
 
-    fn first(&self, alloc: Global, scope: &Scope) -> Result<Option<Refusal>, NoMemory> {
+    fn first(&self, alloc: Global, scope: &ModuleScope) -> Result<Option<Refusal>, NoMemory> {
         unknown_name(alloc, scope.module, &scope.table)
     }
 }
@@ -85,7 +85,7 @@ impl ScopeRule for BadSelects {
 
     ghost refusals = { λ rule m. map (refused G7 m.name) (bad_selects m) };
 
-    fn first(&self, alloc: Global, scope: &Scope) -> Result<Option<Refusal>, NoMemory> {
+    fn first(&self, alloc: Global, scope: &ModuleScope) -> Result<Option<Refusal>, NoMemory> {
         bad_select(alloc, scope.module, &scope.table)
     }
 }
@@ -101,7 +101,7 @@ impl ScopeRule for TooWide {
 
     ghost refusals = { λ rule m. map (refused G12 m.name) (too_wide m) };
 
-    fn first(&self, alloc: Global, scope: &Scope) -> Result<Option<Refusal>, NoMemory> {
+    fn first(&self, alloc: Global, scope: &ModuleScope) -> Result<Option<Refusal>, NoMemory> {
         too_wide(alloc, scope.module, &scope.table)
     }
 }

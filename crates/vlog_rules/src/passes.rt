@@ -58,7 +58,7 @@ impl<R: StatementRule> ModuleRule for EachStatement<R> {
 
 /// A module with the table of its names.
 #[derive(Drop)]
-pub struct Scope<'a> {
+pub struct ModuleScope<'a> {
     pub module: &'a Module,
     pub table: Table<'a>,
     ghost is_whole: { table ≡ signals module.now },
@@ -73,7 +73,7 @@ pub trait ScopeRule {
     ghost refusals: { Self → Module → List Refusal };
 
     /// The first object of the module that breaks the rule.
-    fn first(&self, alloc: Global, scope: &Scope) -> Result<Option<Refusal>, NoMemory>
+    fn first(&self, alloc: Global, scope: &ModuleScope) -> Result<Option<Refusal>, NoMemory>
         ensures { IfOk result (λ found. found ≡ first_of (refusals self.now scope.now.module.now)) };
 }
 
@@ -81,7 +81,7 @@ pub trait ScopeRule {
 pub fn first_in_scopes<R: ScopeRule>(
     alloc: Global,
     rule: &R,
-    scopes: &[Scope],
+    scopes: &[ModuleScope],
 ) -> Result<Option<Refusal>, NoMemory>
     ensures { IfOk result (λ found. found ≡ first_of (flat_map (λ scope. R.refusals rule.now scope.module.now) scopes.now)) }
 {

@@ -4,7 +4,7 @@ ghost use Rattle.std.specs.List.{list_any};
 ghost use Rattle.vlog_design.specs.Uses.{use_of, uses_of};
 ghost use Rattle.vlog_rules.specs.WrongUses.{has_wrong_use, is_wrong};
 
-use crate::passes::Scope;
+use crate::passes::ModuleScope;
 use crate::selects::is_selected;
 use nl_base::NoMemory;
 use std::alloc::Global;
@@ -33,7 +33,7 @@ fn any_wrong(table: &Table, uses: &[UseOf]) -> bool
 }
 
 /// Whether one of the uses in the module of a scope is wrong.
-fn has_wrong_use(alloc: Global, scope: &Scope) -> Result<bool, NoMemory>
+fn has_wrong_use(alloc: Global, scope: &ModuleScope) -> Result<bool, NoMemory>
     ensures { IfOk result (λ wrong. wrong ≡ has_wrong_use scope.now.module.now) }
 {
     let uses = uses_in(alloc, scope.module)?;
@@ -41,7 +41,7 @@ fn has_wrong_use(alloc: Global, scope: &Scope) -> Result<bool, NoMemory>
 }
 
 /// Whether one of the uses in the modules is wrong.
-pub fn have_wrong_use(alloc: Global, scopes: &[Scope]) -> Result<bool, NoMemory>
+pub fn have_wrong_use(alloc: Global, scopes: &[ModuleScope]) -> Result<bool, NoMemory>
     ensures { IfOk result (λ wrong. wrong ≡ list_any (λ scope. has_wrong_use scope.module.now) scopes.now) }
 {
     for scope in scopes {

@@ -8,7 +8,7 @@ use crate::lists::port_set;
 use nl_base::NoMemory;
 use std::alloc::Global;
 use vlog_design::names::Names;
-use vlog_rules::library::Library;
+use vlog_rules::library::ModulePorts;
 use vlog_values::Module;
 
 /// The set of the names of modules, in their order, which differ.
@@ -35,14 +35,14 @@ fn port_sets<'a>(alloc: Global, modules: &[&'a Module]) -> Result<Vec<Names<'a>>
 }
 
 /// The modules by their names, each with its ports. It takes time in proportion to the modules.
-pub fn library_of<'a>(alloc: Global, modules: Vec<&'a Module>) -> Result<Library<'a>, NoMemory>
+pub fn library_of<'a>(alloc: Global, modules: Vec<&'a Module>) -> Result<ModulePorts<'a>, NoMemory>
     requires differ { Distinct (module_names (modules_of modules.items)) }
     requires once { AreDeclaredOnce (modules_of modules.items) }
     ensures { IfOk result (λ library. modules_of library.modules.items ≡ modules_of modules.entry.items) }
 {
     let names = module_set(alloc, &modules)?;
     let ports = port_sets(alloc, &modules)?;
-    Ok(Library {
+    Ok(ModulePorts {
         modules,
         names,
         ports,

@@ -1,7 +1,7 @@
 // Ports that are declared again as nets.
 use nl_base::{NoMemory, Refusal};
 use std::alloc::Global;
-use vlog_rules::passes::{Scope, ScopeRule};
+use vlog_rules::passes::{ModuleScope, ScopeRule};
 use vlog_rules::redeclared::other_range;
 
 /// A port that is declared again as a net has the same range.
@@ -15,7 +15,7 @@ impl ScopeRule for Redeclared {
 
     ghost refusals = { λ rule m. map (refused G15 m.name) (other_ranges m) };
 
-    fn first(&self, alloc: Global, scope: &Scope) -> Result<Option<Refusal>, NoMemory> {
+    fn first(&self, alloc: Global, scope: &ModuleScope) -> Result<Option<Refusal>, NoMemory> {
         other_range(alloc, scope.module, &scope.table)
     }
 }

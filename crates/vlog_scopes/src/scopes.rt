@@ -13,7 +13,7 @@ use nl_base::NoMemory;
 use std::alloc::Global;
 use vlog_design::signals::Slot;
 use vlog_design::table::Table;
-use vlog_rules::passes::Scope;
+use vlog_rules::passes::ModuleScope;
 use vlog_values::Module;
 
 fn table_of<'a>(alloc: Global, entries: &[(&'a [u8], Slot)]) -> Result<Table<'a>, NoMemory>
@@ -47,7 +47,7 @@ fn declared_table<'a>(
 
 /// The module with the table of its ports and nets. It takes time in proportion to the module. Mostly all nets are declared, and no set
 /// of the declared names is made.
-pub fn scope_of<'a>(alloc: Global, m: &'a Module) -> Result<Scope<'a>, NoMemory>
+pub fn scope_of<'a>(alloc: Global, m: &'a Module) -> Result<ModuleScope<'a>, NoMemory>
     requires once { declared_twice m.now ≡ [] }
     requires small { module_size m.now ≤ 268435456 }
     ensures { IfOk result (λ scope. scope.module.now ≡ m.now) }
@@ -55,11 +55,11 @@ pub fn scope_of<'a>(alloc: Global, m: &'a Module) -> Result<Scope<'a>, NoMemory>
     let mut entries = Vec::new(alloc);
     let next = push_declared_entries(alloc, m, &mut entries)?;
     if let Some(table) = declared_table(alloc, m, entries.as_slice())? {
-        return Ok(Scope { module: m, table });
+        return Ok(ModuleScope { module: m, table });
     }
     push_implicit_entries(alloc, m, next, &mut entries)?;
     let whole = table_of(alloc, entries.as_slice())?;
-    Ok(Scope {
+    Ok(ModuleScope {
         module: m,
         table: whole,
     })

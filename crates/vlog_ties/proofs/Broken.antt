@@ -9,7 +9,7 @@ use Rattle.vlog_design.specs.Names.{Name, Signal, Use, signals, uses}
 use Rattle.vlog_design.specs.Rules.{first_of, refused, unequal_widths, unsized}
 use Rattle.vlog_design.proofs.Steps.{flat_map_left}
 use Rattle.vlog_rules.proofs.RuleLaws.{first_map}
-use Rattle.vlog_rules.specs.declared.passes.Scope.{Scope}
+use Rattle.vlog_rules.specs.declared.passes.ModuleScope.{ModuleScope}
 use Rattle.vlog_values.specs.declared.expression.Expr.{Expr}
 use Rattle.vlog_values.specs.declared.module.Module.{Module}
 use Rattle.nl_base.specs.declared.rule.Rule.{Rule}
@@ -68,9 +68,9 @@ broken_first rule modules m table ts found e f g =
     ∙ ap (option_map (λ t. refused (rule_number rule) m.name (tied_names t))) (ap (λ names. find (any_pairing (is_broken rule) names) (module_ties modules m)) (sym e) ∙ (ap (find (any_pairing (is_broken rule) table)) (sym f) ∙ sym g))))
 
 -- what holds of all modules holds of that of a scope
-pub of_scope : (P : Module → Type 0) (scopes : List Scope) (i : ℕ) (scope : Scope) → scope ≡ get_or scopes i scope → i < length scopes → AllByRecursion P (modules_in scopes) → P scope.module.now
+pub of_scope : (P : Module → Type 0) (scopes : List ModuleScope) (i : ℕ) (scope : ModuleScope) → scope ≡ get_or scopes i scope → i < length scopes → AllByRecursion P (modules_in scopes) → P scope.module.now
 of_scope P [] i scope is h all = absurd (omega (arith, h))
-of_scope P (s ∷ ss) zero scope is h all = subst (λ (x : Scope). P x.module.now) (sym is) all.0
+of_scope P (s ∷ ss) zero scope is h all = subst (λ (x : ModuleScope). P x.module.now) (sym is) all.0
 of_scope P (s ∷ ss) (suc i) scope is h all = of_scope P ss i scope is (omega (arith, h)) all.1
 
 -- widths that stop at a limit

@@ -8,7 +8,7 @@ use Rattle.std.proofs.lemmas.List.Sums.{sum_by-cons}
 use Rattle.vlog_design.specs.Design.{instance_count}
 use Rattle.vlog_design.specs.Names.{Name}
 use Rattle.vlog_design.specs.Reach.{module_named}
-use Rattle.vlog_rules.specs.declared.passes.Scope.{Scope}
+use Rattle.vlog_rules.specs.declared.passes.ModuleScope.{ModuleScope}
 use Rattle.vlog_values.specs.Sizes.{item_size, list_size, module_size}
 use Rattle.vlog_values.specs.declared.module.ItemV.{ItemV}
 use Rattle.vlog_values.specs.declared.module.ItemV.TheVariants as items
@@ -62,11 +62,11 @@ place_gone n size e = by (nat_lt n size) refl e
     by false t h = ltb-false n size t
 
 -- what the place of a name tells
-pub record IsScopeAt (scopes : List Scope) (name : Name) (at : ℕ) : Type 0 where
+pub record IsScopeAt (scopes : List ModuleScope) (name : Name) (at : ℕ) : Type 0 where
   pub within : at < length scopes
-  pub found : (d : Scope) → module_named (modules_in scopes) name ≡ Some (get_or scopes at d).module.now
+  pub found : (d : ModuleScope) → module_named (modules_in scopes) name ≡ Some (get_or scopes at d).module.now
 
-pub scope_placed : (scopes : List Scope) (name : Name) (at : ℕ) (names : List Name) → names ≡ module_names (modules_in scopes) → position (bytes_eq name) names ≡ Some at → IsScopeAt scopes name at
+pub scope_placed : (scopes : List ModuleScope) (name : Name) (at : ℕ) (names : List Name) → names ≡ module_names (modules_in scopes) → position (bytes_eq name) names ≡ Some at → IsScopeAt scopes name at
 scope_placed scopes name at names e h =
     let modules = modules_in scopes in
     let n = position_or_len (bytes_eq name) (module_names modules) in
@@ -76,7 +76,7 @@ scope_placed scopes name at names e h =
     let within : at < length scopes = omega (arith, is.same, is.within, long, short) in
     record {
       within = within;
-      found = λ d. module_at modules name d.module.now (omega (arith, is.within, long)) ∙ (ap (λ k. Some (get_or modules k d.module.now)) is.same ∙ ap Some (get_or-map (λ (scope : Scope). scope.module.now) scopes at d d.module.now within));
+      found = λ d. module_at modules name d.module.now (omega (arith, is.within, long)) ∙ (ap (λ k. Some (get_or modules k d.module.now)) is.same ∙ ap Some (get_or-map (λ (scope : ModuleScope). scope.module.now) scopes at d d.module.now within));
     }
 
 pub no_scope_placed : (modules : List Module) (name : Name) (names : List Name) → names ≡ module_names modules → position (bytes_eq name) names ≡ None → module_named modules name ≡ None

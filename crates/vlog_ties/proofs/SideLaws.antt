@@ -9,7 +9,7 @@ use Rattle.nl_base.specs.declared.rule.Rule.{Rule}
 use Rattle.nl_base.specs.declared.rule.Rule.TheVariants.{G8, G13}
 use Rattle.vlog_design.specs.Names.{Signal, signals}
 use Rattle.vlog_design.specs.Rules.{Objects, first_of, in_modules, refused, unequal_widths, unsized}
-use Rattle.vlog_rules.specs.declared.passes.Scope.{Scope}
+use Rattle.vlog_rules.specs.declared.passes.ModuleScope.{ModuleScope}
 use Rattle.vlog_values.specs.declared.module.Module.{Module}
 use Rattle.vlog_ties.specs.Sides.{AreSides}
 use Rattle.vlog_ties.specs.Ties.{Tied, any_pairing, broken_objects, is_broken, module_ties, modules_in, most_joins, rule_number, tied_names}
@@ -43,17 +43,17 @@ module _ (modules : List Module) where
       let sums : sum_by (most_joins modules) (front ++ back) ≡ sum_by (most_joins modules) front + sum_by (most_joins modules) back = sum_by-append (most_joins modules) front back in
       grind arith
 
-  module _ (scopes : List Scope) where
+  module _ (scopes : List ModuleScope) where
     -- before the first module
     pub sides_begun : AreSides modules (modules_in (take 0 scopes)) (record { unequal = None; loose = None; most = 0 })
     sides_begun = record { unequal_is = refl; loose_is = refl; most_is = refl }
 
     -- one more module
-    pub sides_more : (i : ℕ) (scope : Scope) → scope ≡ get_or scopes i scope → i < length scopes → (front back both : Sides) → AreSides modules (modules_in (take i scopes)) front → AreSides modules (scope.module.now ∷ []) back
+    pub sides_more : (i : ℕ) (scope : ModuleScope) → scope ≡ get_or scopes i scope → i < length scopes → (front back both : Sides) → AreSides modules (modules_in (take i scopes)) front → AreSides modules (scope.module.now ∷ []) back
         → both.unequal ≡ option_or front.unequal back.unequal → both.loose ≡ option_or front.loose back.loose → both.most ≡ min (front.most + back.most) (2 ^ 64 - 1) → AreSides modules (modules_in (take (i + 1) scopes)) both
     sides_more i scope is lt front back both a b unequal loose most =
         let those : List Module = modules_in (take i scopes) in
-        let more : modules_in (take (i + 1) scopes) ≡ those ++ scope.module.now ∷ [] = map_more (λ (s : Scope). s.module.now) scopes i scope lt ∙ ap (λ (s : Scope). those ++ s.module.now ∷ []) (sym is) in
+        let more : modules_in (take (i + 1) scopes) ≡ those ++ scope.module.now ∷ [] = map_more (λ (s : ModuleScope). s.module.now) scopes i scope lt ∙ ap (λ (s : ModuleScope). those ++ s.module.now ∷ []) (sym is) in
         subst (λ all. AreSides modules all both) (sym more) (record {
           unequal_is = modules_first G8 (unequal_widths modules) those (scope.module.now ∷ []) front.unequal back.unequal both.unequal a.unequal_is b.unequal_is unequal;
           loose_is = modules_first G13 (unsized modules) those (scope.module.now ∷ []) front.loose back.loose both.loose a.loose_is b.loose_is loose;

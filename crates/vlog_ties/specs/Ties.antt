@@ -18,7 +18,7 @@ use Rattle.vlog_design.specs.Rules.{Objects, unequal_widths, unsized}
 use Rattle.vlog_design.specs.declared.signals.Place.{Place}
 use Rattle.vlog_design.specs.declared.signals.Place.TheVariants.{AtPort, AtNet}
 use Rattle.vlog_design.specs.declared.signals.Slot.{Slot}
-use Rattle.vlog_rules.specs.declared.passes.Scope.{Scope}
+use Rattle.vlog_rules.specs.declared.passes.ModuleScope.{ModuleScope}
 use Rattle.vlog_values.specs.declared.expression.Expr.{Expr}
 use Rattle.vlog_values.specs.declared.literal.Literal.{Literal}
 use Rattle.vlog_values.specs.declared.module.ItemV.{ItemV}
@@ -33,7 +33,7 @@ use Rattle.vlog_ties.specs.declared.rules.TieRule.{TieRule}
 use Rattle.vlog_ties.specs.declared.rules.TieRule.TheVariants.{EqualWidths, SizedLiterals}
 
 -- the modules of scopes
-abbrev pub modules_in : List Scope → List Module
+abbrev pub modules_in : List ModuleScope → List Module
 modules_in = map (λ scope. scope.module.now)
 
 -- a pin and its expression, by the name and the number of the instance, the name, the number and the width of the port; the two sides of

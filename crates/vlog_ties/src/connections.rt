@@ -7,7 +7,7 @@ use crate::tie::Tie;
 use nl_base::{NoMemory, Range};
 use vlog_design::signals::{Place, Slot};
 use vlog_design::table::Table;
-use vlog_rules::passes::Scope;
+use vlog_rules::passes::ModuleScope;
 use vlog_values::{Conns, Expr, NamedConn, VInst};
 
 /// How many bits a port has.
@@ -132,7 +132,7 @@ fn push_conns<'a>(
 
 /// Adds what an instance ties, by its number and the scope of its module.
 fn push_instance<'a>(
-    below: &Scope<'a>,
+    below: &ModuleScope<'a>,
     number: u32,
     instance: &'a VInst,
     out: &mut Vec<Tie<'a>>,
@@ -150,7 +150,7 @@ fn push_instance<'a>(
 
 /// Adds what instances tie, by the number of the first and the scope of their module.
 pub fn push_instances<'a>(
-    below: &Scope<'a>,
+    below: &ModuleScope<'a>,
     first: u32,
     insts: &'a [VInst],
     out: &mut Vec<Tie<'a>>,

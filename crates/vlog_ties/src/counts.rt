@@ -16,7 +16,7 @@ use vlog_design::names::Names;
 use vlog_design::table::Table;
 use vlog_design::widths::{expr_width, range_width, selected_width, times};
 use vlog_literals::filled_bits_of;
-use vlog_rules::passes::Scope;
+use vlog_rules::passes::ModuleScope;
 use vlog_values::{Bit, Expr};
 
 fn is_live(bit: Bit) -> bool
@@ -119,8 +119,8 @@ fn ties_count(alloc: Global, table: &Table, ties: &[Tie]) -> Result<u64, NoMemor
 pub fn join_count(
     alloc: Global,
     names: &Names,
-    scopes: &[Scope],
-    scope: &Scope,
+    scopes: &[ModuleScope],
+    scope: &ModuleScope,
 ) -> Result<u64, NoMemory>
     requires named { names.now ≡ map (λ m. m.name) (modules_in scopes.now) }
     requires valid { IsModule scope.now.module.now }

@@ -19,7 +19,7 @@ use vlog_design::runs::Runs;
 use vlog_design::signals::Slot;
 use vlog_design::table::Table;
 use vlog_design::widths::range_width;
-use vlog_rules::passes::Scope;
+use vlog_rules::passes::ModuleScope;
 use vlog_values::Expr;
 
 /// Adds the joins of each bit of a port or net to a constant.
@@ -111,8 +111,8 @@ pub fn push_ties(
 pub fn joins_of(
     alloc: Global,
     names: &Names,
-    scopes: &[Scope],
-    scope: &Scope,
+    scopes: &[ModuleScope],
+    scope: &ModuleScope,
 ) -> Result<Vec<Join>, NoMemory>
     requires named { names.now ≡ map (λ m. m.name) (modules_in scopes.now) }
     requires small { module_size scope.now.module.now ≤ 268435456 }

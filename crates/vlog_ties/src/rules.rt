@@ -10,7 +10,7 @@ use nl_base::{NoMemory, Refusal, Rule};
 use std::alloc::Global;
 use vlog_design::table::Table;
 use vlog_design::widths::expr_width;
-use vlog_rules::passes::Scope;
+use vlog_rules::passes::ModuleScope;
 use vlog_rules::refusals::{refuse, refuse_two};
 use vlog_values::Expr;
 
@@ -108,7 +108,7 @@ fn refuse_tie(alloc: Global, rule: Rule, cell: &[u8], tie: &Tie) -> Result<Refus
 pub(crate) fn first_refusal(
     alloc: Global,
     rule: TieRule,
-    scope: &Scope,
+    scope: &ModuleScope,
     ties: &[Tie],
 ) -> Result<Option<Refusal>, NoMemory>
     requires { All (λ tie. HasNarrowLeft scope.now.table (tied tie)) ties.now }

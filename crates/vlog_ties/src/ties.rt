@@ -12,7 +12,7 @@ use net_hier::Node;
 use nl_base::{NoMemory, Text};
 use std::alloc::Global;
 use vlog_design::names::Names;
-use vlog_rules::passes::Scope;
+use vlog_rules::passes::ModuleScope;
 use vlog_values::{Assignment, Instances, ItemV, Module, NetDecl, NetKind};
 
 fn push_assigns<'a>(sets: &'a [Assignment], out: &mut Vec<Tie<'a>>) -> Result<(), NoMemory>
@@ -57,9 +57,9 @@ fn push_net<'a>(decl: &'a NetDecl, out: &mut Vec<Tie<'a>>) -> Result<(), NoMemor
 /// The scope of the module of this name, where it is there.
 pub fn scope_named<'s, 'a>(
     names: &Names,
-    scopes: &'s [Scope<'a>],
+    scopes: &'s [ModuleScope<'a>],
     name: &[u8],
-) -> Option<&'s Scope<'a>>
+) -> Option<&'s ModuleScope<'a>>
     requires { names.now ≡ map (λ m. m.name) (modules_in scopes.now) }
     ensures { MatchOption result (module_named (modules_in scopes.now) name.now ≡ None) (λ scope. module_named (modules_in scopes.now) name.now ≡ Some scope.now.module.now) }
 {
@@ -87,7 +87,7 @@ fn instance_count(item: &ItemV) -> u32
 #[tactic(auto, unfolding(crate::specs::Ties::item_ties))]
 fn push_item<'a>(
     names: &Names,
-    scopes: &[Scope<'a>],
+    scopes: &[ModuleScope<'a>],
     number: u32,
     item: &'a ItemV,
     out: &mut Vec<Tie<'a>>,
@@ -113,7 +113,7 @@ fn push_item<'a>(
 
 fn push_items<'a>(
     names: &Names,
-    scopes: &[Scope<'a>],
+    scopes: &[ModuleScope<'a>],
     items: &'a [ItemV],
     out: &mut Vec<Tie<'a>>,
 ) -> Result<(), NoMemory>
@@ -134,7 +134,7 @@ fn push_items<'a>(
 pub fn ties_of<'a>(
     alloc: Global,
     names: &Names,
-    scopes: &[Scope<'a>],
+    scopes: &[ModuleScope<'a>],
     m: &'a Module,
 ) -> Result<Vec<Tie<'a>>, NoMemory>
     requires named { names.now ≡ map (λ m. m.name) (modules_in scopes.now) }

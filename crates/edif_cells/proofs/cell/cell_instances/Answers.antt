@@ -1,7 +1,7 @@
 use Rattle.std.proofs.Common.{◌∙◌, ap, map}
 use Rattle.std.specs.List.{filter_map}
 use Rattle.edif_design.specs.Parts.{instance_in, numbered}
-use Rattle.edif_nets_rules.specs.Lists.{seen}
+use Rattle.edif_rules.specs.Lists.{seen}
 use Rattle.edif_cells.specs.Values.{instance_at}
 use Rattle.edif_cells.proofs.cell.cell_instances.Goals as goal
 

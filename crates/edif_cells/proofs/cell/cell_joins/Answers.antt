@@ -6,9 +6,9 @@ use Rattle.std.proofs.lemmas.List.{length-map}
 use Rattle.edif_values.specs.declared.port.Port.{Port}
 use Rattle.edif_design.specs.Parts.{instance_in, net_in}
 use Rattle.edif_design.specs.References.{file_cells, linked_by}
-use Rattle.edif_nets_rules.specs.Lists.{seen}
-use Rattle.edif_nets_rules.proofs.SizeLaws.{few_contents, few_of}
-use Rattle.edif_nets_rules.proofs.WalkLaws.{scope_is}
+use Rattle.edif_rules.specs.Lists.{seen}
+use Rattle.edif_rules.proofs.SizeLaws.{few_contents, few_of}
+use Rattle.edif_rules.proofs.WalkLaws.{scope_is}
 use Rattle.edif_cells.specs.Values.{is_bad_port}
 use Rattle.edif_cells.proofs.CellLaws.{joins_found}
 use Rattle.edif_cells.proofs.GoodSizes.{good_inner, good_own}
@@ -34,7 +34,7 @@ pub joins_made-requires-clause-good : goal.joins_made-requires-clause-good
 joins_made-requires-clause-good c = record {
   own_good = subst (λ ps. list_any is_bad_port ps ≡ false) (sym c.in_ok-own.ensures) (good_own c.args.cell.now c.requires.own);
   inner_good =
-      subst (λ fs. (instance : ℕ) (inner : List Port) → option_and_then (slice_get fs) (get_or c.args.below.now instance None) ≡ Some inner → list_any is_bad_port inner ≡ false) (sym c.requires.faces)
+      subst (λ fs. (instance : ℕ) (inner : List Port) → option_and_then (slice_get fs) (get_or c.args.below.now instance None) ≡ Some inner → list_any is_bad_port inner ≡ false) (sym c.requires.port_tables)
       (good_inner (file_cells c.args.tables.now) c.args.below.now c.requires.inner);
 }
 
@@ -58,4 +58,4 @@ returns c =
     joins_found (linked_by cells c.args.cell.now c.args.below.now) _ _ _ c.in_ok-made.ensures
     (ap seen c.as_slice-3.ensures.value ∙ (c.in_ok-nets.ensures ∙ ap (filter_map net_in) (ap seen c.as_slice.ensures.value ∙ c.in_ok-items.ensures)))
     (scope_is cells c.args.cell.now c.args.below.now _ c.in_ok-own.ensures
-    (c.in_ok-instances.ensures ∙ (c.in_ok-instances_in.ensures ∙ ap (filter_map instance_in) (ap seen c.as_slice-2.ensures.value ∙ c.in_ok-items.ensures))) refl c.requires.faces)
+    (c.in_ok-instances.ensures ∙ (c.in_ok-instances_in.ensures ∙ ap (filter_map instance_in) (ap seen c.as_slice-2.ensures.value ∙ c.in_ok-items.ensures))) refl c.requires.port_tables)

@@ -2,7 +2,7 @@ use Rattle.std.proofs.Common.{◌∙◌, ap, map}
 use Rattle.std.specs.List.{filter_map}
 use Rattle.edif_design.specs.Design.{net_value}
 use Rattle.edif_design.specs.Parts.{net_in}
-use Rattle.edif_nets_rules.specs.Lists.{seen}
+use Rattle.edif_rules.specs.Lists.{seen}
 use Rattle.edif_cells.proofs.cell.cell_nets.Goals as goal
 
 pub returns : goal.returns

@@ -1,7 +1,7 @@
 use Rattle.std.proofs.Common.{◌≡◌, ◌∙◌, ap, false, map, subst, sym}
 use Rattle.std.specs.List.{list_any}
 use Rattle.edif_design.specs.Design.{port_value}
-use Rattle.edif_nets_rules.specs.Lists.{seen}
+use Rattle.edif_rules.specs.Lists.{seen}
 use Rattle.edif_cells.specs.Values.{is_bad_port}
 use Rattle.edif_cells.proofs.GoodSizes.{good_own}
 use Rattle.edif_cells.proofs.cell.cell_ports.Goals as goal

@@ -1,5 +1,5 @@
 use Rattle.std.proofs.Common.{arith}
-use Rattle.edif_nets_rules.specs.Scopes.{lists_of}
+use Rattle.edif_rules.specs.Scopes.{lists_of}
 use Rattle.edif_cells.proofs.GoodSizes.{spot_small}
 use Rattle.edif_cells.proofs.joins.add_join.Goals as goal
 

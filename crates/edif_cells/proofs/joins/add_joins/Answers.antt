@@ -1,8 +1,8 @@
 use Rattle.std.proofs.Common.{arith, map, refl}
 use Rattle.std.specs.Prelude.{option_to_list}
-use Rattle.edif_nets_rules.specs.Breaks.{ref_node}
-use Rattle.edif_nets_rules.specs.Scopes.{lists_of}
-use Rattle.edif_nets_rules.proofs.Turns.{turn}
+use Rattle.edif_rules.specs.Breaks.{ref_node}
+use Rattle.edif_rules.specs.Scopes.{lists_of}
+use Rattle.edif_rules.proofs.Turns.{turn}
 use Rattle.edif_cells.specs.Values.{join_of, joins_of}
 use Rattle.edif_cells.proofs.CellLaws.{joins_grow}
 use Rattle.edif_cells.proofs.joins.add_joins.Goals as goal

@@ -1,5 +1,5 @@
 use Rattle.std.proofs.Common.{◌≡◌, ◌++◌, take}
-use Rattle.edif_nets_rules.specs.Scopes.{lists_of}
+use Rattle.edif_rules.specs.Scopes.{lists_of}
 use Rattle.edif_cells.specs.Values.{joins_of}
 use Rattle.edif_cells.proofs.joins.add_joins.Given as goal
 

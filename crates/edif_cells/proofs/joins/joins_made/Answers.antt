@@ -1,6 +1,6 @@
 use Rattle.std.proofs.Common.{◌∙◌, ◌++◌, ℕ, ap, arith}
 use Rattle.edif_values.specs.declared.net.Net.{Net}
-use Rattle.edif_nets_rules.specs.Scopes.{lists_of}
+use Rattle.edif_rules.specs.Scopes.{lists_of}
 use Rattle.edif_cells.specs.Values.{joins_of}
 use Rattle.edif_cells.proofs.Numbered.{flat_numbered}
 use Rattle.edif_cells.proofs.joins.joins_made.Goals as goal

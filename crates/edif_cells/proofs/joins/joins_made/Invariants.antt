@@ -1,8 +1,8 @@
 use Rattle.std.proofs.Common.{◌≡◌, take}
 use Rattle.std.specs.List.{flat_map}
 use Rattle.edif_design.specs.Parts.{numbered}
-use Rattle.edif_nets_rules.specs.Lists.{seen}
-use Rattle.edif_nets_rules.specs.Scopes.{lists_of}
+use Rattle.edif_rules.specs.Lists.{seen}
+use Rattle.edif_rules.specs.Scopes.{lists_of}
 use Rattle.edif_cells.specs.Values.{joins_of}
 use Rattle.edif_cells.proofs.joins.joins_made.Given as goal
 

@@ -1,6 +1,6 @@
 use Rattle.std.proofs.Common.{◌≡◌, map, take}
 use Rattle.edif_design.specs.Parts.{numbered}
-use Rattle.edif_nets_rules.specs.Lists.{seen}
+use Rattle.edif_rules.specs.Lists.{seen}
 use Rattle.edif_cells.specs.Values.{instance_at}
 use Rattle.edif_cells.proofs.parts.instances_made.Given as goal
 

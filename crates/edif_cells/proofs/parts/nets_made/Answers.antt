@@ -1,7 +1,7 @@
 use Rattle.std.proofs.Common.{◌≡◌, ◌∙◌, ◌++◌, ◌∷◌, [], ap, arith, false, map, refl, subst}
 use Rattle.edif_design.specs.Design.{net_value}
-use Rattle.edif_nets_rules.specs.Lists.{seen}
-use Rattle.edif_nets_rules.proofs.Turns.{seen_map_grows, turn}
+use Rattle.edif_rules.specs.Lists.{seen}
+use Rattle.edif_rules.proofs.Turns.{seen_map_grows, turn}
 use Rattle.edif_cells.proofs.parts.nets_made.Goals as goal
 
 pub loop-net-preserved : goal.loop-net-preserved

@@ -1,6 +1,6 @@
 use Rattle.std.proofs.Common.{◌≡◌, map, take}
 use Rattle.edif_design.specs.Design.{net_value}
-use Rattle.edif_nets_rules.specs.Lists.{seen}
+use Rattle.edif_rules.specs.Lists.{seen}
 use Rattle.edif_cells.proofs.parts.nets_made.Given as goal
 
 abbrev pub invariant-loop-net : goal.invariant-loop-net

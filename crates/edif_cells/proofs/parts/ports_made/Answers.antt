@@ -1,8 +1,8 @@
 use Rattle.std.proofs.Common.{◌≡◌, ◌∙◌, ◌++◌, ◌∷◌, [], ap, arith, false, map, refl, subst}
 use Rattle.edif_design.specs.Design.{port_value}
-use Rattle.edif_nets_rules.specs.Lists.{seen}
-use Rattle.edif_nets_rules.proofs.Turns.{seen_map_grows, turn}
-use Rattle.edif_nets_rules.proofs.TableTurns.{seen_at, seen_within}
+use Rattle.edif_rules.specs.Lists.{seen}
+use Rattle.edif_rules.proofs.Turns.{seen_map_grows, turn}
+use Rattle.edif_rules.proofs.TableTurns.{seen_at, seen_within}
 use Rattle.edif_cells.specs.Values.{is_bad_port}
 use Rattle.edif_cells.proofs.GoodSizes.{good_at}
 use Rattle.edif_cells.proofs.parts.ports_made.Goals as goal

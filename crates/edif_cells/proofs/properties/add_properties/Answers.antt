@@ -2,7 +2,7 @@ use Rattle.std.proofs.Common.{[], arith, refl}
 use Rattle.std.specs.Prelude.{option_to_list}
 use Rattle.std.specs.List.{filter_map}
 use Rattle.edif_design.specs.Design.{design_property}
-use Rattle.edif_nets_rules.proofs.Turns.{filter_grows, turn}
+use Rattle.edif_rules.proofs.Turns.{filter_grows, turn}
 use Rattle.edif_cells.proofs.properties.add_properties.Goals as goal
 
 pub loop-item-preserved : goal.loop-item-preserved

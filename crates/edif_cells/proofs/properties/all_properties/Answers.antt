@@ -1,7 +1,7 @@
 use Rattle.std.proofs.Common.{[], arith}
 use Rattle.std.specs.List.{flat_map}
 use Rattle.edif_design.specs.Design.{cell_properties}
-use Rattle.edif_nets_rules.proofs.Turns.{flat_grows, turn}
+use Rattle.edif_rules.proofs.Turns.{flat_grows, turn}
 use Rattle.edif_cells.proofs.properties.all_properties.Goals as goal
 
 pub loop-item-preserved : goal.loop-item-preserved

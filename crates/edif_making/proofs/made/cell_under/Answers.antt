@@ -9,7 +9,8 @@ use Rattle.edif_plans.specs.Faces.{added_face, face_for, own_face}
 use Rattle.edif_plans.specs.Made.{AreAddedTo, live_below}
 use Rattle.edif_plans.specs.Plans.{HasHead}
 use Rattle.edif_plans.specs.Sound.{IsSoundInstance, IsSoundPort}
-use Rattle.edif_making.proofs.CellLaws.{added_in_plan, idents_count, refs_there, scene_fits}
+use Rattle.edif_plans.proofs.Needed.{idents_count}
+use Rattle.edif_making.proofs.CellLaws.{added_in_plan, refs_there, scene_fits}
 use Rattle.edif_making.proofs.made.cell_under.Goals as goal
 
 pub instances_with-requires-clause-counted : goal.instances_with-requires-clause-counted

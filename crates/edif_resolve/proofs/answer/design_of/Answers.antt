@@ -11,8 +11,8 @@ use Rattle.edif_resolve.proofs.answer.design_of.Goals as goal
 
 pub counts_of-requires : goal.counts_of-requires
 counts_of-requires c =
-    let few : length (reached_marks c.args.scene.now) ≤ 268435456 = marks_few c.args.scene.now 268435456 c.requires.small in
-    let same : length c.marks.result.now ≡ length (reached_marks c.args.scene.now) = ap length c.marks.ensures in
+    let few : length (reached_marks c.args.tabled.now) ≤ 268435456 = marks_few c.args.tabled.now 268435456 c.requires.small in
+    let same : length c.marks.result.now ≡ length (reached_marks c.args.tabled.now) = ap length c.marks.ensures in
     omega (arith, few, same)
 
 pub design_cells-requires-clause-numbers : goal.design_cells-requires-clause-numbers
@@ -20,7 +20,7 @@ design_cells-requires-clause-numbers c = c.as_slice-numbers.ensures.value ∙ (c
 
 pub build-requires : goal.build-requires
 build-requires c =
-    let file = c.args.scene.now in
+    let file = c.args.tabled.now in
     let numbers = c.as_slice-numbers.ensures.value ∙ (c.in_ok-counts.ensures ∙ ap (counts_from 0) c.marks.ensures) in
     let is_top : c.design_top-top.result ≡ edif_top file = c.design_top-top.ensures ∙ top_is file c.as_slice-numbers.result.now numbers in
     subst (λ cells. CellsFit cells c.design_top-top.result) (sym c.in_ok-cells.ensures) (subst (CellsFit (edif_cells file)) (sym is_top) (cells_fit file c.requires.clean c.requires.small))
@@ -33,7 +33,7 @@ fault_of-requires-clause-fault c = subst (λ cells. IsFaultOf cells c.in-Err.fau
 
 pub returns-in-Ok : goal.returns-in-Ok
 returns-in-Ok c =
-    let file = c.args.scene.now in
+    let file = c.args.tabled.now in
     let numbers = c.as_slice-numbers.ensures.value ∙ (c.in_ok-counts.ensures ∙ ap (counts_from 0) c.marks.ensures) in
     let is_top : c.design_top-top.result ≡ edif_top file = c.design_top-top.ensures ∙ top_is file c.as_slice-numbers.result.now numbers in
     let fit : CellsFit c.in_ok-cells.cells c.design_top-top.result =
@@ -42,4 +42,4 @@ returns-in-Ok c =
     (c.in_ok-props.ensures ∙ ap (flat_map design_properties) c.requires.designs) (built_answered c.in_ok-cells.cells c.design_top-top.result c.in_ok-props.props c.in-Ok.hier fit c.in-Ok.ensures)
 
 pub returns : goal.returns
-returns c = fault_answered c.args.scene.now c.requires.clean (edif_cells c.args.scene.now) refl c.fault_of.result c.fault_of.ensures
+returns c = fault_answered c.args.tabled.now c.requires.clean (edif_cells c.args.tabled.now) refl c.fault_of.result c.fault_of.ensures

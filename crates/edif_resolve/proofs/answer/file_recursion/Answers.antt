@@ -10,7 +10,7 @@ use Rattle.edif_resolve.proofs.answer.file_recursion.Goals as goal
 pub recursion_refusal-requires-clause-fit : goal.recursion_refusal-requires-clause-fit
 recursion_refusal-requires-clause-fit c =
     subst (λ cells. (top : ℕ) × CellsFit cells top) (sym (c.items.ensures ∙ c.in_ok-cells.ensures))
-    (edif_top c.args.scene.now, cells_fit c.args.scene.now c.requires.clean c.requires.small)
+    (edif_top c.args.tabled.now, cells_fit c.args.tabled.now c.requires.clean c.requires.small)
 
 pub recursion_refusal-requires-clause-first : goal.recursion_refusal-requires-clause-first
 recursion_refusal-requires-clause-first c =

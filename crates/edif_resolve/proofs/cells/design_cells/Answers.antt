@@ -8,19 +8,19 @@ use Rattle.edif_resolve.proofs.cells.design_cells.Goals as goal
 
 pub overflow_cast-number-end : goal.overflow_cast-number-end
 overflow_cast-number-end c =
-    let e : length c.places-places.result.now ≡ length (all_cells c.args.scene.now) = sym (length-map c.places-places.result.now place_of) ∙ ap length (c.places-places.ensures ∙ ap all_cells c.tables.ensures) in
-    let f : length (all_cells c.args.scene.now) ≤ 268435456 = cells_few c.args.scene.now 268435456 c.requires.small in
+    let e : length c.places-places.result.now ≡ length (all_cells c.args.tabled.now) = sym (length-map c.places-places.result.now place_of) ∙ ap length (c.places-places.ensures ∙ ap all_cells c.tables.ensures) in
+    let f : length (all_cells c.args.tabled.now) ≤ 268435456 = cells_few c.args.tabled.now 268435456 c.requires.small in
     omega (arith, e, f)
 
 pub add_cell-requires-clause-stands : goal.add_cell-requires-clause-stands
 add_cell-requires-clause-stands c =
-    place_stands c.args.scene.now c.places-places.result.now (c.places-places.ensures ∙ ap all_cells c.tables.ensures) c.loop-number.number c.index-places-number.result (omega arith) c.index-places-number.is
+    place_stands c.args.tabled.now c.places-places.result.now (c.places-places.ensures ∙ ap all_cells c.tables.ensures) c.loop-number.number c.index-places-number.result (omega arith) c.index-places-number.is
 
 pub loop-number-preserved : goal.loop-number-preserved
 loop-number-preserved c =
-    cells_more c.args.scene.now c.args.numbers.now c.places-places.result.now (c.places-places.ensures ∙ ap all_cells c.tables.ensures) c.loop-number.number c.index-places-number.result (omega arith) c.index-places-number.is
+    cells_more c.args.tabled.now c.args.numbers.now c.places-places.result.now (c.places-places.ensures ∙ ap all_cells c.tables.ensures) c.loop-number.number c.index-places-number.result (omega arith) c.index-places-number.is
     c.loop-number.cells c.add_cell.new.cells c.loop-number.invariant c.in_ok-add_cell.ensures
 
 pub returns : goal.returns
 returns c =
-    cells_done c.args.scene.now c.args.numbers.now c.places-places.result.now (c.places-places.ensures ∙ ap all_cells c.tables.ensures) c.loop-number.number (omega arith) c.requires.numbers c.loop-number.cells c.loop-number.invariant
+    cells_done c.args.tabled.now c.args.numbers.now c.places-places.result.now (c.places-places.ensures ∙ ap all_cells c.tables.ensures) c.loop-number.number (omega arith) c.requires.numbers c.loop-number.cells c.loop-number.invariant

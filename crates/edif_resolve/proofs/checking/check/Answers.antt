@@ -11,7 +11,7 @@ returns-in-Some c = first_of_file c.args.file.now c.in-Some.refusal (sym c.in_ok
 
 pub judged-requires-clause-clean : goal.judged-requires-clause-clean
 judged-requires-clause-clean c =
-    subst (λ file. refusals file ≡ []) (sym c.in_ok-scene.ensures) (lowest_none (refusals c.args.file.now) (sym c.in_ok-refusal.ensures ∙ c.in-None.is))
+    subst (λ file. refusals file ≡ []) (sym c.in_ok-tabled.ensures) (lowest_none (refusals c.args.file.now) (sym c.in_ok-refusal.ensures ∙ c.in-None.is))
 
 pub returns : goal.returns
-returns c = subst (λ file. MatchResult c.judged.result (λ done. HasDesign file) (IsFaultOf file)) c.in_ok-scene.ensures c.judged.ensures
+returns c = subst (λ file. MatchResult c.judged.result (λ done. HasDesign file) (IsFaultOf file)) c.in_ok-tabled.ensures c.judged.ensures

@@ -6,7 +6,7 @@ use Rattle.edif_resolve.proofs.Walking.{passed_none, passed_on}
 use Rattle.edif_resolve.proofs.file.parts_refusal.Goals as goal
 
 pub loop-item-init : goal.loop-item-init
-loop-item-init c = passed_none c.args.scene.now c.new.result c.new.ensures
+loop-item-init c = passed_none c.args.tabled.now c.new.result c.new.ensures
 
 pub pass-requires-clause-few : goal.pass-requires-clause-few
 pass-requires-clause-few c =
@@ -16,4 +16,4 @@ pass-requires-clause-few c =
 
 pub loop-item-preserved : goal.loop-item-preserved
 loop-item-preserved c =
-    passed_on c.args.scene.now c.args.items.now c.loop-item.item-index c.item-item.result (omega arith) c.item-item.is c.in_ok-walk.walk (c.in_ok-walk.ensures (take c.loop-item.item-index c.args.items.now) c.loop-item.invariant)
+    passed_on c.args.tabled.now c.args.items.now c.loop-item.item-index c.item-item.result (omega arith) c.item-item.is c.in_ok-walk.walk (c.in_ok-walk.ensures (take c.loop-item.item-index c.args.items.now) c.loop-item.invariant)

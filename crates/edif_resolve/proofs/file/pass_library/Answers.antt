@@ -33,11 +33,11 @@ overflow_add-result-2 c =
 
 pub returns : goal.returns
 returns c before passed =
-    passed_library c.args.scene.now before c.args.walk passed c.args.library.now c.in_ok-taken.taken (c.in_ok-taken.ensures.known ∙ ap (λ s. is_in s c.args.walk.names) c.bytes-ident.ensures.bytes)
+    passed_library c.args.tabled.now before c.args.walk passed c.args.library.now c.in_ok-taken.taken (c.in_ok-taken.ensures.known ∙ ap (λ s. is_in s c.args.walk.names) c.bytes-ident.ensures.bytes)
     c.note.new.self (λ other. c.in_ok-taken.ensures.noted other ∙ ap (λ s. same_bytes other s || is_in other c.args.walk.names) c.bytes-ident.ensures.bytes)
     (seen c.in_ok-own.own.items) c.in_ok-own.ensures c.in_ok-second.second c.in_ok-parts.parts c.lower.result c.lower-2.result
     (c.in_ok-second.ensures ∙ ap (λ s. lowest (broken c.in_ok-taken.taken E5 [] (codes "library" ∷ (s ∷ [])))) c.bytes-ident.ensures.bytes)
-    (c.in_ok-parts.ensures ∙ ap (λ own. lowest (in_order (library_cell_refusals c.args.scene.now c.args.walk.libraries c.args.walk.cells) (seen own))) c.as_slice.ensures.value)
+    (c.in_ok-parts.ensures ∙ ap (λ own. lowest (in_order (library_cell_refusals c.args.tabled.now c.args.walk.libraries c.args.walk.cells) (seen own))) c.as_slice.ensures.value)
     c.lower.ensures c.lower-2.ensures _ _ refl
     (let e : length (seen c.in_ok-own.own.items) ≡ length c.in_ok-own.own.items = length-map c.in_ok-own.own.items (λ cell. cell.now) in
     ap (λ n. c.args.walk.cells + n) (let f : c.len.result ≡ length (seen c.in_ok-own.own.items) = omega (arith, e, c.len.ensures, c.in_ok-own.own.ok.0) in f))

@@ -6,6 +6,6 @@ use Rattle.edif_resolve.proofs.library.library_refusal.Given as goal
 
 abbrev pub invariant-loop-place : goal.invariant-loop-place
 invariant-loop-place l = record {
-  best : l.best ≡ lowest (in_order (library_cell_refusals l.scene l.library l.first) (take l.place (seen l.cells)));
+  best : l.best ≡ lowest (in_order (library_cell_refusals l.tabled l.library l.first) (take l.place (seen l.cells)));
   names : (other : List ℕ) → is_in other l.names ≡ is_in other (map cell_ident (take l.place (seen l.cells)));
 }

@@ -1,0 +1,55 @@
+-- What the walk of a cell's contents finds and keeps.
+use Rattle.std.specs.Prelude.{◌≡◌, ℕ, ◌||◌, Bool, List, [], ◌∷◌, ◌++◌, map, codes}
+use Rattle.std.specs.List.{filter_map, flat_map, list_any}
+use Rattle.nl_base.specs.Case.{same_bytes}
+use Rattle.nl_base.specs.declared.rule.Refusal.{Refusal}
+use Rattle.nl_base.specs.declared.rule.Rule.TheVariants.{E5, E12}
+use Rattle.edif_values.specs.Names.{original}
+use Rattle.edif_values.specs.declared.instance.Instance.{Instance}
+use Rattle.edif_values.specs.declared.net.Net.{Net}
+use Rattle.net_hier.specs.declared.nodes.Node.{Node}
+use Rattle.edif_lookup.specs.Refusals.{broken, is_in}
+use Rattle.edif_values.specs.declared.file.EdifFile.{EdifFile}
+use Rattle.edif_values.specs.declared.view.ContentsItem.{ContentsItem}
+use Rattle.edif_design.specs.CellRules.{bits_of_nets, inner_cell, link_refusals, same_node, view_refusals}
+use Rattle.edif_design.specs.Parts.{instance_in, net_in}
+use Rattle.edif_design.specs.References.{LinkedCell}
+use Rattle.edif_rules.specs.Breaks.{ref_breaks}
+use Rattle.edif_rules.specs.Idents.{instance_ident}
+use Rattle.edif_rules.specs.Scopes.{ScopeLists}
+use Rattle.edif_rules.specs.declared.walk.Met.{Met}
+
+-- the original name of an instance, and the identifier of a net
+abbrev pub instance_original : Instance → List ℕ
+instance_original instance = original instance.name
+
+abbrev pub net_ident : Net → List ℕ
+net_ident net = net.name.ident
+
+-- E2 to E6 and E12 of an instance, by whether its identifier and its original name are taken
+abbrev pub instance_breaks : EdifFile → ℕ → List ℕ → Bool → Bool → Instance → List Refusal
+instance_breaks file home cell ident_taken name_taken instance =
+    broken ident_taken E5 cell (codes "instance" ∷ (instance.name.ident ∷ []))
+    ++ link_refusals file home cell instance.library instance.cell
+    ++ view_refusals cell instance.view (inner_cell file home instance)
+    ++ broken name_taken E12 cell (codes "instance" ∷ (original instance.name ∷ []))
+
+-- E5 to E11 of a net, by whether its identifier is taken, and by the bits that are
+abbrev pub net_breaks : ScopeLists → List ℕ → Bool → List Node → Net → List Refusal
+net_breaks lists cell ident_taken taken net =
+    broken ident_taken E5 cell (codes "net" ∷ (net.name.ident ∷ [])) ++ flat_map (ref_breaks lists cell (original net.name) taken) net.joined
+
+-- the sets hold the names of the instances and nets before, and the bits of the nets before
+pub record HasMet (linked : LinkedCell) (before : List ContentsItem) (met : Met) : Type 0 where
+  pub instances_met : (name : List ℕ) → is_in name met.instances ≡ is_in name (map instance_ident (filter_map instance_in before))
+  pub originals_met : (name : List ℕ) → is_in name met.originals ≡ is_in name (map instance_original (filter_map instance_in before))
+  pub nets_met : (name : List ℕ) → is_in name met.nets ≡ is_in name (map net_ident (filter_map net_in before))
+  pub bits_met : (node : Node) → list_any (same_node node) met.taken ≡ list_any (same_node node) (bits_of_nets linked (filter_map net_in before))
+
+-- one more name
+abbrev pub AddsName : List (List ℕ) → List ℕ → List (List ℕ) → Type 0
+AddsName old name new = (other : List ℕ) → is_in other new ≡ (same_bytes other name || is_in other old)
+
+-- some more bits
+abbrev pub AddsBits : List Node → List Node → List Node → Type 0
+AddsBits old bits new = (other : Node) → list_any (same_node other) new ≡ list_any (same_node other) (old ++ bits)

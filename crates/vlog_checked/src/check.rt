@@ -1,0 +1,142 @@
+// The first broken rule of a file, or its modules with their tables.
+ghost use Rattle.std.specs.Prelude.{◌≡◌, ◌≤◌, ◌<◌, ◌^◌, [], bytes_eq, length, IfOk};
+ghost use Rattle.std.specs.List.{position_or_len};
+ghost use Rattle.vlog_checked.specs.Groups.{file_refusals, module_refusals};
+ghost use Rattle.vlog_checked.specs.Looks.{IsChecked};
+ghost use Rattle.vlog_checked.specs.Tabled.{CanHaveTables};
+ghost use Rattle.vlog_design.specs.Reach.{reached};
+ghost use Rattle.vlog_design.specs.Tables.{modules_of};
+ghost use Rattle.vlog_ties.specs.Ties.{modules_in};
+ghost use Rattle.vlog_values.specs.Sizes.{vlog_size};
+ghost use Rattle.vlog_values.specs.Values.{IsVlogValue};
+
+use crate::modules::{file_names, first_in_file, first_in_reached};
+use crate::tables::{first_in_tables, scopes_of};
+use nl_base::{NoMemory, Refusal};
+use std::alloc::Global;
+use vlog_design::names::Names;
+use vlog_reach::reached_modules;
+use vlog_rules::library::ModulePorts;
+use vlog_rules::passes::ModuleScope;
+use vlog_scopes::library::library_of;
+use vlog_ties::sides::{Sides, sides_of};
+use vlog_values::{Module, VlogFile};
+
+/// The modules that are reached, in file order: their names, the tables of their names, the number of the top, and at most how many
+/// joins they have.
+#[derive(Drop)]
+pub struct CleanModules<'a> {
+    /// The names of the modules.
+    pub names: Names<'a>,
+    /// The modules with the tables of their names.
+    pub scopes: Vec<ModuleScope<'a>>,
+    /// The number of the top.
+    pub top: u32,
+    /// The bits of the left sides of all that is tied, or 2^64-1 where there are more: there are no more joins.
+    pub most: u64,
+}
+
+/// What the rules say of a file.
+#[derive(Drop)]
+pub enum Checked<'a> {
+    /// The first object, in file order, that breaks the lowest broken rule.
+    Refused(Refusal),
+    /// No rule is broken.
+    Clean(CleanModules<'a>),
+}
+
+/// The number of the name, or how many names there are where it is none of them.
+fn number_in(names: &Names, name: &[u8]) -> u32
+    requires { length names.now < 2 ^ 32 }
+    ensures { result ≡ position_or_len (bytes_eq name.now) names.now }
+{
+    match names.place(name) {
+        None => names.len() as u32,
+        Some(place) => place as u32,
+    }
+}
+
+/// Tries the rules on modules with their tables.
+fn check_tables<'a>(
+    alloc: Global,
+    file: &'a VlogFile,
+    top: &[u8],
+    library: ModulePorts<'a>,
+    scopes: Vec<ModuleScope<'a>>,
+) -> Result<Checked<'a>, NoMemory>
+    requires named { file_refusals file.now top.now ≡ [] }
+    requires declared { module_refusals file.now.modules (reached file.now top.now) ≡ [] }
+    requires kept { CanHaveTables (reached file.now top.now) }
+    requires reached { modules_of library.modules.items ≡ reached file.now top.now }
+    requires tabled { modules_in scopes.items ≡ reached file.now top.now }
+    ensures { IfOk result (IsChecked file.now top.now) }
+{
+    let number = number_in(&library.names, top);
+    let tables = scopes.as_slice();
+    let sides = sides_of(alloc, &library.names, tables)?;
+    let Sides {
+        unequal,
+        loose,
+        most,
+    } = sides;
+    if let Some(refusal) = first_in_tables(alloc, &library, tables, number, unequal, loose)? {
+        return Ok(Checked::Refused(refusal));
+    }
+    Ok(Checked::Clean(CleanModules {
+        names: library.names,
+        scopes,
+        top: number,
+        most,
+    }))
+}
+
+/// Makes the tables of the reached modules, and tries the rules on them.
+fn examined_reached<'a>(
+    alloc: Global,
+    file: &'a VlogFile,
+    top: &[u8],
+    modules: Vec<&'a Module>,
+) -> Result<Checked<'a>, NoMemory>
+    requires named { file_refusals file.now top.now ≡ [] }
+    requires declared { module_refusals file.now.modules (reached file.now top.now) ≡ [] }
+    requires kept { CanHaveTables (reached file.now top.now) }
+    requires reached { modules_of modules.items ≡ reached file.now top.now }
+    ensures { IfOk result (IsChecked file.now top.now) }
+{
+    let library = library_of(alloc, modules)?;
+    let scopes = scopes_of(alloc, &library.modules)?;
+    check_tables(alloc, file, top, library, scopes)
+}
+
+/// Tries the rules on the reached modules of a file with a top, whose modules have their own names.
+fn check_modules<'a>(alloc: Global, file: &'a VlogFile, top: &[u8]) -> Result<Checked<'a>, NoMemory>
+    requires value { IsVlogValue file.now }
+    requires small { vlog_size file.now ≤ 268435456 }
+    requires named { file_refusals file.now top.now ≡ [] }
+    ensures { IfOk result (IsChecked file.now top.now) }
+{
+    let names = file_names(alloc, file)?;
+    let number = number_in(&names, top);
+    let modules = reached_modules(alloc, &names, file.modules.items(), number)?;
+    if let Some(refusal) = first_in_reached(alloc, names, file.modules.items(), &modules)? {
+        return Ok(Checked::Refused(refusal));
+    }
+    examined_reached(alloc, file, top, modules)
+}
+
+/// The first object of a file of at most 268,435,456 items that breaks the lowest broken rule under the module of this name, or the
+/// reached modules with their tables. Each table is made once.
+pub fn check_file<'a>(
+    alloc: Global,
+    file: &'a VlogFile,
+    top: &[u8],
+) -> Result<Checked<'a>, NoMemory>
+    requires value { IsVlogValue file.now }
+    requires small { vlog_size file.now ≤ 268435456 }
+    ensures { IfOk result (IsChecked file.now top.now) }
+{
+    if let Some(refusal) = first_in_file(alloc, file, top)? {
+        return Ok(Checked::Refused(refusal));
+    }
+    check_modules(alloc, file, top)
+}
