@@ -1,5 +1,5 @@
 -- A word is an allowed keyword exactly where one of those that are allowed is spelled so.
-use Rattle.std.proofs.Common.{◌≡◌, ◌∙◌, sym, ap, refl, cond, ◌||◌, Bool, true, false, ℕ, List, [], ◌∷◌, Option, Some, None}
+use Rattle.std.proofs.Common.{◌≡◌, ◌∙◌, sym, ap, subst, refl, cond, ◌||◌, Bool, true, false, ℕ, List, [], ◌∷◌, Option, Some, None}
 use Rattle.std.specs.List.{find}
 use Rattle.edif_values.specs.declared.keyword.Keyword.{Keyword}
 use Rattle.edif_values.specs.Keywords.{is_spelled, keywords, keyword_of, same_keyword, has, if_allowed, allowed_keyword}
@@ -42,3 +42,15 @@ allowed_suffice allowed word = by (keyword_of word) refl
     by : (r : Option Keyword) → keyword_of word ≡ r → find (is_spelled word) allowed ≡ if_allowed allowed r
     by None e = unspelled word e allowed
     by (Some a) e = among word a e allowed
+
+-- what is found among some is one of them
+pub allowed_is : (allowed : List Keyword) (word : List ℕ) (q : Keyword) → allowed_keyword allowed word ≡ Some q → has allowed q ≡ true
+allowed_is allowed word q e = by (keyword_of word) e
+  where
+    one : (r : Keyword) (t : Bool) → has allowed r ≡ t → cond t (Some r) None ≡ Some q → has allowed q ≡ true
+    one r true is h = let same : r ≡ q = cc in subst (λ u. has allowed u ≡ true) same is
+    one r false is h = absurd cc
+
+    by : (r : Option Keyword) → if_allowed allowed r ≡ Some q → has allowed q ≡ true
+    by None h = absurd cc
+    by (Some r) h = one r (has allowed r) refl h

@@ -121,21 +121,21 @@ kept_while {A = A} {C = C} {S = S} {Good = Good} Holds f q e round last s holds 
 
 -- ---- tokens
 
-word_is : (t : Token) (w : List ℕ) → IsProper t → say.word_of t ≡ Ok w → IsWord w
+pub word_is : (t : Token) (w : List ℕ) → IsProper t → say.word_of t ≡ Ok w → IsWord w
 word_is LeftParen w is h = absurd cc
 word_is RightParen w is h = absurd cc
 word_is (Word v) w is h = let same : v ≡ w = cc in subst IsWord same is
 word_is (Number n) w is h = absurd cc
 word_is (Str s) w is h = absurd cc
 
-string_is : (t : Token) (s : List ℕ) → IsProper t → say.string_of t ≡ Ok s → IsString s
+pub string_is : (t : Token) (s : List ℕ) → IsProper t → say.string_of t ≡ Ok s → IsString s
 string_is LeftParen s is h = absurd cc
 string_is RightParen s is h = absurd cc
 string_is (Word w) s is h = absurd cc
 string_is (Number n) s is h = absurd cc
 string_is (Str r) s is h = let same : r ≡ s = cc in subst IsString same is
 
-integer_is : (t : Token) (n : ℤ) → IsProper t → say.integer_of t ≡ Ok n → IsInteger n
+pub integer_is : (t : Token) (n : ℤ) → IsProper t → say.integer_of t ≡ Ok n → IsInteger n
 integer_is LeftParen n is h = absurd cc
 integer_is RightParen n is h = absurd cc
 integer_is (Word w) n is h = absurd cc
@@ -168,7 +168,7 @@ module _ (allowed : List Keyword) where
   by_meaning w v None h = absurd cc
   by_meaning w v (Some q) h = by_test q v w (has allowed q) refl h
 
-  keyword_is : (table : List Alias) (t : Token) (v : Keyword) → say.keyword_of allowed table t ≡ Ok v → has allowed v ≡ true
+  pub keyword_is : (table : List Alias) (t : Token) (v : Keyword) → say.keyword_of allowed table t ≡ Ok v → has allowed v ≡ true
   keyword_is table LeftParen v h = absurd cc
   keyword_is table RightParen v h = absurd cc
   keyword_is table (Word w) v h = by_meaning w v (means table w) h

@@ -12,4 +12,5 @@ pub mod Slots
 pub mod Spelled
 pub mod Tables
 pub mod Allowed
+pub mod Collected
 pub mod HeldForms

@@ -1,7 +1,9 @@
 -- A call that takes one token, and answers what it says at its place.
-use Rattle.std.proofs.Common.{◌≡◌, ◌∙◌, sym, ap, subst, refl, List, Result, Ok, Err, IsErrAnd}
+use Rattle.std.proofs.Common.{◌≡◌, ◌∙◌, sym, ap, subst, refl, ℕ, List, Result, Ok, Err, IsErrAnd}
 use Rattle.std.proofs.lemmas.Result.{err_from_is_err_and}
+use Rattle.std.specs.Prelude.{IfOk}
 use Rattle.grammar.specs.Whole.{proper}
+use Rattle.nl_base.specs.declared.place.Place.{Place}
 use Rattle.nl_base.specs.declared.fault.Reason.{Reason}
 use Rattle.nl_base.specs.declared.fault.ReadError.{ReadError}
 use Rattle.nl_base.specs.declared.fault.ReadError.TheVariants as errors
@@ -64,3 +66,8 @@ module _ {V : Type 0} (f : List Alias → Found → Result V Reason) (a b : Read
 
   pub one_fails : (e : ReadError) (s : Result V ReadError) → Reads edif same any (Err e) a b i j → IsErrAnd s (λ d. d ≡ e) → Reads edif same (one f) s a b i j
   one_fails e s h k = let p = err_from_is_err_and s k in rw (p.1, p.2) (fails e h)
+
+-- what a token says is good, where all that it may say is
+pub good_says : {V : Type 0} (Good : V → Type 0) (place : Place) (stop : ℕ) (said : Result V Reason) → ((v : V) → said ≡ Ok v → Good v) → IfOk (answer place stop said) Good
+good_says Good place stop (Ok v) good = good v refl
+good_says Good place stop (Err reason) good = tt

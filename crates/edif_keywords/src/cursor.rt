@@ -3,6 +3,7 @@ ghost use Rattle.readers.specs.Parts.{any};
 ghost use Rattle.readers.specs.Sources.{IsNear};
 ghost use Rattle.readers.specs.Readers.{same, fault_at, end_fault, spoilt, Reads, Looks, LooksAt, LooksFor, Ends, Adds};
 ghost use Rattle.grammar.specs.Whole.{proper};
+ghost use Rattle.edif_values.specs.Proper.{IsProper};
 ghost use Rattle.edif_keywords.specs.Calls.{is_unlooked, held_mark, past_mark, held_word, past_word, form_at, form_word, past_form, answer, left_after};
 ghost use Rattle.edif_keywords.specs.Language.{edif};
 ghost use Rattle.edif_keywords.specs.Reasons.{opens, has_string, trailing};
@@ -28,6 +29,7 @@ pub struct Cursor {
 
 impl Model for Cursor {
     ghost use Rattle.std.specs.Prelude.{◌≡◌, List, None, IsTrue, IfSome};
+    ghost use Rattle.edif_values.specs.Proper.{IsProper};
     ghost use Rattle.edif_tokens.specs.declared.token.Found.{Found};
     ghost use Rattle.readers.specs.Sources.{IsNear};
     ghost use Rattle.readers.specs.Readers.{Reader};
@@ -37,7 +39,7 @@ impl Model for Cursor {
 
     ghost view = { λ c. record { window = c.tokens.window; ahead = c.ahead; context = c.aliases; spent = c.spent } };
 
-    ghost invariant = { λ c. (IsTrue c.tokens.spent → IsTrue c.spent) × (IsTrue c.spent → c.ahead ≡ None) × IfSome c.ahead (λ x. IsNear c.tokens.window x.stop) };
+    ghost invariant = { λ c. (IsTrue c.tokens.spent → IsTrue c.spent) × (IsTrue c.spent → c.ahead ≡ None) × IfSome c.ahead (λ x. IsNear c.tokens.window x.stop) × IfSome c.ahead (λ x. IsProper x.token) };
 }
 
 impl Cursor {
@@ -156,6 +158,7 @@ impl Cursor {
         ensures token { self.old.ahead ≡ Some result }
         ensures left { self.new ≡ record { window = self.old.window; ahead = None; context = self.old.context; spent = self.old.spent } }
         ensures near { IsNear self.new.window result.stop }
+        ensures proper { IsProper result.token }
     {
         match self.ahead.take() {
             Some(found) => found,
@@ -172,6 +175,7 @@ impl Cursor {
     ) -> Result<Found, ReadError>
         ensures reads { Reads edif same any result self.old self.new (S.supply source.old) (S.supply source.new) }
         ensures near { IfOk result (λ x. IsNear self.new.window x.stop) }
+        ensures proper { IfOk result (λ x. IsProper x.token) }
     {
         if self.spent {
             return Err(ReadError::Spent);
@@ -247,6 +251,7 @@ impl Cursor {
     pub fn ahead(&self) -> Option<&Found>
         ensures token { option_map (λ x. x.now) result ≡ self.now.ahead }
         ensures none { IsTrue self.now.spent → IsNone result }
+        ensures proper { IfSome result (λ x. IsProper x.now.token) }
     {
         self.ahead.as_ref()
     }

@@ -5,7 +5,8 @@
 // none. Each call of `Cursor` takes one part of the grammar (a token, the beginning of a form, the header, a comment) from the tokens ahead,
 // whatever the pieces of the source, or answers that part's first fault with its place and reason; a source that fails and want of
 // memory aside, it answers nothing else. A cursor that has answered any error answers `Spent` from then on (EDIF 2 0 0, keywordMap and
-// basic syntax).
+// basic syntax). Whether or not the source tells its bytes, the words, numbers and strings that it answers are such as can be written, the
+// keywords are among those that are allowed, and a comment has fewer strings than tokens were taken.
 #![tactic(auto)]
 
 pub mod aliases;

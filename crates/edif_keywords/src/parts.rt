@@ -1,5 +1,7 @@
 // The calls that take one token, or the beginning of a form.
-ghost use Rattle.std.specs.Prelude.{◌≡◌};
+ghost use Rattle.std.specs.Prelude.{◌≡◌, true, IfOk};
+ghost use Rattle.edif_values.specs.Keywords.{has};
+ghost use Rattle.edif_values.specs.Values.{IsWord, IsInteger, IsString};
 ghost use Rattle.readers.specs.Readers.{same, Reads};
 ghost use Rattle.edif_keywords.specs.Language.{edif};
 ghost use Rattle.edif_keywords.specs.Grammar.{word, string, integer, opening, closing, choice, view_type, keyword, begin};
@@ -19,7 +21,8 @@ use std::alloc::Global;
 impl Cursor {
     /// Takes a token: a word.
     pub fn word<S: Source>(&mut self, alloc: Global, source: &mut S) -> Result<Ident, ReadError>
-        ensures { Reads edif same word result self.old self.new (S.supply source.old) (S.supply source.new) }
+        ensures reads { Reads edif same word result self.old self.new (S.supply source.old) (S.supply source.new) }
+        ensures value { IfOk result IsWord }
     {
         let held = self.held_word();
         let count = held.len();
@@ -36,7 +39,8 @@ impl Cursor {
     /// Takes any token, which has to be a word.
     #[inline(never)]
     fn word_token<S: Source>(&mut self, alloc: Global, source: &mut S) -> Result<Ident, ReadError>
-        ensures { Reads edif same word result self.old self.new (S.supply source.old) (S.supply source.new) }
+        ensures reads { Reads edif same word result self.old self.new (S.supply source.old) (S.supply source.new) }
+        ensures value { IfOk result IsWord }
     {
         let Found { place, stop, token } = self.take(alloc, source)?;
         self.judged(place, stop, word_of(token))
@@ -44,7 +48,8 @@ impl Cursor {
 
     /// Takes a token: a string.
     pub fn string<S: Source>(&mut self, alloc: Global, source: &mut S) -> Result<Text, ReadError>
-        ensures { Reads edif same string result self.old self.new (S.supply source.old) (S.supply source.new) }
+        ensures reads { Reads edif same string result self.old self.new (S.supply source.old) (S.supply source.new) }
+        ensures value { IfOk result IsString }
     {
         let Found { place, stop, token } = self.take(alloc, source)?;
         self.judged(place, stop, string_of(token))
@@ -52,7 +57,8 @@ impl Cursor {
 
     /// Takes a token: an integer.
     pub fn int<S: Source>(&mut self, alloc: Global, source: &mut S) -> Result<Int, ReadError>
-        ensures { Reads edif same integer result self.old self.new (S.supply source.old) (S.supply source.new) }
+        ensures reads { Reads edif same integer result self.old self.new (S.supply source.old) (S.supply source.new) }
+        ensures value { IfOk result IsInteger }
     {
         let Found { place, stop, token } = self.take(alloc, source)?;
         self.judged(place, stop, integer_of(token))
@@ -130,7 +136,8 @@ impl Cursor {
         allowed: &[Keyword],
         source: &mut S,
     ) -> Result<Keyword, ReadError>
-        ensures { Reads edif same (begin allowed.now) result self.old self.new (S.supply source.old) (S.supply source.new) }
+        ensures reads { Reads edif same (begin allowed.now) result self.old self.new (S.supply source.old) (S.supply source.new) }
+        ensures allowed { IfOk result (λ q. has allowed.now q ≡ true) }
     {
         let at = self.form_at();
         if at.count > 0 {
@@ -152,7 +159,8 @@ impl Cursor {
         allowed: &[Keyword],
         source: &mut S,
     ) -> Result<Keyword, ReadError>
-        ensures { Reads edif same (begin allowed.now) result self.old self.new (S.supply source.old) (S.supply source.new) }
+        ensures reads { Reads edif same (begin allowed.now) result self.old self.new (S.supply source.old) (S.supply source.new) }
+        ensures allowed { IfOk result (λ q. has allowed.now q ≡ true) }
     {
         self.begin_list(alloc, source)?;
         self.keyword(alloc, allowed, source)
@@ -165,7 +173,8 @@ impl Cursor {
         allowed: &[Keyword],
         source: &mut S,
     ) -> Result<Keyword, ReadError>
-        ensures { Reads edif same (keyword allowed.now) result self.old self.new (S.supply source.old) (S.supply source.new) }
+        ensures reads { Reads edif same (keyword allowed.now) result self.old self.new (S.supply source.old) (S.supply source.new) }
+        ensures allowed { IfOk result (λ q. has allowed.now q ≡ true) }
     {
         let held = self.held_word();
         let count = held.len();
@@ -186,7 +195,8 @@ impl Cursor {
         allowed: &[Keyword],
         source: &mut S,
     ) -> Result<Keyword, ReadError>
-        ensures { Reads edif same (keyword allowed.now) result self.old self.new (S.supply source.old) (S.supply source.new) }
+        ensures reads { Reads edif same (keyword allowed.now) result self.old self.new (S.supply source.old) (S.supply source.new) }
+        ensures allowed { IfOk result (λ q. has allowed.now q ≡ true) }
     {
         let Found { place, stop, token } = self.take(alloc, source)?;
         let said = keyword_of(allowed, &self.aliases, token);

@@ -1,12 +1,13 @@
 -- The exits of the reader of a file.
-use Rattle.std.proofs.Common.{◌≡◌, refl, sym, ap, subst, ℕ, List, [], Option, Some, None, IfSome, Result, Ok, Err, arith}
+use Rattle.std.proofs.Common.{◌≡◌, ◌+◌, ◌<◌, ◌≤◌, refl, sym, ap, subst, ℕ, List, [], Option, Some, None, IfSome, Result, Ok, Err, arith}
 use Rattle.nl_base.specs.declared.fault.ReadError.{ReadError}
 use Rattle.nl_base.specs.declared.fault.ReadError.TheVariants as errors
+use Rattle.nl_bytes.specs.declared.bytes.TheConstants.{LIMIT}
 use Rattle.edif_tokens.specs.declared.token.Found.{Found}
 use Rattle.edif_tokens.specs.Streams.{State}
 use Rattle.edif_tokens.specs.Stream as tokens
 use Rattle.nl_io.specs.Sources.{Supply}
-use Rattle.readers.specs.Readers.{Reader, ReadsWhole, Ends, same}
+use Rattle.readers.specs.Readers.{Reader, ReadsWhole, Ends, same, room}
 use Rattle.readers.specs.Texts.{ReadsText, Comes, tokens_of}
 use Rattle.readers.proofs.Moving.{skip_none}
 use Rattle.readers.proofs.Whole.{fresh, part_fails_from, end_fails_from, text_is_read_from}
@@ -54,6 +55,11 @@ module _ (a : Reader (List Alias) Found) (new : a ≡ fresh Found []) where
 
   pub ending_fails : (x : EdifFile) (e : ReadError) (b c : Reader (List Alias) Found) (i j m : Supply) → ReadsWhole edif same (file a.context) (Ok x) a b i j → Ends edif trailing (Err e) b c j m → ReadsFile (Err e) i m
   ending_fails x e b c i j m h n = end_fails_from edif trailing [] (file []) live clear same a new x e b c i j m (at_start (Ok x) b i j h) n
+
+  -- a file with no more items than room was used
+  pub within_limit : (n left : ℕ) → n + left < room a → n ≤ LIMIT
+  unfolding room
+  within_limit n left h = let whole : room a ≤ LIMIT + 1 = rw new (omega arith) in omega (arith, h, whole)
 
   pub file_is_read : (x : EdifFile) (b c : Reader (List Alias) Found) (i j m : Supply) → ReadsWhole edif same (file a.context) (Ok x) a b i j → Ends edif trailing (Ok tt) b c j m → ReadsFile (Ok x) i m
   file_is_read x b c i j m h n = text_is_read_from edif trailing [] (file []) live clear same a new x b c i j m (at_start (Ok x) b i j h) n

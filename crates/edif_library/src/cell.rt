@@ -1,8 +1,12 @@
-ghost use Rattle.std.specs.Prelude.{◌≡◌, ◌||◌, [], ◌∷◌};
-ghost use Rattle.readers.specs.Readers.{same, Reads};
+ghost use Rattle.std.specs.Prelude.{◌≡◌, ◌||◌, ◌+◌, ◌<◌, ◌≤◌, [], ◌∷◌, true, false, length, IfOk};
+ghost use Rattle.std.specs.List.{AllByRecursion, filter};
+ghost use Rattle.readers.specs.Readers.{same, Reads, room};
 ghost use Rattle.edif_keywords.specs.Language.{edif};
 ghost use Rattle.edif_keywords.specs.Grammar.{item};
-ghost use Rattle.edif_values.specs.Values.{is_view};
+ghost use Rattle.edif_values.specs.declared.keyword.Keyword.TheVariants as k;
+ghost use Rattle.edif_values.specs.Keywords.{same_keyword};
+ghost use Rattle.edif_values.specs.Values.{is_view, IsCellItem, IsCell};
+ghost use Rattle.edif_values.specs.Sizes.{list_size, cell_item_size, cell_size};
 ghost use Rattle.edif_library.specs.Grammar.{cell_view, cell_property, cell_status, cell_note, cell_item, cell_keywords, cell_rest, cell_type, cell};
 
 use crate::view::read_view;
@@ -15,13 +19,14 @@ use nl_io::Source;
 use std::alloc::Global;
 
 /// Reads on after the keyword `cell`.
-#[tactic(auto, using(readers::proofs::Reading::sequences), unfolding(crate::specs::Grammar::cell))]
 pub(crate) fn read_cell<S: Source>(
     alloc: Global,
     cursor: &mut Cursor,
     source: &mut S,
 ) -> Result<Cell, ReadError>
-    ensures { Reads edif same cell result cursor.old cursor.new (S.supply source.old) (S.supply source.new) }
+    ensures reads { Reads edif same cell result cursor.old cursor.new (S.supply source.old) (S.supply source.new) }
+    ensures value { IfOk result IsCell }
+    ensures size { IfOk result (λ c. cell_size c + room cursor.new < room cursor.old) }
 {
     let name = read_name(alloc, cursor, source)?;
     let kind = cell_type(alloc, cursor, source)?;
@@ -53,13 +58,15 @@ fn cell_type<S: Source>(
 }
 
 /// Reads the parts of a cell up to its `)`. A view may stand there once.
-#[tactic(auto, using(crate::proofs::Once::cell_loops), unfolding(crate::specs::Grammar::cell_rest))]
 fn cell_rest<S: Source>(
     alloc: Global,
     cursor: &mut Cursor,
     source: &mut S,
 ) -> Result<Seq<CellItem>, ReadError>
-    ensures { Reads edif same (cell_rest []) result cursor.old cursor.new (S.supply source.old) (S.supply source.new) }
+    ensures reads { Reads edif same (cell_rest []) result cursor.old cursor.new (S.supply source.old) (S.supply source.new) }
+    ensures value { IfOk result (λ is. AllByRecursion IsCellItem is) }
+    ensures once { IfOk result (λ is. length (filter is_view is) ≤ 1) }
+    ensures size { IfOk result (λ is. list_size cell_item_size is + room cursor.new < room cursor.old) }
 {
     let mut items = Seq::empty(alloc);
     let mut viewed = false;
@@ -83,14 +90,16 @@ fn is_viewed(so_far: bool, item: &CellItem) -> bool
 }
 
 /// Reads a part of a cell, from its `(` on.
-#[tactic(auto, using(readers::proofs::Reading::sequences))]
 fn cell_item<S: Source>(
     alloc: Global,
     cursor: &mut Cursor,
     viewed: bool,
     source: &mut S,
 ) -> Result<CellItem, ReadError>
-    ensures { Reads edif same (item (cell_keywords viewed) cell_item) result cursor.old cursor.new (S.supply source.old) (S.supply source.new) }
+    ensures reads { Reads edif same (item (cell_keywords viewed) cell_item) result cursor.old cursor.new (S.supply source.old) (S.supply source.new) }
+    ensures value { IfOk result IsCellItem }
+    ensures once { IfOk result (λ i. viewed ≡ true → is_view i ≡ false) }
+    ensures size { IfOk result (λ i. cell_item_size i + room cursor.new < room cursor.old) }
 {
     let keyword = cursor.begin(alloc, cell_keywords(viewed), source)?;
     cell_form(alloc, cursor, keyword, source)
@@ -119,14 +128,16 @@ fn cell_keywords(viewed: bool) -> &'static [Keyword]
 }
 
 /// Reads on after the keyword of a part of a cell.
-#[tactic(auto, using(readers::proofs::Reading::sequences))]
 fn cell_form<S: Source>(
     alloc: Global,
     cursor: &mut Cursor,
     keyword: Keyword,
     source: &mut S,
 ) -> Result<CellItem, ReadError>
-    ensures { Reads edif same (cell_item keyword) result cursor.old cursor.new (S.supply source.old) (S.supply source.new) }
+    ensures reads { Reads edif same (cell_item keyword) result cursor.old cursor.new (S.supply source.old) (S.supply source.new) }
+    ensures value { IfOk result IsCellItem }
+    ensures kind { IfOk result (λ i. is_view i ≡ same_keyword keyword k.View) }
+    ensures size { IfOk result (λ i. cell_item_size i + room cursor.new < room cursor.old) }
 {
     if same_keyword(keyword, Keyword::View) {
         return cell_view(alloc, cursor, source);
@@ -140,50 +151,58 @@ fn cell_form<S: Source>(
     cell_note(alloc, cursor, keyword, source)
 }
 
-#[tactic(auto, using(readers::proofs::Reading::sequences), unfolding(crate::specs::Grammar::cell_view))]
 fn cell_view<S: Source>(
     alloc: Global,
     cursor: &mut Cursor,
     source: &mut S,
 ) -> Result<CellItem, ReadError>
-    ensures { Reads edif same cell_view result cursor.old cursor.new (S.supply source.old) (S.supply source.new) }
+    ensures reads { Reads edif same cell_view result cursor.old cursor.new (S.supply source.old) (S.supply source.new) }
+    ensures value { IfOk result IsCellItem }
+    ensures kind { IfOk result (λ i. is_view i ≡ true) }
+    ensures size { IfOk result (λ i. cell_item_size i + room cursor.new < room cursor.old) }
 {
     let view = read_view(alloc, cursor, source)?;
     Ok(CellItem::View(view))
 }
 
-#[tactic(auto, using(readers::proofs::Reading::sequences), unfolding(crate::specs::Grammar::cell_property))]
 fn cell_property<S: Source>(
     alloc: Global,
     cursor: &mut Cursor,
     source: &mut S,
 ) -> Result<CellItem, ReadError>
-    ensures { Reads edif same cell_property result cursor.old cursor.new (S.supply source.old) (S.supply source.new) }
+    ensures reads { Reads edif same cell_property result cursor.old cursor.new (S.supply source.old) (S.supply source.new) }
+    ensures value { IfOk result IsCellItem }
+    ensures kind { IfOk result (λ i. is_view i ≡ false) }
+    ensures size { IfOk result (λ i. cell_item_size i + room cursor.new < room cursor.old) }
 {
     let property = read_property(alloc, cursor, source)?;
     Ok(CellItem::Property(property))
 }
 
-#[tactic(auto, using(readers::proofs::Reading::sequences), unfolding(crate::specs::Grammar::cell_status))]
 fn cell_status<S: Source>(
     alloc: Global,
     cursor: &mut Cursor,
     source: &mut S,
 ) -> Result<CellItem, ReadError>
-    ensures { Reads edif same cell_status result cursor.old cursor.new (S.supply source.old) (S.supply source.new) }
+    ensures reads { Reads edif same cell_status result cursor.old cursor.new (S.supply source.old) (S.supply source.new) }
+    ensures value { IfOk result IsCellItem }
+    ensures kind { IfOk result (λ i. is_view i ≡ false) }
+    ensures size { IfOk result (λ i. cell_item_size i + room cursor.new < room cursor.old) }
 {
     let status = read_status(alloc, cursor, source)?;
     Ok(CellItem::Status(status))
 }
 
-#[tactic(auto, using(readers::proofs::Reading::sequences), unfolding(crate::specs::Grammar::cell_note))]
 fn cell_note<S: Source>(
     alloc: Global,
     cursor: &mut Cursor,
     keyword: Keyword,
     source: &mut S,
 ) -> Result<CellItem, ReadError>
-    ensures { Reads edif same (cell_note keyword) result cursor.old cursor.new (S.supply source.old) (S.supply source.new) }
+    ensures reads { Reads edif same (cell_note keyword) result cursor.old cursor.new (S.supply source.old) (S.supply source.new) }
+    ensures value { IfOk result IsCellItem }
+    ensures kind { IfOk result (λ i. is_view i ≡ false) }
+    ensures size { IfOk result (λ i. cell_item_size i + room cursor.new < room cursor.old) }
 {
     let note = read_note(alloc, cursor, keyword, source)?;
     Ok(CellItem::Note(note))

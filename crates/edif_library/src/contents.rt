@@ -1,8 +1,11 @@
 // The reader of contents.
-ghost use Rattle.std.specs.Prelude.{[], ◌∷◌};
-ghost use Rattle.readers.specs.Readers.{same, Reads};
+ghost use Rattle.std.specs.Prelude.{◌+◌, ◌<◌, [], ◌∷◌, IfOk};
+ghost use Rattle.std.specs.List.{AllByRecursion};
+ghost use Rattle.readers.specs.Readers.{same, Reads, room};
 ghost use Rattle.edif_keywords.specs.Language.{edif};
 ghost use Rattle.edif_keywords.specs.Grammar.{item};
+ghost use Rattle.edif_values.specs.Values.{IsContentsItem};
+ghost use Rattle.edif_values.specs.Sizes.{list_size, contents_item_size};
 ghost use Rattle.edif_library.specs.Grammar.{contents_instance, contents_net, contents_note, contents_item, contents_keywords, contents_rest};
 
 use edif_keywords::Cursor;
@@ -14,13 +17,14 @@ use nl_io::Source;
 use std::alloc::Global;
 
 /// Reads on after the keyword `contents`, up to its `)` (EDIF 2 0 0, contents).
-#[tactic(auto, using(edif_keywords::proofs::Forms::item_loops), unfolding(crate::specs::Grammar::contents_rest))]
 pub(crate) fn read_contents<S: Source>(
     alloc: Global,
     cursor: &mut Cursor,
     source: &mut S,
 ) -> Result<Seq<ContentsItem>, ReadError>
-    ensures { Reads edif same (contents_rest []) result cursor.old cursor.new (S.supply source.old) (S.supply source.new) }
+    ensures reads { Reads edif same (contents_rest []) result cursor.old cursor.new (S.supply source.old) (S.supply source.new) }
+    ensures value { IfOk result (λ is. AllByRecursion IsContentsItem is) }
+    ensures size { IfOk result (λ is. list_size contents_item_size is + room cursor.new < room cursor.old) }
 {
     let mut items = Seq::empty(alloc);
     while cursor.at_form(alloc, source)? {
@@ -38,7 +42,9 @@ fn contents_item<S: Source>(
     cursor: &mut Cursor,
     source: &mut S,
 ) -> Result<ContentsItem, ReadError>
-    ensures { Reads edif same (item contents_keywords contents_item) result cursor.old cursor.new (S.supply source.old) (S.supply source.new) }
+    ensures reads { Reads edif same (item contents_keywords contents_item) result cursor.old cursor.new (S.supply source.old) (S.supply source.new) }
+    ensures value { IfOk result IsContentsItem }
+    ensures size { IfOk result (λ i. contents_item_size i + room cursor.new < room cursor.old) }
 {
     let keyword = cursor.begin(
         alloc,
@@ -54,14 +60,15 @@ fn contents_item<S: Source>(
 }
 
 /// Reads on after the keyword of a part of contents.
-#[tactic(auto, using(readers::proofs::Reading::sequences))]
 fn contents_form<S: Source>(
     alloc: Global,
     cursor: &mut Cursor,
     keyword: Keyword,
     source: &mut S,
 ) -> Result<ContentsItem, ReadError>
-    ensures { Reads edif same (contents_item keyword) result cursor.old cursor.new (S.supply source.old) (S.supply source.new) }
+    ensures reads { Reads edif same (contents_item keyword) result cursor.old cursor.new (S.supply source.old) (S.supply source.new) }
+    ensures value { IfOk result IsContentsItem }
+    ensures size { IfOk result (λ i. contents_item_size i + room cursor.new < room cursor.old) }
 {
     if same_keyword(keyword, Keyword::Instance) {
         return contents_instance(alloc, cursor, source);
@@ -72,25 +79,27 @@ fn contents_form<S: Source>(
     contents_note(alloc, cursor, keyword, source)
 }
 
-#[tactic(auto, using(readers::proofs::Reading::sequences), unfolding(crate::specs::Grammar::contents_instance))]
 fn contents_instance<S: Source>(
     alloc: Global,
     cursor: &mut Cursor,
     source: &mut S,
 ) -> Result<ContentsItem, ReadError>
-    ensures { Reads edif same contents_instance result cursor.old cursor.new (S.supply source.old) (S.supply source.new) }
+    ensures reads { Reads edif same contents_instance result cursor.old cursor.new (S.supply source.old) (S.supply source.new) }
+    ensures value { IfOk result IsContentsItem }
+    ensures size { IfOk result (λ i. contents_item_size i + room cursor.new < room cursor.old) }
 {
     let instance = read_instance(alloc, cursor, source)?;
     Ok(ContentsItem::Instance(instance))
 }
 
-#[tactic(auto, using(readers::proofs::Reading::sequences), unfolding(crate::specs::Grammar::contents_net))]
 fn contents_net<S: Source>(
     alloc: Global,
     cursor: &mut Cursor,
     source: &mut S,
 ) -> Result<ContentsItem, ReadError>
-    ensures { Reads edif same contents_net result cursor.old cursor.new (S.supply source.old) (S.supply source.new) }
+    ensures reads { Reads edif same contents_net result cursor.old cursor.new (S.supply source.old) (S.supply source.new) }
+    ensures value { IfOk result IsContentsItem }
+    ensures size { IfOk result (λ i. contents_item_size i + room cursor.new < room cursor.old) }
 {
     let net = read_net(alloc, cursor, source)?;
     Ok(ContentsItem::Net(net))
@@ -103,7 +112,9 @@ fn contents_note<S: Source>(
     keyword: Keyword,
     source: &mut S,
 ) -> Result<ContentsItem, ReadError>
-    ensures { Reads edif same (contents_note keyword) result cursor.old cursor.new (S.supply source.old) (S.supply source.new) }
+    ensures reads { Reads edif same (contents_note keyword) result cursor.old cursor.new (S.supply source.old) (S.supply source.new) }
+    ensures value { IfOk result IsContentsItem }
+    ensures size { IfOk result (λ i. contents_item_size i + room cursor.new < room cursor.old) }
 {
     let note = read_note(alloc, cursor, keyword, source)?;
     Ok(ContentsItem::Note(note))

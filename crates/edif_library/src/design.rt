@@ -1,8 +1,11 @@
 // The reader of a design.
-ghost use Rattle.std.specs.Prelude.{[], ◌∷◌};
-ghost use Rattle.readers.specs.Readers.{same, Reads};
+ghost use Rattle.std.specs.Prelude.{◌+◌, ◌<◌, [], ◌∷◌, IfOk};
+ghost use Rattle.std.specs.List.{AllByRecursion};
+ghost use Rattle.readers.specs.Readers.{same, Reads, room};
 ghost use Rattle.edif_keywords.specs.Language.{edif};
 ghost use Rattle.edif_keywords.specs.Grammar.{item};
+ghost use Rattle.edif_values.specs.Values.{IsWord, IsDesignItem, IsDesign};
+ghost use Rattle.edif_values.specs.Sizes.{list_size, design_item_size, design_size};
 ghost use Rattle.edif_library.specs.Grammar.{library_ref, cell_ref, design_property, design_status, design_note, design_item, design_keywords, design_rest, design};
 
 use edif_keywords::Cursor;
@@ -14,13 +17,14 @@ use nl_io::Source;
 use std::alloc::Global;
 
 /// Reads on after the keyword `design`.
-#[tactic(auto, using(readers::proofs::Reading::sequences), unfolding(crate::specs::Grammar::design))]
 pub(crate) fn read_design<S: Source>(
     alloc: Global,
     cursor: &mut Cursor,
     source: &mut S,
 ) -> Result<Design, ReadError>
-    ensures { Reads edif same design result cursor.old cursor.new (S.supply source.old) (S.supply source.new) }
+    ensures reads { Reads edif same design result cursor.old cursor.new (S.supply source.old) (S.supply source.new) }
+    ensures value { IfOk result IsDesign }
+    ensures size { IfOk result (λ d. design_size d + room cursor.new < room cursor.old) }
 {
     let name = read_name(alloc, cursor, source)?;
     let (cell, library) = cell_ref(alloc, cursor, source)?;
@@ -34,13 +38,13 @@ pub(crate) fn read_design<S: Source>(
 }
 
 /// Reads a `cellRef` with its library, from its `(` on: the words for the cell and the library.
-#[tactic(auto, using(readers::proofs::Reading::sequences), unfolding(crate::specs::Grammar::cell_ref))]
 fn cell_ref<S: Source>(
     alloc: Global,
     cursor: &mut Cursor,
     source: &mut S,
 ) -> Result<(Ident, Ident), ReadError>
-    ensures { Reads edif same cell_ref result cursor.old cursor.new (S.supply source.old) (S.supply source.new) }
+    ensures reads { Reads edif same cell_ref result cursor.old cursor.new (S.supply source.old) (S.supply source.new) }
+    ensures value { IfOk result (λ c. IsWord c.0 × IsWord c.1) }
 {
     cursor.begin(alloc, &[Keyword::CellRef], source)?;
     let cell = cursor.word(alloc, source)?;
@@ -50,13 +54,13 @@ fn cell_ref<S: Source>(
 }
 
 /// Reads a `libraryRef`, from its `(` on.
-#[tactic(auto, using(readers::proofs::Reading::sequences), unfolding(crate::specs::Grammar::library_ref))]
 fn library_ref<S: Source>(
     alloc: Global,
     cursor: &mut Cursor,
     source: &mut S,
 ) -> Result<Ident, ReadError>
-    ensures { Reads edif same library_ref result cursor.old cursor.new (S.supply source.old) (S.supply source.new) }
+    ensures reads { Reads edif same library_ref result cursor.old cursor.new (S.supply source.old) (S.supply source.new) }
+    ensures value { IfOk result IsWord }
 {
     cursor.begin(alloc, &[Keyword::LibraryRef], source)?;
     let word = cursor.word(alloc, source)?;
@@ -65,13 +69,14 @@ fn library_ref<S: Source>(
 }
 
 /// Reads the properties, status and notes of a design up to its `)`.
-#[tactic(auto, using(edif_keywords::proofs::Forms::item_loops), unfolding(crate::specs::Grammar::design_rest))]
 fn design_rest<S: Source>(
     alloc: Global,
     cursor: &mut Cursor,
     source: &mut S,
 ) -> Result<Seq<DesignItem>, ReadError>
-    ensures { Reads edif same (design_rest []) result cursor.old cursor.new (S.supply source.old) (S.supply source.new) }
+    ensures reads { Reads edif same (design_rest []) result cursor.old cursor.new (S.supply source.old) (S.supply source.new) }
+    ensures value { IfOk result (λ is. AllByRecursion IsDesignItem is) }
+    ensures size { IfOk result (λ is. list_size design_item_size is + room cursor.new < room cursor.old) }
 {
     let mut items = Seq::empty(alloc);
     while cursor.at_form(alloc, source)? {
@@ -83,13 +88,14 @@ fn design_rest<S: Source>(
 }
 
 /// Reads a part of a design, from its `(` on.
-#[tactic(auto, using(readers::proofs::Reading::sequences))]
 fn design_item<S: Source>(
     alloc: Global,
     cursor: &mut Cursor,
     source: &mut S,
 ) -> Result<DesignItem, ReadError>
-    ensures { Reads edif same (item design_keywords design_item) result cursor.old cursor.new (S.supply source.old) (S.supply source.new) }
+    ensures reads { Reads edif same (item design_keywords design_item) result cursor.old cursor.new (S.supply source.old) (S.supply source.new) }
+    ensures value { IfOk result IsDesignItem }
+    ensures size { IfOk result (λ i. design_item_size i + room cursor.new < room cursor.old) }
 {
     let keyword = cursor.begin(
         alloc,
@@ -105,14 +111,15 @@ fn design_item<S: Source>(
 }
 
 /// Reads on after the keyword of a part of a design.
-#[tactic(auto, using(readers::proofs::Reading::sequences))]
 fn design_form<S: Source>(
     alloc: Global,
     cursor: &mut Cursor,
     keyword: Keyword,
     source: &mut S,
 ) -> Result<DesignItem, ReadError>
-    ensures { Reads edif same (design_item keyword) result cursor.old cursor.new (S.supply source.old) (S.supply source.new) }
+    ensures reads { Reads edif same (design_item keyword) result cursor.old cursor.new (S.supply source.old) (S.supply source.new) }
+    ensures value { IfOk result IsDesignItem }
+    ensures size { IfOk result (λ i. design_item_size i + room cursor.new < room cursor.old) }
 {
     if same_keyword(keyword, Keyword::Property) {
         return design_property(alloc, cursor, source);
@@ -123,38 +130,41 @@ fn design_form<S: Source>(
     design_note(alloc, cursor, keyword, source)
 }
 
-#[tactic(auto, using(readers::proofs::Reading::sequences), unfolding(crate::specs::Grammar::design_property))]
 fn design_property<S: Source>(
     alloc: Global,
     cursor: &mut Cursor,
     source: &mut S,
 ) -> Result<DesignItem, ReadError>
-    ensures { Reads edif same design_property result cursor.old cursor.new (S.supply source.old) (S.supply source.new) }
+    ensures reads { Reads edif same design_property result cursor.old cursor.new (S.supply source.old) (S.supply source.new) }
+    ensures value { IfOk result IsDesignItem }
+    ensures size { IfOk result (λ i. design_item_size i + room cursor.new < room cursor.old) }
 {
     let property = read_property(alloc, cursor, source)?;
     Ok(DesignItem::Property(property))
 }
 
-#[tactic(auto, using(readers::proofs::Reading::sequences), unfolding(crate::specs::Grammar::design_status))]
 fn design_status<S: Source>(
     alloc: Global,
     cursor: &mut Cursor,
     source: &mut S,
 ) -> Result<DesignItem, ReadError>
-    ensures { Reads edif same design_status result cursor.old cursor.new (S.supply source.old) (S.supply source.new) }
+    ensures reads { Reads edif same design_status result cursor.old cursor.new (S.supply source.old) (S.supply source.new) }
+    ensures value { IfOk result IsDesignItem }
+    ensures size { IfOk result (λ i. design_item_size i + room cursor.new < room cursor.old) }
 {
     let status = read_status(alloc, cursor, source)?;
     Ok(DesignItem::Status(status))
 }
 
-#[tactic(auto, using(readers::proofs::Reading::sequences), unfolding(crate::specs::Grammar::design_note))]
 fn design_note<S: Source>(
     alloc: Global,
     cursor: &mut Cursor,
     keyword: Keyword,
     source: &mut S,
 ) -> Result<DesignItem, ReadError>
-    ensures { Reads edif same (design_note keyword) result cursor.old cursor.new (S.supply source.old) (S.supply source.new) }
+    ensures reads { Reads edif same (design_note keyword) result cursor.old cursor.new (S.supply source.old) (S.supply source.new) }
+    ensures value { IfOk result IsDesignItem }
+    ensures size { IfOk result (λ i. design_item_size i + room cursor.new < room cursor.old) }
 {
     let note = read_note(alloc, cursor, keyword, source)?;
     Ok(DesignItem::Note(note))

@@ -1,9 +1,13 @@
-ghost use Rattle.std.specs.Prelude.{[], ◌∷◌};
-ghost use Rattle.readers.specs.Readers.{same, Reads, ReadsWhole};
+ghost use Rattle.std.specs.Prelude.{◌+◌, ◌<◌, ◌≤◌, [], ◌∷◌, IfOk};
+ghost use Rattle.std.specs.List.{AllByRecursion};
+ghost use Rattle.readers.specs.Readers.{same, Reads, ReadsWhole, room};
 ghost use Rattle.edif_keywords.specs.Language.{edif};
 ghost use Rattle.readers.specs.Texts.{ReadsText};
 ghost use Rattle.edif_keywords.specs.Reasons.{trailing};
 ghost use Rattle.edif_keywords.specs.Grammar.{item};
+ghost use Rattle.nl_bytes.specs.declared.bytes.TheConstants.{LIMIT};
+ghost use Rattle.edif_values.specs.Values.{IsNameDef, IsFileItem, IsEdifValue};
+ghost use Rattle.edif_values.specs.Sizes.{list_size, file_item_size, edif_size};
 ghost use Rattle.edif_library.specs.Grammar.{file_library, file_design, file_status, file_note, file_item, file_keywords, file_rest, file_body, file};
 
 use crate::design::read_design;
@@ -18,13 +22,16 @@ use nl_io::Source;
 use std::alloc::Global;
 
 /// Reads a text to its end as an EDIF file. The text has at most 268,435,456 bytes. Whatever it answers, at
-/// most 4,096 bytes more than these are taken from the source.
+/// most 4,096 bytes more than these are taken from the source. From every source, whether it tells its bytes
+/// or not, a file that is answered can be written and has at most 268,435,456 items in all its lists.
 ///
 /// # Errors
 /// `Text`: the first fault, with its place, where its stop lies within so many bytes. `TooLong`: the text is longer, and it has no such
 /// fault. `ReadFault`: the source failed. `NoMemory`: memory ran out. It never answers `Spent`.
 pub fn read_edif<S: Source>(alloc: Global, source: &mut S) -> Result<EdifFile, ReadError>
-    ensures { ReadsText edif trailing [] same (file []) result (S.supply source.old) (S.supply source.new) }
+    ensures reads { ReadsText edif trailing [] same (file []) result (S.supply source.old) (S.supply source.new) }
+    ensures value { IfOk result IsEdifValue }
+    ensures size { IfOk result (λ file. edif_size file ≤ LIMIT) }
 {
     let Ok(tokens) = Tokens::new(alloc) else {
         return Err(ReadError::NoMemory);
@@ -42,7 +49,9 @@ fn read_file<S: Source>(
     cursor: &mut Cursor,
     source: &mut S,
 ) -> Result<EdifFile, ReadError>
-    ensures { ReadsWhole edif same (file cursor.old.context) result cursor.old cursor.new (S.supply source.old) (S.supply source.new) }
+    ensures reads { ReadsWhole edif same (file cursor.old.context) result cursor.old cursor.new (S.supply source.old) (S.supply source.new) }
+    ensures value { IfOk result IsEdifValue }
+    ensures size { IfOk result (λ f. edif_size f + room cursor.new < room cursor.old) }
 {
     cursor.begin(alloc, &[Keyword::Edif], source)?;
     let name = read_name(alloc, cursor, source)?;
@@ -51,27 +60,30 @@ fn read_file<S: Source>(
 }
 
 /// Reads on after the header of a file of this name.
-#[tactic(auto, using(readers::proofs::Reading::sequences), unfolding(crate::specs::Grammar::file_body))]
 fn file_body<S: Source>(
     alloc: Global,
     cursor: &mut Cursor,
     name: NameDef,
     source: &mut S,
 ) -> Result<EdifFile, ReadError>
-    ensures { Reads edif same (file_body name) result cursor.old cursor.new (S.supply source.old) (S.supply source.new) }
+    requires { IsNameDef name }
+    ensures reads { Reads edif same (file_body name) result cursor.old cursor.new (S.supply source.old) (S.supply source.new) }
+    ensures value { IfOk result IsEdifValue }
+    ensures size { IfOk result (λ f. edif_size f + room cursor.new < room cursor.old) }
 {
     let items = file_rest(alloc, cursor, source)?;
     Ok(EdifFile { name, items })
 }
 
 /// Reads the parts of a file up to its `)`.
-#[tactic(auto, using(edif_keywords::proofs::Forms::item_loops), unfolding(crate::specs::Grammar::file_rest))]
 fn file_rest<S: Source>(
     alloc: Global,
     cursor: &mut Cursor,
     source: &mut S,
 ) -> Result<Seq<FileItem>, ReadError>
-    ensures { Reads edif same (file_rest []) result cursor.old cursor.new (S.supply source.old) (S.supply source.new) }
+    ensures reads { Reads edif same (file_rest []) result cursor.old cursor.new (S.supply source.old) (S.supply source.new) }
+    ensures value { IfOk result (λ is. AllByRecursion IsFileItem is) }
+    ensures size { IfOk result (λ is. list_size file_item_size is + room cursor.new < room cursor.old) }
 {
     let mut items = Seq::empty(alloc);
     while cursor.at_form(alloc, source)? {
@@ -83,13 +95,14 @@ fn file_rest<S: Source>(
 }
 
 /// Reads a part of a file, from its `(` on.
-#[tactic(auto, using(readers::proofs::Reading::sequences))]
 fn file_item<S: Source>(
     alloc: Global,
     cursor: &mut Cursor,
     source: &mut S,
 ) -> Result<FileItem, ReadError>
-    ensures { Reads edif same (item file_keywords file_item) result cursor.old cursor.new (S.supply source.old) (S.supply source.new) }
+    ensures reads { Reads edif same (item file_keywords file_item) result cursor.old cursor.new (S.supply source.old) (S.supply source.new) }
+    ensures value { IfOk result IsFileItem }
+    ensures size { IfOk result (λ i. file_item_size i + room cursor.new < room cursor.old) }
 {
     let keyword = cursor.begin(
         alloc,
@@ -107,14 +120,15 @@ fn file_item<S: Source>(
 }
 
 /// Reads on after the keyword of a part of a file.
-#[tactic(auto, using(readers::proofs::Reading::sequences))]
 fn file_form<S: Source>(
     alloc: Global,
     cursor: &mut Cursor,
     keyword: Keyword,
     source: &mut S,
 ) -> Result<FileItem, ReadError>
-    ensures { Reads edif same (file_item keyword) result cursor.old cursor.new (S.supply source.old) (S.supply source.new) }
+    ensures reads { Reads edif same (file_item keyword) result cursor.old cursor.new (S.supply source.old) (S.supply source.new) }
+    ensures value { IfOk result IsFileItem }
+    ensures size { IfOk result (λ i. file_item_size i + room cursor.new < room cursor.old) }
 {
     if same_keyword(keyword, Keyword::Library) {
         return file_library(alloc, cursor, false, source);
@@ -131,51 +145,55 @@ fn file_form<S: Source>(
     file_note(alloc, cursor, keyword, source)
 }
 
-#[tactic(auto, using(readers::proofs::Reading::sequences), unfolding(crate::specs::Grammar::file_library))]
 fn file_library<S: Source>(
     alloc: Global,
     cursor: &mut Cursor,
     external: bool,
     source: &mut S,
 ) -> Result<FileItem, ReadError>
-    ensures { Reads edif same (file_library external) result cursor.old cursor.new (S.supply source.old) (S.supply source.new) }
+    ensures reads { Reads edif same (file_library external) result cursor.old cursor.new (S.supply source.old) (S.supply source.new) }
+    ensures value { IfOk result IsFileItem }
+    ensures size { IfOk result (λ i. file_item_size i + room cursor.new < room cursor.old) }
 {
     let library = read_library(alloc, cursor, external, source)?;
     Ok(FileItem::Library(library))
 }
 
-#[tactic(auto, using(readers::proofs::Reading::sequences), unfolding(crate::specs::Grammar::file_design))]
 fn file_design<S: Source>(
     alloc: Global,
     cursor: &mut Cursor,
     source: &mut S,
 ) -> Result<FileItem, ReadError>
-    ensures { Reads edif same file_design result cursor.old cursor.new (S.supply source.old) (S.supply source.new) }
+    ensures reads { Reads edif same file_design result cursor.old cursor.new (S.supply source.old) (S.supply source.new) }
+    ensures value { IfOk result IsFileItem }
+    ensures size { IfOk result (λ i. file_item_size i + room cursor.new < room cursor.old) }
 {
     let design = read_design(alloc, cursor, source)?;
     Ok(FileItem::Design(design))
 }
 
-#[tactic(auto, using(readers::proofs::Reading::sequences), unfolding(crate::specs::Grammar::file_status))]
 fn file_status<S: Source>(
     alloc: Global,
     cursor: &mut Cursor,
     source: &mut S,
 ) -> Result<FileItem, ReadError>
-    ensures { Reads edif same file_status result cursor.old cursor.new (S.supply source.old) (S.supply source.new) }
+    ensures reads { Reads edif same file_status result cursor.old cursor.new (S.supply source.old) (S.supply source.new) }
+    ensures value { IfOk result IsFileItem }
+    ensures size { IfOk result (λ i. file_item_size i + room cursor.new < room cursor.old) }
 {
     let status = read_status(alloc, cursor, source)?;
     Ok(FileItem::Status(status))
 }
 
-#[tactic(auto, using(readers::proofs::Reading::sequences), unfolding(crate::specs::Grammar::file_note))]
 fn file_note<S: Source>(
     alloc: Global,
     cursor: &mut Cursor,
     keyword: Keyword,
     source: &mut S,
 ) -> Result<FileItem, ReadError>
-    ensures { Reads edif same (file_note keyword) result cursor.old cursor.new (S.supply source.old) (S.supply source.new) }
+    ensures reads { Reads edif same (file_note keyword) result cursor.old cursor.new (S.supply source.old) (S.supply source.new) }
+    ensures value { IfOk result IsFileItem }
+    ensures size { IfOk result (λ i. file_item_size i + room cursor.new < room cursor.old) }
 {
     let note = read_note(alloc, cursor, keyword, source)?;
     Ok(FileItem::Note(note))

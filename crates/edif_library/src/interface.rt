@@ -1,8 +1,11 @@
 // The readers of interfaces and of contents.
-ghost use Rattle.std.specs.Prelude.{[], ◌∷◌};
-ghost use Rattle.readers.specs.Readers.{same, Reads};
+ghost use Rattle.std.specs.Prelude.{◌+◌, ◌<◌, [], ◌∷◌, IfOk};
+ghost use Rattle.std.specs.List.{AllByRecursion};
+ghost use Rattle.readers.specs.Readers.{same, Reads, room};
 ghost use Rattle.edif_keywords.specs.Language.{edif};
 ghost use Rattle.edif_keywords.specs.Grammar.{item};
+ghost use Rattle.edif_values.specs.Values.{IsInterfaceItem};
+ghost use Rattle.edif_values.specs.Sizes.{list_size, interface_item_size};
 ghost use Rattle.edif_library.specs.Grammar.{interface_port, interface_property, interface_designator, interface_note, interface_item, interface_keywords, interface_rest, interface};
 
 use edif_keywords::Cursor;
@@ -15,26 +18,28 @@ use nl_io::Source;
 use std::alloc::Global;
 
 /// Reads an interface, from its `(` on (EDIF 2 0 0, interface).
-#[tactic(auto, using(readers::proofs::Reading::sequences), unfolding(crate::specs::Grammar::interface))]
 pub(crate) fn read_interface<S: Source>(
     alloc: Global,
     cursor: &mut Cursor,
     source: &mut S,
 ) -> Result<Seq<InterfaceItem>, ReadError>
-    ensures { Reads edif same interface result cursor.old cursor.new (S.supply source.old) (S.supply source.new) }
+    ensures reads { Reads edif same interface result cursor.old cursor.new (S.supply source.old) (S.supply source.new) }
+    ensures value { IfOk result (λ is. AllByRecursion IsInterfaceItem is) }
+    ensures size { IfOk result (λ is. list_size interface_item_size is + room cursor.new < room cursor.old) }
 {
     cursor.begin(alloc, &[Keyword::Interface], source)?;
     interface_rest(alloc, cursor, source)
 }
 
 /// Reads the parts of an interface up to its `)`.
-#[tactic(auto, using(edif_keywords::proofs::Forms::item_loops), unfolding(crate::specs::Grammar::interface_rest))]
 fn interface_rest<S: Source>(
     alloc: Global,
     cursor: &mut Cursor,
     source: &mut S,
 ) -> Result<Seq<InterfaceItem>, ReadError>
-    ensures { Reads edif same (interface_rest []) result cursor.old cursor.new (S.supply source.old) (S.supply source.new) }
+    ensures reads { Reads edif same (interface_rest []) result cursor.old cursor.new (S.supply source.old) (S.supply source.new) }
+    ensures value { IfOk result (λ is. AllByRecursion IsInterfaceItem is) }
+    ensures size { IfOk result (λ is. list_size interface_item_size is + room cursor.new < room cursor.old) }
 {
     let mut items = Seq::empty(alloc);
     while cursor.at_form(alloc, source)? {
@@ -46,13 +51,14 @@ fn interface_rest<S: Source>(
 }
 
 /// Reads a part of an interface, from its `(` on.
-#[tactic(auto, using(readers::proofs::Reading::sequences))]
 fn interface_item<S: Source>(
     alloc: Global,
     cursor: &mut Cursor,
     source: &mut S,
 ) -> Result<InterfaceItem, ReadError>
-    ensures { Reads edif same (item interface_keywords interface_item) result cursor.old cursor.new (S.supply source.old) (S.supply source.new) }
+    ensures reads { Reads edif same (item interface_keywords interface_item) result cursor.old cursor.new (S.supply source.old) (S.supply source.new) }
+    ensures value { IfOk result IsInterfaceItem }
+    ensures size { IfOk result (λ i. interface_item_size i + room cursor.new < room cursor.old) }
 {
     let keyword = cursor.begin(
         alloc,
@@ -69,14 +75,15 @@ fn interface_item<S: Source>(
 }
 
 /// Reads on after the keyword of a part of an interface.
-#[tactic(auto, using(readers::proofs::Reading::sequences))]
 fn interface_form<S: Source>(
     alloc: Global,
     cursor: &mut Cursor,
     keyword: Keyword,
     source: &mut S,
 ) -> Result<InterfaceItem, ReadError>
-    ensures { Reads edif same (interface_item keyword) result cursor.old cursor.new (S.supply source.old) (S.supply source.new) }
+    ensures reads { Reads edif same (interface_item keyword) result cursor.old cursor.new (S.supply source.old) (S.supply source.new) }
+    ensures value { IfOk result IsInterfaceItem }
+    ensures size { IfOk result (λ i. interface_item_size i + room cursor.new < room cursor.old) }
 {
     if same_keyword(keyword, Keyword::Port) {
         return interface_port(alloc, cursor, source);
@@ -90,50 +97,54 @@ fn interface_form<S: Source>(
     interface_note(alloc, cursor, keyword, source)
 }
 
-#[tactic(auto, using(readers::proofs::Reading::sequences), unfolding(crate::specs::Grammar::interface_port))]
 fn interface_port<S: Source>(
     alloc: Global,
     cursor: &mut Cursor,
     source: &mut S,
 ) -> Result<InterfaceItem, ReadError>
-    ensures { Reads edif same interface_port result cursor.old cursor.new (S.supply source.old) (S.supply source.new) }
+    ensures reads { Reads edif same interface_port result cursor.old cursor.new (S.supply source.old) (S.supply source.new) }
+    ensures value { IfOk result IsInterfaceItem }
+    ensures size { IfOk result (λ i. interface_item_size i + room cursor.new < room cursor.old) }
 {
     let port = read_port(alloc, cursor, source)?;
     Ok(InterfaceItem::Port(port))
 }
 
-#[tactic(auto, using(readers::proofs::Reading::sequences), unfolding(crate::specs::Grammar::interface_property))]
 fn interface_property<S: Source>(
     alloc: Global,
     cursor: &mut Cursor,
     source: &mut S,
 ) -> Result<InterfaceItem, ReadError>
-    ensures { Reads edif same interface_property result cursor.old cursor.new (S.supply source.old) (S.supply source.new) }
+    ensures reads { Reads edif same interface_property result cursor.old cursor.new (S.supply source.old) (S.supply source.new) }
+    ensures value { IfOk result IsInterfaceItem }
+    ensures size { IfOk result (λ i. interface_item_size i + room cursor.new < room cursor.old) }
 {
     let property = read_property(alloc, cursor, source)?;
     Ok(InterfaceItem::Property(property))
 }
 
-#[tactic(auto, using(readers::proofs::Reading::sequences), unfolding(crate::specs::Grammar::interface_designator))]
 fn interface_designator<S: Source>(
     alloc: Global,
     cursor: &mut Cursor,
     source: &mut S,
 ) -> Result<InterfaceItem, ReadError>
-    ensures { Reads edif same interface_designator result cursor.old cursor.new (S.supply source.old) (S.supply source.new) }
+    ensures reads { Reads edif same interface_designator result cursor.old cursor.new (S.supply source.old) (S.supply source.new) }
+    ensures value { IfOk result IsInterfaceItem }
+    ensures size { IfOk result (λ i. interface_item_size i + room cursor.new < room cursor.old) }
 {
     let text = read_designator(alloc, cursor, source)?;
     Ok(InterfaceItem::Designator(text))
 }
 
-#[tactic(auto, using(readers::proofs::Reading::sequences), unfolding(crate::specs::Grammar::interface_note))]
 fn interface_note<S: Source>(
     alloc: Global,
     cursor: &mut Cursor,
     keyword: Keyword,
     source: &mut S,
 ) -> Result<InterfaceItem, ReadError>
-    ensures { Reads edif same (interface_note keyword) result cursor.old cursor.new (S.supply source.old) (S.supply source.new) }
+    ensures reads { Reads edif same (interface_note keyword) result cursor.old cursor.new (S.supply source.old) (S.supply source.new) }
+    ensures value { IfOk result IsInterfaceItem }
+    ensures size { IfOk result (λ i. interface_item_size i + room cursor.new < room cursor.old) }
 {
     let note = read_note(alloc, cursor, keyword, source)?;
     Ok(InterfaceItem::Note(note))

@@ -4,7 +4,9 @@
 // by the grammar in `specs/Grammar.antt`; a text fault only where the bytes have that first fault, with its place and its reason; and
 // `TooLong` only where more bytes are given than are looked at and no first fault lies within those. A source that fails and want of
 // memory aside, it answers nothing else, and at a fault at most 4,096 bytes past its stop were taken. `laws` has it that these are three
-// cases: a text reads as at most one file, has at most one first fault, and never both. The types and `edif_size` are those of
+// cases: a text reads as at most one file, has at most one first fault, and never both. Whatever the source, also one that does not tell its
+// bytes, a file that is answered can be written and has at most 268,435,456 items in all its lists: each reader of a part says that its value
+// can be written, and that the items in all its lists are fewer than the tokens that it took. The types and `edif_size` are those of
 // `edif_values`.
 #![tactic(auto)]
 

@@ -1,7 +1,10 @@
-ghost use Rattle.std.specs.Prelude.{[], ◌∷◌};
-ghost use Rattle.readers.specs.Readers.{same, Reads};
+ghost use Rattle.std.specs.Prelude.{◌+◌, ◌<◌, [], ◌∷◌, IfOk};
+ghost use Rattle.std.specs.List.{AllByRecursion};
+ghost use Rattle.readers.specs.Readers.{same, Reads, room};
 ghost use Rattle.edif_keywords.specs.Language.{edif};
 ghost use Rattle.edif_keywords.specs.Grammar.{item};
+ghost use Rattle.edif_values.specs.Values.{IsLibraryItem, IsLibrary};
+ghost use Rattle.edif_values.specs.Sizes.{list_size, library_item_size, library_size};
 ghost use Rattle.edif_library.specs.Grammar.{library_cell, library_status, library_note, library_item, library_keywords, library_rest, library};
 
 use crate::cell::read_cell;
@@ -15,14 +18,15 @@ use nl_io::Source;
 use std::alloc::Global;
 
 /// Reads on after the keyword `library`, or `external`.
-#[tactic(auto, using(readers::proofs::Reading::sequences), unfolding(crate::specs::Grammar::library))]
 pub(crate) fn read_library<S: Source>(
     alloc: Global,
     cursor: &mut Cursor,
     external: bool,
     source: &mut S,
 ) -> Result<Library, ReadError>
-    ensures { Reads edif same (library external) result cursor.old cursor.new (S.supply source.old) (S.supply source.new) }
+    ensures reads { Reads edif same (library external) result cursor.old cursor.new (S.supply source.old) (S.supply source.new) }
+    ensures value { IfOk result IsLibrary }
+    ensures size { IfOk result (λ l. library_size l + room cursor.new < room cursor.old) }
 {
     let name = read_name(alloc, cursor, source)?;
     cursor.level(alloc, source)?;
@@ -38,13 +42,14 @@ pub(crate) fn read_library<S: Source>(
 }
 
 /// Reads the cells, status and notes of a library up to its `)`.
-#[tactic(auto, using(edif_keywords::proofs::Forms::item_loops), unfolding(crate::specs::Grammar::library_rest))]
 fn library_rest<S: Source>(
     alloc: Global,
     cursor: &mut Cursor,
     source: &mut S,
 ) -> Result<Seq<LibraryItem>, ReadError>
-    ensures { Reads edif same (library_rest []) result cursor.old cursor.new (S.supply source.old) (S.supply source.new) }
+    ensures reads { Reads edif same (library_rest []) result cursor.old cursor.new (S.supply source.old) (S.supply source.new) }
+    ensures value { IfOk result (λ is. AllByRecursion IsLibraryItem is) }
+    ensures size { IfOk result (λ is. list_size library_item_size is + room cursor.new < room cursor.old) }
 {
     let mut items = Seq::empty(alloc);
     while cursor.at_form(alloc, source)? {
@@ -56,13 +61,14 @@ fn library_rest<S: Source>(
 }
 
 /// Reads a part of a library, from its `(` on.
-#[tactic(auto, using(readers::proofs::Reading::sequences))]
 fn library_item<S: Source>(
     alloc: Global,
     cursor: &mut Cursor,
     source: &mut S,
 ) -> Result<LibraryItem, ReadError>
-    ensures { Reads edif same (item library_keywords library_item) result cursor.old cursor.new (S.supply source.old) (S.supply source.new) }
+    ensures reads { Reads edif same (item library_keywords library_item) result cursor.old cursor.new (S.supply source.old) (S.supply source.new) }
+    ensures value { IfOk result IsLibraryItem }
+    ensures size { IfOk result (λ i. library_item_size i + room cursor.new < room cursor.old) }
 {
     let keyword = cursor.begin(
         alloc,
@@ -78,14 +84,15 @@ fn library_item<S: Source>(
 }
 
 /// Reads on after the keyword of a part of a library.
-#[tactic(auto, using(readers::proofs::Reading::sequences))]
 fn library_form<S: Source>(
     alloc: Global,
     cursor: &mut Cursor,
     keyword: Keyword,
     source: &mut S,
 ) -> Result<LibraryItem, ReadError>
-    ensures { Reads edif same (library_item keyword) result cursor.old cursor.new (S.supply source.old) (S.supply source.new) }
+    ensures reads { Reads edif same (library_item keyword) result cursor.old cursor.new (S.supply source.old) (S.supply source.new) }
+    ensures value { IfOk result IsLibraryItem }
+    ensures size { IfOk result (λ i. library_item_size i + room cursor.new < room cursor.old) }
 {
     if same_keyword(keyword, Keyword::Cell) {
         return library_cell(alloc, cursor, source);
@@ -96,38 +103,41 @@ fn library_form<S: Source>(
     library_note(alloc, cursor, keyword, source)
 }
 
-#[tactic(auto, using(readers::proofs::Reading::sequences), unfolding(crate::specs::Grammar::library_cell))]
 fn library_cell<S: Source>(
     alloc: Global,
     cursor: &mut Cursor,
     source: &mut S,
 ) -> Result<LibraryItem, ReadError>
-    ensures { Reads edif same library_cell result cursor.old cursor.new (S.supply source.old) (S.supply source.new) }
+    ensures reads { Reads edif same library_cell result cursor.old cursor.new (S.supply source.old) (S.supply source.new) }
+    ensures value { IfOk result IsLibraryItem }
+    ensures size { IfOk result (λ i. library_item_size i + room cursor.new < room cursor.old) }
 {
     let cell = read_cell(alloc, cursor, source)?;
     Ok(LibraryItem::Cell(cell))
 }
 
-#[tactic(auto, using(readers::proofs::Reading::sequences), unfolding(crate::specs::Grammar::library_status))]
 fn library_status<S: Source>(
     alloc: Global,
     cursor: &mut Cursor,
     source: &mut S,
 ) -> Result<LibraryItem, ReadError>
-    ensures { Reads edif same library_status result cursor.old cursor.new (S.supply source.old) (S.supply source.new) }
+    ensures reads { Reads edif same library_status result cursor.old cursor.new (S.supply source.old) (S.supply source.new) }
+    ensures value { IfOk result IsLibraryItem }
+    ensures size { IfOk result (λ i. library_item_size i + room cursor.new < room cursor.old) }
 {
     let status = read_status(alloc, cursor, source)?;
     Ok(LibraryItem::Status(status))
 }
 
-#[tactic(auto, using(readers::proofs::Reading::sequences), unfolding(crate::specs::Grammar::library_note))]
 fn library_note<S: Source>(
     alloc: Global,
     cursor: &mut Cursor,
     keyword: Keyword,
     source: &mut S,
 ) -> Result<LibraryItem, ReadError>
-    ensures { Reads edif same (library_note keyword) result cursor.old cursor.new (S.supply source.old) (S.supply source.new) }
+    ensures reads { Reads edif same (library_note keyword) result cursor.old cursor.new (S.supply source.old) (S.supply source.new) }
+    ensures value { IfOk result IsLibraryItem }
+    ensures size { IfOk result (λ i. library_item_size i + room cursor.new < room cursor.old) }
 {
     let note = read_note(alloc, cursor, keyword, source)?;
     Ok(LibraryItem::Note(note))

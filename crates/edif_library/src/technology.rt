@@ -1,10 +1,13 @@
 // The reader of a technology.
-ghost use Rattle.std.specs.Prelude.{[], ◌∷◌};
-ghost use Rattle.readers.specs.Readers.{same, Reads};
+ghost use Rattle.std.specs.Prelude.{◌+◌, ◌<◌, [], ◌∷◌, length, IfOk};
+ghost use Rattle.std.specs.List.{AllByRecursion};
+ghost use Rattle.readers.specs.Readers.{same, Reads, room};
 ghost use Rattle.edif_keywords.specs.Language.{edif};
 ghost use Rattle.edif_values.specs.declared.keyword.Keyword.TheVariants as k;
 ghost use Rattle.edif_keywords.specs.Grammar.{item};
 ghost use Rattle.edif_status.specs.Grammar.{note, note_keywords};
+ghost use Rattle.edif_values.specs.Values.{IsWord, IsNote, IsScale};
+ghost use Rattle.edif_values.specs.Sizes.{list_size, note_size};
 ghost use Rattle.edif_library.specs.Grammar.{unit, scale, scales_rest, notes_rest, number_definition, technology};
 
 use edif_keywords::Cursor;
@@ -16,13 +19,14 @@ use nl_io::Source;
 use std::alloc::Global;
 
 /// Reads a `technology`, from its `(` on: its scales and its notes.
-#[tactic(auto, using(readers::proofs::Reading::sequences), unfolding(crate::specs::Grammar::technology))]
 pub(crate) fn read_technology<S: Source>(
     alloc: Global,
     cursor: &mut Cursor,
     source: &mut S,
 ) -> Result<(Seq<Scale>, Seq<Note>), ReadError>
-    ensures { Reads edif same technology result cursor.old cursor.new (S.supply source.old) (S.supply source.new) }
+    ensures reads { Reads edif same technology result cursor.old cursor.new (S.supply source.old) (S.supply source.new) }
+    ensures value { IfOk result (λ t. AllByRecursion IsScale t.0 × AllByRecursion IsNote t.1) }
+    ensures size { IfOk result (λ t. list_size note_size t.1 + length t.0 + room cursor.new < room cursor.old) }
 {
     cursor.begin(alloc, &[Keyword::Technology], source)?;
     let scales = number_definition(alloc, cursor, source)?;
@@ -31,26 +35,28 @@ pub(crate) fn read_technology<S: Source>(
 }
 
 /// Reads a `numberDefinition`, from its `(` on.
-#[tactic(auto, using(readers::proofs::Reading::sequences), unfolding(crate::specs::Grammar::number_definition))]
 fn number_definition<S: Source>(
     alloc: Global,
     cursor: &mut Cursor,
     source: &mut S,
 ) -> Result<Seq<Scale>, ReadError>
-    ensures { Reads edif same number_definition result cursor.old cursor.new (S.supply source.old) (S.supply source.new) }
+    ensures reads { Reads edif same number_definition result cursor.old cursor.new (S.supply source.old) (S.supply source.new) }
+    ensures value { IfOk result (λ ss. AllByRecursion IsScale ss) }
+    ensures size { IfOk result (λ ss. length ss + room cursor.new < room cursor.old) }
 {
     cursor.begin(alloc, &[Keyword::NumberDefinition], source)?;
     scales_rest(alloc, cursor, source)
 }
 
 /// Reads scales up to the `)` of their form.
-#[tactic(auto, using(edif_keywords::proofs::Forms::item_loops), unfolding(crate::specs::Grammar::scales_rest))]
 fn scales_rest<S: Source>(
     alloc: Global,
     cursor: &mut Cursor,
     source: &mut S,
 ) -> Result<Seq<Scale>, ReadError>
-    ensures { Reads edif same (scales_rest []) result cursor.old cursor.new (S.supply source.old) (S.supply source.new) }
+    ensures reads { Reads edif same (scales_rest []) result cursor.old cursor.new (S.supply source.old) (S.supply source.new) }
+    ensures value { IfOk result (λ ss. AllByRecursion IsScale ss) }
+    ensures size { IfOk result (λ ss. length ss + room cursor.new < room cursor.old) }
 {
     let mut items = Seq::empty(alloc);
     while cursor.at_form(alloc, source)? {
@@ -62,22 +68,22 @@ fn scales_rest<S: Source>(
 }
 
 /// Reads a scale, from its `(` on.
-#[tactic(auto, using(readers::proofs::Reading::sequences))]
 fn scale_item<S: Source>(
     alloc: Global,
     cursor: &mut Cursor,
     source: &mut S,
 ) -> Result<Scale, ReadError>
-    ensures { Reads edif same (item (k.Scale ∷ []) (λ _. scale)) result cursor.old cursor.new (S.supply source.old) (S.supply source.new) }
+    ensures reads { Reads edif same (item (k.Scale ∷ []) (λ _. scale)) result cursor.old cursor.new (S.supply source.old) (S.supply source.new) }
+    ensures value { IfOk result IsScale }
 {
     cursor.begin(alloc, &[Keyword::Scale], source)?;
     scale(alloc, cursor, source)
 }
 
 /// Reads on after the keyword `scale`.
-#[tactic(auto, using(readers::proofs::Reading::sequences), unfolding(crate::specs::Grammar::scale))]
 fn scale<S: Source>(alloc: Global, cursor: &mut Cursor, source: &mut S) -> Result<Scale, ReadError>
-    ensures { Reads edif same scale result cursor.old cursor.new (S.supply source.old) (S.supply source.new) }
+    ensures reads { Reads edif same scale result cursor.old cursor.new (S.supply source.old) (S.supply source.new) }
+    ensures value { IfOk result IsScale }
 {
     let left = read_scaled(alloc, cursor, source)?;
     let right = read_scaled(alloc, cursor, source)?;
@@ -87,9 +93,9 @@ fn scale<S: Source>(alloc: Global, cursor: &mut Cursor, source: &mut S) -> Resul
 }
 
 /// Reads a `unit`, from its `(` on.
-#[tactic(auto, using(readers::proofs::Reading::sequences), unfolding(crate::specs::Grammar::unit))]
 fn unit<S: Source>(alloc: Global, cursor: &mut Cursor, source: &mut S) -> Result<Ident, ReadError>
-    ensures { Reads edif same unit result cursor.old cursor.new (S.supply source.old) (S.supply source.new) }
+    ensures reads { Reads edif same unit result cursor.old cursor.new (S.supply source.old) (S.supply source.new) }
+    ensures value { IfOk result IsWord }
 {
     cursor.begin(alloc, &[Keyword::Unit], source)?;
     let word = cursor.word(alloc, source)?;
@@ -98,13 +104,14 @@ fn unit<S: Source>(alloc: Global, cursor: &mut Cursor, source: &mut S) -> Result
 }
 
 /// Reads notes up to the `)` of the form around them.
-#[tactic(auto, using(edif_keywords::proofs::Forms::item_loops), unfolding(crate::specs::Grammar::notes_rest))]
 fn notes_rest<S: Source>(
     alloc: Global,
     cursor: &mut Cursor,
     source: &mut S,
 ) -> Result<Seq<Note>, ReadError>
-    ensures { Reads edif same (notes_rest []) result cursor.old cursor.new (S.supply source.old) (S.supply source.new) }
+    ensures reads { Reads edif same (notes_rest []) result cursor.old cursor.new (S.supply source.old) (S.supply source.new) }
+    ensures value { IfOk result (λ ns. AllByRecursion IsNote ns) }
+    ensures size { IfOk result (λ ns. list_size note_size ns + room cursor.new < room cursor.old) }
 {
     let mut items = Seq::empty(alloc);
     while cursor.at_form(alloc, source)? {
@@ -116,13 +123,14 @@ fn notes_rest<S: Source>(
 }
 
 /// Reads a note, from its `(` on.
-#[tactic(auto, using(readers::proofs::Reading::sequences))]
 fn note_item<S: Source>(
     alloc: Global,
     cursor: &mut Cursor,
     source: &mut S,
 ) -> Result<Note, ReadError>
-    ensures { Reads edif same (item note_keywords note) result cursor.old cursor.new (S.supply source.old) (S.supply source.new) }
+    ensures reads { Reads edif same (item note_keywords note) result cursor.old cursor.new (S.supply source.old) (S.supply source.new) }
+    ensures value { IfOk result IsNote }
+    ensures size { IfOk result (λ n. note_size n + room cursor.new < room cursor.old) }
 {
     let keyword = cursor.begin(alloc, &[Keyword::Comment, Keyword::UserData], source)?;
     read_note(alloc, cursor, keyword, source)

@@ -1,8 +1,12 @@
-ghost use Rattle.std.specs.Prelude.{◌≡◌, ◌||◌, [], ◌∷◌};
-ghost use Rattle.readers.specs.Readers.{same, Reads};
+ghost use Rattle.std.specs.Prelude.{◌≡◌, ◌||◌, ◌+◌, ◌<◌, ◌≤◌, [], ◌∷◌, true, false, length, IfOk};
+ghost use Rattle.std.specs.List.{AllByRecursion, filter};
+ghost use Rattle.readers.specs.Readers.{same, Reads, room};
 ghost use Rattle.edif_keywords.specs.Language.{edif};
 ghost use Rattle.edif_keywords.specs.Grammar.{item};
-ghost use Rattle.edif_values.specs.Values.{is_contents};
+ghost use Rattle.edif_values.specs.declared.keyword.Keyword.TheVariants as k;
+ghost use Rattle.edif_values.specs.Keywords.{same_keyword};
+ghost use Rattle.edif_values.specs.Values.{is_contents, IsViewItem, IsView};
+ghost use Rattle.edif_values.specs.Sizes.{list_size, view_item_size, view_size};
 ghost use Rattle.edif_library.specs.Grammar.{view_contents, view_property, view_status, view_note, view_item, view_keywords, view_rest, netlist, view};
 
 use crate::contents::read_contents;
@@ -16,13 +20,14 @@ use nl_io::Source;
 use std::alloc::Global;
 
 /// Reads on after the keyword `view`.
-#[tactic(auto, using(readers::proofs::Reading::sequences), unfolding(crate::specs::Grammar::view))]
 pub(crate) fn read_view<S: Source>(
     alloc: Global,
     cursor: &mut Cursor,
     source: &mut S,
 ) -> Result<View, ReadError>
-    ensures { Reads edif same view result cursor.old cursor.new (S.supply source.old) (S.supply source.new) }
+    ensures reads { Reads edif same view result cursor.old cursor.new (S.supply source.old) (S.supply source.new) }
+    ensures value { IfOk result IsView }
+    ensures size { IfOk result (λ v. view_size v + room cursor.new < room cursor.old) }
 {
     let name = read_name(alloc, cursor, source)?;
     netlist(alloc, cursor, source)?;
@@ -46,13 +51,15 @@ fn netlist<S: Source>(alloc: Global, cursor: &mut Cursor, source: &mut S) -> Res
 }
 
 /// Reads the parts of a view up to its `)`. Contents may stand there once.
-#[tactic(auto, using(crate::proofs::Once::view_loops), unfolding(crate::specs::Grammar::view_rest))]
 fn view_rest<S: Source>(
     alloc: Global,
     cursor: &mut Cursor,
     source: &mut S,
 ) -> Result<Seq<ViewItem>, ReadError>
-    ensures { Reads edif same (view_rest []) result cursor.old cursor.new (S.supply source.old) (S.supply source.new) }
+    ensures reads { Reads edif same (view_rest []) result cursor.old cursor.new (S.supply source.old) (S.supply source.new) }
+    ensures value { IfOk result (λ is. AllByRecursion IsViewItem is) }
+    ensures once { IfOk result (λ is. length (filter is_contents is) ≤ 1) }
+    ensures size { IfOk result (λ is. list_size view_item_size is + room cursor.new < room cursor.old) }
 {
     let mut items = Seq::empty(alloc);
     let mut filled = false;
@@ -76,14 +83,16 @@ fn is_filled(so_far: bool, item: &ViewItem) -> bool
 }
 
 /// Reads a part of a view, from its `(` on.
-#[tactic(auto, using(readers::proofs::Reading::sequences))]
 fn view_item<S: Source>(
     alloc: Global,
     cursor: &mut Cursor,
     filled: bool,
     source: &mut S,
 ) -> Result<ViewItem, ReadError>
-    ensures { Reads edif same (item (view_keywords filled) view_item) result cursor.old cursor.new (S.supply source.old) (S.supply source.new) }
+    ensures reads { Reads edif same (item (view_keywords filled) view_item) result cursor.old cursor.new (S.supply source.old) (S.supply source.new) }
+    ensures value { IfOk result IsViewItem }
+    ensures once { IfOk result (λ i. filled ≡ true → is_contents i ≡ false) }
+    ensures size { IfOk result (λ i. view_item_size i + room cursor.new < room cursor.old) }
 {
     let keyword = cursor.begin(alloc, view_keywords(filled), source)?;
     view_form(alloc, cursor, keyword, source)
@@ -112,14 +121,16 @@ fn view_keywords(filled: bool) -> &'static [Keyword]
 }
 
 /// Reads on after the keyword of a part of a view.
-#[tactic(auto, using(readers::proofs::Reading::sequences))]
 fn view_form<S: Source>(
     alloc: Global,
     cursor: &mut Cursor,
     keyword: Keyword,
     source: &mut S,
 ) -> Result<ViewItem, ReadError>
-    ensures { Reads edif same (view_item keyword) result cursor.old cursor.new (S.supply source.old) (S.supply source.new) }
+    ensures reads { Reads edif same (view_item keyword) result cursor.old cursor.new (S.supply source.old) (S.supply source.new) }
+    ensures value { IfOk result IsViewItem }
+    ensures kind { IfOk result (λ i. is_contents i ≡ same_keyword keyword k.Contents) }
+    ensures size { IfOk result (λ i. view_item_size i + room cursor.new < room cursor.old) }
 {
     if same_keyword(keyword, Keyword::Contents) {
         return view_contents(alloc, cursor, source);
@@ -139,44 +150,53 @@ fn view_contents<S: Source>(
     cursor: &mut Cursor,
     source: &mut S,
 ) -> Result<ViewItem, ReadError>
-    ensures { Reads edif same view_contents result cursor.old cursor.new (S.supply source.old) (S.supply source.new) }
+    ensures reads { Reads edif same view_contents result cursor.old cursor.new (S.supply source.old) (S.supply source.new) }
+    ensures value { IfOk result IsViewItem }
+    ensures kind { IfOk result (λ i. is_contents i ≡ true) }
+    ensures size { IfOk result (λ i. view_item_size i + room cursor.new < room cursor.old) }
 {
     let items = read_contents(alloc, cursor, source)?;
     Ok(ViewItem::Contents(items))
 }
 
-#[tactic(auto, using(readers::proofs::Reading::sequences), unfolding(crate::specs::Grammar::view_property))]
 fn view_property<S: Source>(
     alloc: Global,
     cursor: &mut Cursor,
     source: &mut S,
 ) -> Result<ViewItem, ReadError>
-    ensures { Reads edif same view_property result cursor.old cursor.new (S.supply source.old) (S.supply source.new) }
+    ensures reads { Reads edif same view_property result cursor.old cursor.new (S.supply source.old) (S.supply source.new) }
+    ensures value { IfOk result IsViewItem }
+    ensures kind { IfOk result (λ i. is_contents i ≡ false) }
+    ensures size { IfOk result (λ i. view_item_size i + room cursor.new < room cursor.old) }
 {
     let property = read_property(alloc, cursor, source)?;
     Ok(ViewItem::Property(property))
 }
 
-#[tactic(auto, using(readers::proofs::Reading::sequences), unfolding(crate::specs::Grammar::view_status))]
 fn view_status<S: Source>(
     alloc: Global,
     cursor: &mut Cursor,
     source: &mut S,
 ) -> Result<ViewItem, ReadError>
-    ensures { Reads edif same view_status result cursor.old cursor.new (S.supply source.old) (S.supply source.new) }
+    ensures reads { Reads edif same view_status result cursor.old cursor.new (S.supply source.old) (S.supply source.new) }
+    ensures value { IfOk result IsViewItem }
+    ensures kind { IfOk result (λ i. is_contents i ≡ false) }
+    ensures size { IfOk result (λ i. view_item_size i + room cursor.new < room cursor.old) }
 {
     let status = read_status(alloc, cursor, source)?;
     Ok(ViewItem::Status(status))
 }
 
-#[tactic(auto, using(readers::proofs::Reading::sequences), unfolding(crate::specs::Grammar::view_note))]
 fn view_note<S: Source>(
     alloc: Global,
     cursor: &mut Cursor,
     keyword: Keyword,
     source: &mut S,
 ) -> Result<ViewItem, ReadError>
-    ensures { Reads edif same (view_note keyword) result cursor.old cursor.new (S.supply source.old) (S.supply source.new) }
+    ensures reads { Reads edif same (view_note keyword) result cursor.old cursor.new (S.supply source.old) (S.supply source.new) }
+    ensures value { IfOk result IsViewItem }
+    ensures kind { IfOk result (λ i. is_contents i ≡ false) }
+    ensures size { IfOk result (λ i. view_item_size i + room cursor.new < room cursor.old) }
 {
     let note = read_note(alloc, cursor, keyword, source)?;
     Ok(ViewItem::Note(note))

@@ -1,3 +1,5 @@
+ghost use Rattle.std.specs.Prelude.{IfOk};
+ghost use Rattle.edif_values.specs.Values.{IsNameDef, IsPortName};
 ghost use Rattle.readers.specs.Readers.{same, Reads};
 ghost use Rattle.edif_keywords.specs.Language.{edif};
 ghost use Rattle.edif_names.specs.Grammar.{renamed, plain, name, array, renamed_port, plain_port, port_form, port_name};
@@ -15,7 +17,8 @@ pub fn read_name<S: Source>(
     cursor: &mut Cursor,
     source: &mut S,
 ) -> Result<NameDef, ReadError>
-    ensures { Reads edif same name result cursor.old cursor.new (S.supply source.old) (S.supply source.new) }
+    ensures reads { Reads edif same name result cursor.old cursor.new (S.supply source.old) (S.supply source.new) }
+    ensures value { IfOk result IsNameDef }
 {
     if cursor.at_form(alloc, source)? {
         cursor.begin(alloc, &[Keyword::Rename], source)?;
@@ -31,7 +34,8 @@ fn renamed<S: Source>(
     cursor: &mut Cursor,
     source: &mut S,
 ) -> Result<NameDef, ReadError>
-    ensures { Reads edif same renamed result cursor.old cursor.new (S.supply source.old) (S.supply source.new) }
+    ensures reads { Reads edif same renamed result cursor.old cursor.new (S.supply source.old) (S.supply source.new) }
+    ensures value { IfOk result IsNameDef }
 {
     let ident = cursor.word(alloc, source)?;
     let text = cursor.string(alloc, source)?;
@@ -48,7 +52,8 @@ fn plain<S: Source>(
     cursor: &mut Cursor,
     source: &mut S,
 ) -> Result<NameDef, ReadError>
-    ensures { Reads edif same plain result cursor.old cursor.new (S.supply source.old) (S.supply source.new) }
+    ensures reads { Reads edif same plain result cursor.old cursor.new (S.supply source.old) (S.supply source.new) }
+    ensures value { IfOk result IsNameDef }
 {
     let ident = cursor.word(alloc, source)?;
     Ok(NameDef { ident, text: None })
@@ -61,7 +66,8 @@ pub fn read_port_name<S: Source>(
     cursor: &mut Cursor,
     source: &mut S,
 ) -> Result<PortName, ReadError>
-    ensures { Reads edif same port_name result cursor.old cursor.new (S.supply source.old) (S.supply source.new) }
+    ensures reads { Reads edif same port_name result cursor.old cursor.new (S.supply source.old) (S.supply source.new) }
+    ensures value { IfOk result IsPortName }
 {
     if cursor.at_form(alloc, source)? {
         let keyword = cursor.begin(alloc, &[Keyword::Rename, Keyword::Array], source)?;
@@ -77,7 +83,8 @@ fn port_form<S: Source>(
     is_array: bool,
     source: &mut S,
 ) -> Result<PortName, ReadError>
-    ensures { Reads edif same (port_form is_array) result cursor.old cursor.new (S.supply source.old) (S.supply source.new) }
+    ensures reads { Reads edif same (port_form is_array) result cursor.old cursor.new (S.supply source.old) (S.supply source.new) }
+    ensures value { IfOk result IsPortName }
 {
     if is_array {
         return array(alloc, cursor, source);
@@ -92,7 +99,8 @@ fn array<S: Source>(
     cursor: &mut Cursor,
     source: &mut S,
 ) -> Result<PortName, ReadError>
-    ensures { Reads edif same array result cursor.old cursor.new (S.supply source.old) (S.supply source.new) }
+    ensures reads { Reads edif same array result cursor.old cursor.new (S.supply source.old) (S.supply source.new) }
+    ensures value { IfOk result IsPortName }
 {
     let name = read_name(alloc, cursor, source)?;
     let size = cursor.int(alloc, source)?;
@@ -106,7 +114,8 @@ fn renamed_port<S: Source>(
     cursor: &mut Cursor,
     source: &mut S,
 ) -> Result<PortName, ReadError>
-    ensures { Reads edif same renamed_port result cursor.old cursor.new (S.supply source.old) (S.supply source.new) }
+    ensures reads { Reads edif same renamed_port result cursor.old cursor.new (S.supply source.old) (S.supply source.new) }
+    ensures value { IfOk result IsPortName }
 {
     let name = renamed(alloc, cursor, source)?;
     Ok(PortName::Single(name))
@@ -118,7 +127,8 @@ fn plain_port<S: Source>(
     cursor: &mut Cursor,
     source: &mut S,
 ) -> Result<PortName, ReadError>
-    ensures { Reads edif same plain_port result cursor.old cursor.new (S.supply source.old) (S.supply source.new) }
+    ensures reads { Reads edif same plain_port result cursor.old cursor.new (S.supply source.old) (S.supply source.new) }
+    ensures value { IfOk result IsPortName }
 {
     let name = plain(alloc, cursor, source)?;
     Ok(PortName::Single(name))

@@ -1,4 +1,5 @@
-ghost use Rattle.std.specs.Prelude.{◌≡◌, pos};
+ghost use Rattle.std.specs.Prelude.{◌≡◌, pos, IfOk};
+ghost use Rattle.edif_values.specs.Values.{IsScaled};
 ghost use Rattle.readers.specs.Readers.{same, Reads};
 ghost use Rattle.edif_keywords.specs.Language.{edif};
 ghost use Rattle.edif_names.specs.Grammar.{exponential, whole, scaled};
@@ -16,7 +17,8 @@ pub fn read_scaled<S: Source>(
     cursor: &mut Cursor,
     source: &mut S,
 ) -> Result<Scaled, ReadError>
-    ensures { Reads edif same scaled result cursor.old cursor.new (S.supply source.old) (S.supply source.new) }
+    ensures reads { Reads edif same scaled result cursor.old cursor.new (S.supply source.old) (S.supply source.new) }
+    ensures value { IfOk result IsScaled }
 {
     if cursor.at_form(alloc, source)? {
         cursor.begin(alloc, &[Keyword::E], source)?;
@@ -32,7 +34,8 @@ fn exponential<S: Source>(
     cursor: &mut Cursor,
     source: &mut S,
 ) -> Result<Scaled, ReadError>
-    ensures { Reads edif same exponential result cursor.old cursor.new (S.supply source.old) (S.supply source.new) }
+    ensures reads { Reads edif same exponential result cursor.old cursor.new (S.supply source.old) (S.supply source.new) }
+    ensures value { IfOk result IsScaled }
 {
     let mantissa = cursor.int(alloc, source)?;
     let exponent = cursor.int(alloc, source)?;
@@ -42,7 +45,8 @@ fn exponential<S: Source>(
 
 #[tactic(auto, using(readers::proofs::Reading::sequences), unfolding(crate::specs::Grammar::whole))]
 fn whole<S: Source>(alloc: Global, cursor: &mut Cursor, source: &mut S) -> Result<Scaled, ReadError>
-    ensures { Reads edif same whole result cursor.old cursor.new (S.supply source.old) (S.supply source.new) }
+    ensures reads { Reads edif same whole result cursor.old cursor.new (S.supply source.old) (S.supply source.new) }
+    ensures value { IfOk result IsScaled }
 {
     let mantissa = cursor.int(alloc, source)?;
     Ok(Scaled {

@@ -1,5 +1,7 @@
-ghost use Rattle.std.specs.Prelude.{[]};
-ghost use Rattle.readers.specs.Readers.{same, Reads};
+ghost use Rattle.std.specs.Prelude.{[], ◌+◌, ◌<◌, IfOk};
+ghost use Rattle.edif_values.specs.Sizes.{list_size, tail_size, property_size};
+ghost use Rattle.edif_values.specs.Values.{IsPropTail, ArePropTails, IsProperty};
+ghost use Rattle.readers.specs.Readers.{same, Reads, room};
 ghost use Rattle.edif_keywords.specs.Language.{edif};
 ghost use Rattle.edif_names.specs.Grammar.{owner, remark, tail_form, tail_item, tails, property};
 
@@ -18,7 +20,9 @@ pub fn read_property<S: Source>(
     cursor: &mut Cursor,
     source: &mut S,
 ) -> Result<Property, ReadError>
-    ensures { Reads edif same property result cursor.old cursor.new (S.supply source.old) (S.supply source.new) }
+    ensures reads { Reads edif same property result cursor.old cursor.new (S.supply source.old) (S.supply source.new) }
+    ensures value { IfOk result IsProperty }
+    ensures size { IfOk result (λ p. property_size p + room cursor.new < room cursor.old) }
 {
     let name = read_name(alloc, cursor, source)?;
     let value = read_value(alloc, cursor, source)?;
@@ -26,13 +30,15 @@ pub fn read_property<S: Source>(
     Ok(Property { name, value, tail })
 }
 
-#[tactic(auto, using(edif_keywords::proofs::Forms::item_loops), unfolding(crate::specs::Grammar::tails, crate::specs::Grammar::tail_item))]
+#[tactic(auto, using(edif_keywords::proofs::Collected::item_lists), unfolding(crate::specs::Grammar::tails, crate::specs::Grammar::tail_item))]
 fn read_tails<S: Source>(
     alloc: Global,
     cursor: &mut Cursor,
     source: &mut S,
 ) -> Result<Seq<PropTail>, ReadError>
-    ensures { Reads edif same (tails []) result cursor.old cursor.new (S.supply source.old) (S.supply source.new) }
+    ensures reads { Reads edif same (tails []) result cursor.old cursor.new (S.supply source.old) (S.supply source.new) }
+    ensures value { IfOk result ArePropTails }
+    ensures size { IfOk result (λ ts. list_size tail_size ts + room cursor.new < room cursor.old) }
 {
     let mut tail = Seq::empty(alloc);
     while cursor.at_form(alloc, source)? {
@@ -50,7 +56,9 @@ fn tail_item<S: Source>(
     cursor: &mut Cursor,
     source: &mut S,
 ) -> Result<PropTail, ReadError>
-    ensures { Reads edif same tail_item result cursor.old cursor.new (S.supply source.old) (S.supply source.new) }
+    ensures reads { Reads edif same tail_item result cursor.old cursor.new (S.supply source.old) (S.supply source.new) }
+    ensures value { IfOk result IsPropTail }
+    ensures size { IfOk result (λ t. tail_size t + room cursor.new < room cursor.old) }
 {
     let keyword = cursor.begin(alloc, &[Keyword::Owner, Keyword::Comment], source)?;
     tail_form(alloc, cursor, keyword, source)
@@ -63,7 +71,9 @@ fn tail_form<S: Source>(
     keyword: Keyword,
     source: &mut S,
 ) -> Result<PropTail, ReadError>
-    ensures { Reads edif same (tail_form keyword) result cursor.old cursor.new (S.supply source.old) (S.supply source.new) }
+    ensures reads { Reads edif same (tail_form keyword) result cursor.old cursor.new (S.supply source.old) (S.supply source.new) }
+    ensures value { IfOk result IsPropTail }
+    ensures size { IfOk result (λ t. tail_size t + room cursor.new < room cursor.old) }
 {
     if same_keyword(keyword, Keyword::Owner) {
         return owner(alloc, cursor, source);
@@ -78,7 +88,9 @@ fn owner<S: Source>(
     cursor: &mut Cursor,
     source: &mut S,
 ) -> Result<PropTail, ReadError>
-    ensures { Reads edif same owner result cursor.old cursor.new (S.supply source.old) (S.supply source.new) }
+    ensures reads { Reads edif same owner result cursor.old cursor.new (S.supply source.old) (S.supply source.new) }
+    ensures value { IfOk result IsPropTail }
+    ensures size { IfOk result (λ t. tail_size t + room cursor.new < room cursor.old) }
 {
     let text = cursor.string(alloc, source)?;
     cursor.finish_form(alloc, source)?;
@@ -91,7 +103,9 @@ fn remark<S: Source>(
     cursor: &mut Cursor,
     source: &mut S,
 ) -> Result<PropTail, ReadError>
-    ensures { Reads edif same remark result cursor.old cursor.new (S.supply source.old) (S.supply source.new) }
+    ensures reads { Reads edif same remark result cursor.old cursor.new (S.supply source.old) (S.supply source.new) }
+    ensures value { IfOk result IsPropTail }
+    ensures size { IfOk result (λ t. tail_size t + room cursor.new < room cursor.old) }
 {
     let texts = read_comment(alloc, cursor, source)?;
     Ok(PropTail::Comment(texts))

@@ -1,3 +1,5 @@
+ghost use Rattle.std.specs.Prelude.{IfOk};
+ghost use Rattle.edif_values.specs.Values.{IsPropValue};
 ghost use Rattle.readers.specs.Readers.{same, Reads};
 ghost use Rattle.edif_keywords.specs.Language.{edif};
 ghost use Rattle.edif_names.specs.Grammar.{string_value, integer_value, number_value, boolean_value, value_form, value};
@@ -16,7 +18,8 @@ pub(crate) fn read_value<S: Source>(
     cursor: &mut Cursor,
     source: &mut S,
 ) -> Result<PropValue, ReadError>
-    ensures { Reads edif same value result cursor.old cursor.new (S.supply source.old) (S.supply source.new) }
+    ensures reads { Reads edif same value result cursor.old cursor.new (S.supply source.old) (S.supply source.new) }
+    ensures value { IfOk result IsPropValue }
 {
     let allowed = [
         Keyword::String,
@@ -35,7 +38,8 @@ fn value_form<S: Source>(
     keyword: Keyword,
     source: &mut S,
 ) -> Result<PropValue, ReadError>
-    ensures { Reads edif same (value_form keyword) result cursor.old cursor.new (S.supply source.old) (S.supply source.new) }
+    ensures reads { Reads edif same (value_form keyword) result cursor.old cursor.new (S.supply source.old) (S.supply source.new) }
+    ensures value { IfOk result IsPropValue }
 {
     if same_keyword(keyword, Keyword::String) {
         return string_value(alloc, cursor, source);
@@ -56,7 +60,8 @@ fn string_value<S: Source>(
     cursor: &mut Cursor,
     source: &mut S,
 ) -> Result<PropValue, ReadError>
-    ensures { Reads edif same string_value result cursor.old cursor.new (S.supply source.old) (S.supply source.new) }
+    ensures reads { Reads edif same string_value result cursor.old cursor.new (S.supply source.old) (S.supply source.new) }
+    ensures value { IfOk result IsPropValue }
 {
     let text = cursor.string(alloc, source)?;
     cursor.finish_form(alloc, source)?;
@@ -70,7 +75,8 @@ fn integer_value<S: Source>(
     cursor: &mut Cursor,
     source: &mut S,
 ) -> Result<PropValue, ReadError>
-    ensures { Reads edif same integer_value result cursor.old cursor.new (S.supply source.old) (S.supply source.new) }
+    ensures reads { Reads edif same integer_value result cursor.old cursor.new (S.supply source.old) (S.supply source.new) }
+    ensures value { IfOk result IsPropValue }
 {
     let number = cursor.int(alloc, source)?;
     cursor.finish_form(alloc, source)?;
@@ -84,7 +90,8 @@ fn number_value<S: Source>(
     cursor: &mut Cursor,
     source: &mut S,
 ) -> Result<PropValue, ReadError>
-    ensures { Reads edif same number_value result cursor.old cursor.new (S.supply source.old) (S.supply source.new) }
+    ensures reads { Reads edif same number_value result cursor.old cursor.new (S.supply source.old) (S.supply source.new) }
+    ensures value { IfOk result IsPropValue }
 {
     let number = read_scaled(alloc, cursor, source)?;
     cursor.finish_form(alloc, source)?;
@@ -98,7 +105,8 @@ fn boolean_value<S: Source>(
     cursor: &mut Cursor,
     source: &mut S,
 ) -> Result<PropValue, ReadError>
-    ensures { Reads edif same boolean_value result cursor.old cursor.new (S.supply source.old) (S.supply source.new) }
+    ensures reads { Reads edif same boolean_value result cursor.old cursor.new (S.supply source.old) (S.supply source.new) }
+    ensures value { IfOk result IsPropValue }
 {
     let keyword = cursor.begin(alloc, &[Keyword::True, Keyword::False], source)?;
     cursor.finish_form(alloc, source)?;

@@ -1,8 +1,9 @@
 -- What ports, instances and nets spell from the tokens of a text are values that can be written.
-use Rattle.std.proofs.Common.{◌≡◌, refl, subst, Bool, true, false, cond, List, [], ◌∷◌, ◌++◌, append-nil, Some, None, IfSome, arith}
+use Rattle.std.proofs.Common.{◌≡◌, ◌∙◌, refl, sym, subst, ◌&&◌, Bool, true, false, cond, List, [], ◌∷◌, ◌++◌, append-nil, Some, None, IfSome, Result, Ok, Err, IfOk, arith}
 use Rattle.std.specs.List.{AllByRecursion, cons_option}
 use Rattle.std.proofs.lemmas.List.Elements.{filter_map-append}
 use Rattle.nl_base.specs.declared.value.Dir.{Dir}
+use Rattle.nl_base.specs.declared.fault.ReadError.{ReadError}
 use Rattle.nl_bytes.proofs.Uses.{AllByRecursion-push}
 use Rattle.edif_values.specs.declared.keyword.Keyword.{Keyword}
 use Rattle.edif_values.specs.declared.keyword.Keyword.TheVariants as k
@@ -57,6 +58,32 @@ first_direction : (b : Bool) (q : Keyword) → has (port_keywords b) q ≡ true 
 unfolding has port_keywords
 first_direction false q h e = refl
 first_direction true q h e = let f : has (port_keywords true) k.Direction ≡ true = subst (λ r. has (port_keywords true) r ≡ true) (spelled_alike q k.Direction e) h in absurd cc
+
+-- an item that may stand in a port is no direction where there is one before
+pub one_direction : (b : Bool) (q : Keyword) (i : PortItem) → has (port_keywords b) q ≡ true → is_direction i ≡ same_keyword q k.Direction → (b && is_direction i) ≡ false
+one_direction false q i h e = refl
+one_direction true q i h e = e ∙ by (same_keyword q k.Direction) refl
+  where
+    by : (t : Bool) → same_keyword q k.Direction ≡ t → same_keyword q k.Direction ≡ false
+    by true f = f ∙ first_direction true q h f
+    by false f = f
+
+-- the same of what is read
+pub one_direction_read : (b : Bool) (q : Keyword) (r : Result PortItem ReadError) → has (port_keywords b) q ≡ true → IfOk r (λ i. is_direction i ≡ same_keyword q k.Direction) → IfOk r (λ i. (b && is_direction i) ≡ false)
+one_direction_read b q (Ok i) h e = one_direction b q i h e
+one_direction_read b q (Err e) h f = tt
+
+-- items of a port and one more, which is no direction where there is one before
+pub port_items_more : (is : List PortItem) (i : PortItem) (b : Bool) → ArePortItems is → IsPortItem i → b ≡ has_direction is → (b && is_direction i) ≡ false → ArePortItems (is ++ i ∷ [])
+unfolding is_direction told
+port_items_more is (port_items.Direction d) b all ok e one = add_direction is d all (sym e ∙ no_other b one)
+  where
+    no_other : (b : Bool) → (b && true) ≡ false → b ≡ false
+    no_other true h = h
+    no_other false h = refl
+port_items_more is (port_items.Property p) b all ok e one = add_other is (port_items.Property p) all (ok, refl)
+port_items_more is (port_items.Designator s) b all ok e one = add_other is (port_items.Designator s) all (ok, refl)
+port_items_more is (port_items.Note n) b all ok e one = add_other is (port_items.Note n) all (ok, refl)
 
 kept_direction : (is : List PortItem) → ArePortItems is → has_direction is ≡ false → Kept direction (λ i. ArePortItems (is ++ i ∷ []))
 unfolding direction

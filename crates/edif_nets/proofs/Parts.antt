@@ -16,7 +16,8 @@ use Rattle.edif_values.specs.Keywords.{same_keyword}
 use Rattle.edif_keywords.specs.Aliases.{Alias}
 use Rattle.edif_keywords.specs.Language.{edif}
 use Rattle.edif_keywords.specs.Reasons.{word_of, closing_of}
-use Rattle.edif_keywords.proofs.Forms.{form_or_other, item_loops}
+use Rattle.edif_keywords.proofs.Forms.{form_or_other}
+use Rattle.edif_keywords.proofs.Collected.{item_lists}
 use Rattle.edif_values.specs.declared.port.PortItem.{PortItem}
 use Rattle.edif_nets.specs.Grammar.{direction, port_property, port_designator, port_note, port_item, is_direction, has_direction, no_library, instance_property, instance_designator, instance_note, instance_item, whole_port, no_instance, net_property, net_note, net_item}
 
@@ -91,4 +92,4 @@ pub ruleset form_or_token = (no_library_due, no_instance_due, whole_port_due, fo
 pub ruleset by_keyword = (direction_due, port_property_due, port_designator_due, port_note_due, instance_property_due, instance_designator_due, instance_note_due, net_property_due, net_note_due, sequences)
 
 -- for the items of a port
-pub ruleset port_loops = (has_direction_more, has_direction_none, item_loops)
+pub ruleset port_loops = (has_direction_more, has_direction_none, item_lists)

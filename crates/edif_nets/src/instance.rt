@@ -1,7 +1,10 @@
-ghost use Rattle.std.specs.Prelude.{[]};
-ghost use Rattle.readers.specs.Readers.{same, Reads};
+ghost use Rattle.std.specs.Prelude.{◌+◌, ◌<◌, [], IfOk, IfSome};
+ghost use Rattle.readers.specs.Readers.{same, Reads, room};
 ghost use Rattle.edif_keywords.specs.Language.{edif};
 ghost use Rattle.edif_keywords.specs.Grammar.{item};
+ghost use Rattle.std.specs.List.{AllByRecursion};
+ghost use Rattle.edif_values.specs.Values.{IsWord, IsInstanceItem, IsInstance};
+ghost use Rattle.edif_values.specs.Sizes.{list_size, instance_item_size, instance_size};
 ghost use Rattle.edif_nets.specs.Grammar.{library_named, no_library, maybe_library, cell_ref, view_ref, instance_property, instance_designator, instance_note, instance_item, instance_keywords, instance_rest, instance};
 
 use crate::port::read_designator;
@@ -20,7 +23,9 @@ pub fn read_instance<S: Source>(
     cursor: &mut Cursor,
     source: &mut S,
 ) -> Result<Instance, ReadError>
-    ensures { Reads edif same instance result cursor.old cursor.new (S.supply source.old) (S.supply source.new) }
+    ensures reads { Reads edif same instance result cursor.old cursor.new (S.supply source.old) (S.supply source.new) }
+    ensures value { IfOk result IsInstance }
+    ensures size { IfOk result (λ u. instance_size u + room cursor.new < room cursor.old) }
 {
     let name = read_name(alloc, cursor, source)?;
     let (view, cell, library) = view_ref(alloc, cursor, source)?;
@@ -41,7 +46,8 @@ fn view_ref<S: Source>(
     cursor: &mut Cursor,
     source: &mut S,
 ) -> Result<(Ident, Ident, Option<Ident>), ReadError>
-    ensures { Reads edif same view_ref result cursor.old cursor.new (S.supply source.old) (S.supply source.new) }
+    ensures reads { Reads edif same view_ref result cursor.old cursor.new (S.supply source.old) (S.supply source.new) }
+    ensures value { IfOk result (λ v. IsWord v.0 × IsWord v.1 × IfSome v.2 IsWord) }
 {
     cursor.begin(alloc, &[Keyword::ViewRef], source)?;
     let view = cursor.word(alloc, source)?;
@@ -57,7 +63,8 @@ fn cell_ref<S: Source>(
     cursor: &mut Cursor,
     source: &mut S,
 ) -> Result<(Ident, Option<Ident>), ReadError>
-    ensures { Reads edif same cell_ref result cursor.old cursor.new (S.supply source.old) (S.supply source.new) }
+    ensures reads { Reads edif same cell_ref result cursor.old cursor.new (S.supply source.old) (S.supply source.new) }
+    ensures value { IfOk result (λ c. IsWord c.0 × IfSome c.1 IsWord) }
 {
     cursor.begin(alloc, &[Keyword::CellRef], source)?;
     let cell = cursor.word(alloc, source)?;
@@ -72,7 +79,8 @@ fn maybe_library<S: Source>(
     cursor: &mut Cursor,
     source: &mut S,
 ) -> Result<Option<Ident>, ReadError>
-    ensures { Reads edif same maybe_library result cursor.old cursor.new (S.supply source.old) (S.supply source.new) }
+    ensures reads { Reads edif same maybe_library result cursor.old cursor.new (S.supply source.old) (S.supply source.new) }
+    ensures value { IfOk result (λ l. IfSome l IsWord) }
 {
     if cursor.at_form(alloc, source)? {
         cursor.begin(alloc, &[Keyword::LibraryRef], source)?;
@@ -88,7 +96,8 @@ fn library_named<S: Source>(
     cursor: &mut Cursor,
     source: &mut S,
 ) -> Result<Option<Ident>, ReadError>
-    ensures { Reads edif same library_named result cursor.old cursor.new (S.supply source.old) (S.supply source.new) }
+    ensures reads { Reads edif same library_named result cursor.old cursor.new (S.supply source.old) (S.supply source.new) }
+    ensures value { IfOk result (λ l. IfSome l IsWord) }
 {
     let library = cursor.word(alloc, source)?;
     cursor.finish_form(alloc, source)?;
@@ -102,19 +111,22 @@ fn no_library<S: Source>(
     cursor: &mut Cursor,
     source: &mut S,
 ) -> Result<Option<Ident>, ReadError>
-    ensures { Reads edif same no_library result cursor.old cursor.new (S.supply source.old) (S.supply source.new) }
+    ensures reads { Reads edif same no_library result cursor.old cursor.new (S.supply source.old) (S.supply source.new) }
+    ensures value { IfOk result (λ l. IfSome l IsWord) }
 {
     cursor.finish_form(alloc, source)?;
     Ok(None)
 }
 
-#[tactic(auto, using(edif_keywords::proofs::Forms::item_loops), unfolding(crate::specs::Grammar::instance_rest))]
+#[tactic(auto, using(edif_keywords::proofs::Collected::item_lists), unfolding(crate::specs::Grammar::instance_rest))]
 fn instance_rest<S: Source>(
     alloc: Global,
     cursor: &mut Cursor,
     source: &mut S,
 ) -> Result<Seq<InstanceItem>, ReadError>
-    ensures { Reads edif same (instance_rest []) result cursor.old cursor.new (S.supply source.old) (S.supply source.new) }
+    ensures reads { Reads edif same (instance_rest []) result cursor.old cursor.new (S.supply source.old) (S.supply source.new) }
+    ensures value { IfOk result (λ is. AllByRecursion IsInstanceItem is) }
+    ensures size { IfOk result (λ is. list_size instance_item_size is + room cursor.new < room cursor.old) }
 {
     let mut items = Seq::empty(alloc);
     while cursor.at_form(alloc, source)? {
@@ -132,7 +144,9 @@ fn instance_item<S: Source>(
     cursor: &mut Cursor,
     source: &mut S,
 ) -> Result<InstanceItem, ReadError>
-    ensures { Reads edif same (item instance_keywords instance_item) result cursor.old cursor.new (S.supply source.old) (S.supply source.new) }
+    ensures reads { Reads edif same (item instance_keywords instance_item) result cursor.old cursor.new (S.supply source.old) (S.supply source.new) }
+    ensures value { IfOk result IsInstanceItem }
+    ensures size { IfOk result (λ i. instance_item_size i + room cursor.new < room cursor.old) }
 {
     let allowed = [
         Keyword::Property,
@@ -152,7 +166,9 @@ fn instance_form<S: Source>(
     keyword: Keyword,
     source: &mut S,
 ) -> Result<InstanceItem, ReadError>
-    ensures { Reads edif same (instance_item keyword) result cursor.old cursor.new (S.supply source.old) (S.supply source.new) }
+    ensures reads { Reads edif same (instance_item keyword) result cursor.old cursor.new (S.supply source.old) (S.supply source.new) }
+    ensures value { IfOk result IsInstanceItem }
+    ensures size { IfOk result (λ i. instance_item_size i + room cursor.new < room cursor.old) }
 {
     if same_keyword(keyword, Keyword::Property) {
         return instance_property(alloc, cursor, source);
@@ -169,7 +185,9 @@ fn instance_property<S: Source>(
     cursor: &mut Cursor,
     source: &mut S,
 ) -> Result<InstanceItem, ReadError>
-    ensures { Reads edif same instance_property result cursor.old cursor.new (S.supply source.old) (S.supply source.new) }
+    ensures reads { Reads edif same instance_property result cursor.old cursor.new (S.supply source.old) (S.supply source.new) }
+    ensures value { IfOk result IsInstanceItem }
+    ensures size { IfOk result (λ i. instance_item_size i + room cursor.new < room cursor.old) }
 {
     let property = read_property(alloc, cursor, source)?;
     Ok(InstanceItem::Property(property))
@@ -181,7 +199,9 @@ fn instance_designator<S: Source>(
     cursor: &mut Cursor,
     source: &mut S,
 ) -> Result<InstanceItem, ReadError>
-    ensures { Reads edif same instance_designator result cursor.old cursor.new (S.supply source.old) (S.supply source.new) }
+    ensures reads { Reads edif same instance_designator result cursor.old cursor.new (S.supply source.old) (S.supply source.new) }
+    ensures value { IfOk result IsInstanceItem }
+    ensures size { IfOk result (λ i. instance_item_size i + room cursor.new < room cursor.old) }
 {
     let text = read_designator(alloc, cursor, source)?;
     Ok(InstanceItem::Designator(text))
@@ -194,7 +214,9 @@ fn instance_note<S: Source>(
     keyword: Keyword,
     source: &mut S,
 ) -> Result<InstanceItem, ReadError>
-    ensures { Reads edif same (instance_note keyword) result cursor.old cursor.new (S.supply source.old) (S.supply source.new) }
+    ensures reads { Reads edif same (instance_note keyword) result cursor.old cursor.new (S.supply source.old) (S.supply source.new) }
+    ensures value { IfOk result IsInstanceItem }
+    ensures size { IfOk result (λ i. instance_item_size i + room cursor.new < room cursor.old) }
 {
     let note = read_note(alloc, cursor, keyword, source)?;
     Ok(InstanceItem::Note(note))

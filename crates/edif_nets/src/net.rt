@@ -1,7 +1,10 @@
-ghost use Rattle.std.specs.Prelude.{[]};
-ghost use Rattle.readers.specs.Readers.{same, Reads};
+ghost use Rattle.std.specs.Prelude.{◌+◌, ◌<◌, [], length, IfOk, IfSome};
+ghost use Rattle.readers.specs.Readers.{same, Reads, room};
 ghost use Rattle.edif_keywords.specs.Language.{edif};
 ghost use Rattle.edif_keywords.specs.Grammar.{item};
+ghost use Rattle.std.specs.List.{AllByRecursion};
+ghost use Rattle.edif_values.specs.Values.{IsWord, IsInteger, IsPortRef, IsNetItem, IsNet};
+ghost use Rattle.edif_values.specs.Sizes.{list_size, net_item_size, net_size};
 ghost use Rattle.edif_nets.specs.Grammar.{member, whole_port, port_or_member, instance_named, no_instance, maybe_instance, port_ref, joined_keywords, joined_rest, joined, net_property, net_note, net_item, net_keywords, net_rest, net};
 
 use edif_keywords::Cursor;
@@ -19,7 +22,9 @@ pub fn read_net<S: Source>(
     cursor: &mut Cursor,
     source: &mut S,
 ) -> Result<Net, ReadError>
-    ensures { Reads edif same net result cursor.old cursor.new (S.supply source.old) (S.supply source.new) }
+    ensures reads { Reads edif same net result cursor.old cursor.new (S.supply source.old) (S.supply source.new) }
+    ensures value { IfOk result IsNet }
+    ensures size { IfOk result (λ n. net_size n + room cursor.new < room cursor.old) }
 {
     let name = read_name(alloc, cursor, source)?;
     let joined = joined(alloc, cursor, source)?;
@@ -38,19 +43,23 @@ fn joined<S: Source>(
     cursor: &mut Cursor,
     source: &mut S,
 ) -> Result<Seq<PortRef>, ReadError>
-    ensures { Reads edif same joined result cursor.old cursor.new (S.supply source.old) (S.supply source.new) }
+    ensures reads { Reads edif same joined result cursor.old cursor.new (S.supply source.old) (S.supply source.new) }
+    ensures value { IfOk result (λ rs. AllByRecursion IsPortRef rs) }
+    ensures size { IfOk result (λ rs. length rs + room cursor.new < room cursor.old) }
 {
     cursor.begin(alloc, &[Keyword::Joined], source)?;
     joined_rest(alloc, cursor, source)
 }
 
-#[tactic(auto, using(edif_keywords::proofs::Forms::item_loops), unfolding(crate::specs::Grammar::joined_rest))]
+#[tactic(auto, using(edif_keywords::proofs::Collected::item_lists), unfolding(crate::specs::Grammar::joined_rest))]
 fn joined_rest<S: Source>(
     alloc: Global,
     cursor: &mut Cursor,
     source: &mut S,
 ) -> Result<Seq<PortRef>, ReadError>
-    ensures { Reads edif same (joined_rest []) result cursor.old cursor.new (S.supply source.old) (S.supply source.new) }
+    ensures reads { Reads edif same (joined_rest []) result cursor.old cursor.new (S.supply source.old) (S.supply source.new) }
+    ensures value { IfOk result (λ rs. AllByRecursion IsPortRef rs) }
+    ensures size { IfOk result (λ rs. length rs + room cursor.new < room cursor.old) }
 {
     let mut references = Seq::empty(alloc);
     while cursor.at_form(alloc, source)? {
@@ -68,7 +77,8 @@ fn joined_item<S: Source>(
     cursor: &mut Cursor,
     source: &mut S,
 ) -> Result<PortRef, ReadError>
-    ensures { Reads edif same (item joined_keywords (λ _. port_ref)) result cursor.old cursor.new (S.supply source.old) (S.supply source.new) }
+    ensures reads { Reads edif same (item joined_keywords (λ _. port_ref)) result cursor.old cursor.new (S.supply source.old) (S.supply source.new) }
+    ensures value { IfOk result IsPortRef }
 {
     cursor.begin(alloc, &[Keyword::PortRef], source)?;
     port_ref(alloc, cursor, source)
@@ -81,7 +91,8 @@ fn port_ref<S: Source>(
     cursor: &mut Cursor,
     source: &mut S,
 ) -> Result<PortRef, ReadError>
-    ensures { Reads edif same port_ref result cursor.old cursor.new (S.supply source.old) (S.supply source.new) }
+    ensures reads { Reads edif same port_ref result cursor.old cursor.new (S.supply source.old) (S.supply source.new) }
+    ensures value { IfOk result IsPortRef }
 {
     let (port, member) = port_or_member(alloc, cursor, source)?;
     let instance = maybe_instance(alloc, cursor, source)?;
@@ -99,7 +110,8 @@ fn port_or_member<S: Source>(
     cursor: &mut Cursor,
     source: &mut S,
 ) -> Result<(Ident, Option<Int>), ReadError>
-    ensures { Reads edif same port_or_member result cursor.old cursor.new (S.supply source.old) (S.supply source.new) }
+    ensures reads { Reads edif same port_or_member result cursor.old cursor.new (S.supply source.old) (S.supply source.new) }
+    ensures value { IfOk result (λ p. IsWord p.0 × IfSome p.1 IsInteger) }
 {
     if cursor.at_form(alloc, source)? {
         cursor.begin(alloc, &[Keyword::Member], source)?;
@@ -115,7 +127,8 @@ fn member<S: Source>(
     cursor: &mut Cursor,
     source: &mut S,
 ) -> Result<(Ident, Option<Int>), ReadError>
-    ensures { Reads edif same member result cursor.old cursor.new (S.supply source.old) (S.supply source.new) }
+    ensures reads { Reads edif same member result cursor.old cursor.new (S.supply source.old) (S.supply source.new) }
+    ensures value { IfOk result (λ p. IsWord p.0 × IfSome p.1 IsInteger) }
 {
     let port = cursor.word(alloc, source)?;
     let index = cursor.int(alloc, source)?;
@@ -129,7 +142,8 @@ fn whole_port<S: Source>(
     cursor: &mut Cursor,
     source: &mut S,
 ) -> Result<(Ident, Option<Int>), ReadError>
-    ensures { Reads edif same whole_port result cursor.old cursor.new (S.supply source.old) (S.supply source.new) }
+    ensures reads { Reads edif same whole_port result cursor.old cursor.new (S.supply source.old) (S.supply source.new) }
+    ensures value { IfOk result (λ p. IsWord p.0 × IfSome p.1 IsInteger) }
 {
     let port = cursor.word(alloc, source)?;
     Ok((port, None))
@@ -142,7 +156,8 @@ fn maybe_instance<S: Source>(
     cursor: &mut Cursor,
     source: &mut S,
 ) -> Result<Option<Ident>, ReadError>
-    ensures { Reads edif same maybe_instance result cursor.old cursor.new (S.supply source.old) (S.supply source.new) }
+    ensures reads { Reads edif same maybe_instance result cursor.old cursor.new (S.supply source.old) (S.supply source.new) }
+    ensures value { IfOk result (λ l. IfSome l IsWord) }
 {
     if cursor.at_form(alloc, source)? {
         cursor.begin(alloc, &[Keyword::InstanceRef], source)?;
@@ -158,7 +173,8 @@ fn instance_named<S: Source>(
     cursor: &mut Cursor,
     source: &mut S,
 ) -> Result<Option<Ident>, ReadError>
-    ensures { Reads edif same instance_named result cursor.old cursor.new (S.supply source.old) (S.supply source.new) }
+    ensures reads { Reads edif same instance_named result cursor.old cursor.new (S.supply source.old) (S.supply source.new) }
+    ensures value { IfOk result (λ l. IfSome l IsWord) }
 {
     let instance = cursor.word(alloc, source)?;
     cursor.finish_form(alloc, source)?;
@@ -172,19 +188,22 @@ fn no_instance<S: Source>(
     cursor: &mut Cursor,
     source: &mut S,
 ) -> Result<Option<Ident>, ReadError>
-    ensures { Reads edif same no_instance result cursor.old cursor.new (S.supply source.old) (S.supply source.new) }
+    ensures reads { Reads edif same no_instance result cursor.old cursor.new (S.supply source.old) (S.supply source.new) }
+    ensures value { IfOk result (λ l. IfSome l IsWord) }
 {
     cursor.finish_form(alloc, source)?;
     Ok(None)
 }
 
-#[tactic(auto, using(edif_keywords::proofs::Forms::item_loops), unfolding(crate::specs::Grammar::net_rest))]
+#[tactic(auto, using(edif_keywords::proofs::Collected::item_lists), unfolding(crate::specs::Grammar::net_rest))]
 fn net_rest<S: Source>(
     alloc: Global,
     cursor: &mut Cursor,
     source: &mut S,
 ) -> Result<Seq<NetItem>, ReadError>
-    ensures { Reads edif same (net_rest []) result cursor.old cursor.new (S.supply source.old) (S.supply source.new) }
+    ensures reads { Reads edif same (net_rest []) result cursor.old cursor.new (S.supply source.old) (S.supply source.new) }
+    ensures value { IfOk result (λ is. AllByRecursion IsNetItem is) }
+    ensures size { IfOk result (λ is. list_size net_item_size is + room cursor.new < room cursor.old) }
 {
     let mut items = Seq::empty(alloc);
     while cursor.at_form(alloc, source)? {
@@ -202,7 +221,9 @@ fn net_item<S: Source>(
     cursor: &mut Cursor,
     source: &mut S,
 ) -> Result<NetItem, ReadError>
-    ensures { Reads edif same (item net_keywords net_item) result cursor.old cursor.new (S.supply source.old) (S.supply source.new) }
+    ensures reads { Reads edif same (item net_keywords net_item) result cursor.old cursor.new (S.supply source.old) (S.supply source.new) }
+    ensures value { IfOk result IsNetItem }
+    ensures size { IfOk result (λ i. net_item_size i + room cursor.new < room cursor.old) }
 {
     let allowed = [Keyword::Property, Keyword::Comment, Keyword::UserData];
     let keyword = cursor.begin(alloc, &allowed, source)?;
@@ -217,7 +238,9 @@ fn net_form<S: Source>(
     keyword: Keyword,
     source: &mut S,
 ) -> Result<NetItem, ReadError>
-    ensures { Reads edif same (net_item keyword) result cursor.old cursor.new (S.supply source.old) (S.supply source.new) }
+    ensures reads { Reads edif same (net_item keyword) result cursor.old cursor.new (S.supply source.old) (S.supply source.new) }
+    ensures value { IfOk result IsNetItem }
+    ensures size { IfOk result (λ i. net_item_size i + room cursor.new < room cursor.old) }
 {
     if same_keyword(keyword, Keyword::Property) {
         return net_property(alloc, cursor, source);
@@ -231,7 +254,9 @@ fn net_property<S: Source>(
     cursor: &mut Cursor,
     source: &mut S,
 ) -> Result<NetItem, ReadError>
-    ensures { Reads edif same net_property result cursor.old cursor.new (S.supply source.old) (S.supply source.new) }
+    ensures reads { Reads edif same net_property result cursor.old cursor.new (S.supply source.old) (S.supply source.new) }
+    ensures value { IfOk result IsNetItem }
+    ensures size { IfOk result (λ i. net_item_size i + room cursor.new < room cursor.old) }
 {
     let property = read_property(alloc, cursor, source)?;
     Ok(NetItem::Property(property))
@@ -244,7 +269,9 @@ fn net_note<S: Source>(
     keyword: Keyword,
     source: &mut S,
 ) -> Result<NetItem, ReadError>
-    ensures { Reads edif same (net_note keyword) result cursor.old cursor.new (S.supply source.old) (S.supply source.new) }
+    ensures reads { Reads edif same (net_note keyword) result cursor.old cursor.new (S.supply source.old) (S.supply source.new) }
+    ensures value { IfOk result IsNetItem }
+    ensures size { IfOk result (λ i. net_item_size i + room cursor.new < room cursor.old) }
 {
     let note = read_note(alloc, cursor, keyword, source)?;
     Ok(NetItem::Note(note))

@@ -1,8 +1,11 @@
-ghost use Rattle.std.specs.Prelude.{◌≡◌, [], ◌||◌};
-ghost use Rattle.readers.specs.Readers.{same, Reads};
+ghost use Rattle.std.specs.Prelude.{◌≡◌, ◌+◌, ◌<◌, true, false, [], ◌&&◌, ◌||◌, IfOk};
+ghost use Rattle.readers.specs.Readers.{same, Reads, room};
 ghost use Rattle.edif_keywords.specs.Language.{edif};
 ghost use Rattle.edif_keywords.specs.Grammar.{item};
 ghost use Rattle.edif_keywords.specs.Reasons.{rows};
+ghost use Rattle.edif_values.specs.Keywords.{same_keyword};
+ghost use Rattle.edif_values.specs.Values.{IsString, IsPortItem, ArePortItems, IsPort};
+ghost use Rattle.edif_values.specs.Sizes.{list_size, port_item_size, port_size};
 ghost use Rattle.edif_nets.specs.Grammar.{designator, direction_words, direction, port_property, port_designator, port_note, port_item, is_direction, port_keywords, port_rest, port};
 
 use edif_keywords::Cursor;
@@ -20,7 +23,9 @@ pub fn read_port<S: Source>(
     cursor: &mut Cursor,
     source: &mut S,
 ) -> Result<Port, ReadError>
-    ensures { Reads edif same port result cursor.old cursor.new (S.supply source.old) (S.supply source.new) }
+    ensures reads { Reads edif same port result cursor.old cursor.new (S.supply source.old) (S.supply source.new) }
+    ensures value { IfOk result IsPort }
+    ensures size { IfOk result (λ p. port_size p + room cursor.new < room cursor.old) }
 {
     let name = read_port_name(alloc, cursor, source)?;
     let items = port_rest(alloc, cursor, source)?;
@@ -34,7 +39,8 @@ pub fn read_designator<S: Source>(
     cursor: &mut Cursor,
     source: &mut S,
 ) -> Result<Text, ReadError>
-    ensures { Reads edif same designator result cursor.old cursor.new (S.supply source.old) (S.supply source.new) }
+    ensures reads { Reads edif same designator result cursor.old cursor.new (S.supply source.old) (S.supply source.new) }
+    ensures value { IfOk result IsString }
 {
     let text = cursor.string(alloc, source)?;
     cursor.finish_form(alloc, source)?;
@@ -47,7 +53,9 @@ fn port_rest<S: Source>(
     cursor: &mut Cursor,
     source: &mut S,
 ) -> Result<Seq<PortItem>, ReadError>
-    ensures { Reads edif same (port_rest []) result cursor.old cursor.new (S.supply source.old) (S.supply source.new) }
+    ensures reads { Reads edif same (port_rest []) result cursor.old cursor.new (S.supply source.old) (S.supply source.new) }
+    ensures value { IfOk result ArePortItems }
+    ensures size { IfOk result (λ is. list_size port_item_size is + room cursor.new < room cursor.old) }
 {
     let mut items = Seq::empty(alloc);
     let mut directed = false;
@@ -68,7 +76,10 @@ fn port_item<S: Source>(
     directed: bool,
     source: &mut S,
 ) -> Result<PortItem, ReadError>
-    ensures { Reads edif same (item (port_keywords directed) port_item) result cursor.old cursor.new (S.supply source.old) (S.supply source.new) }
+    ensures reads { Reads edif same (item (port_keywords directed) port_item) result cursor.old cursor.new (S.supply source.old) (S.supply source.new) }
+    ensures value { IfOk result IsPortItem }
+    ensures size { IfOk result (λ i. port_item_size i + room cursor.new < room cursor.old) }
+    ensures one { IfOk result (λ i. (directed && is_direction i) ≡ false) }
 {
     let keyword = cursor.begin(alloc, port_keywords(directed), source)?;
     port_form(alloc, cursor, keyword, source)
@@ -82,7 +93,10 @@ fn port_form<S: Source>(
     keyword: Keyword,
     source: &mut S,
 ) -> Result<PortItem, ReadError>
-    ensures { Reads edif same (port_item keyword) result cursor.old cursor.new (S.supply source.old) (S.supply source.new) }
+    ensures reads { Reads edif same (port_item keyword) result cursor.old cursor.new (S.supply source.old) (S.supply source.new) }
+    ensures value { IfOk result IsPortItem }
+    ensures size { IfOk result (λ i. port_item_size i + room cursor.new < room cursor.old) }
+    ensures kind { IfOk result (λ i. is_direction i ≡ same_keyword keyword Keyword.Direction) }
 {
     if same_keyword(keyword, Keyword::Direction) {
         return direction_item(alloc, cursor, source);
@@ -97,51 +111,63 @@ fn port_form<S: Source>(
 }
 
 /// Reads on after the keyword `direction`.
-#[tactic(auto, using(readers::proofs::Reading::sequences), unfolding(crate::specs::Grammar::direction))]
+#[tactic(auto, using(readers::proofs::Reading::sequences), unfolding(crate::specs::Grammar::direction, crate::specs::Grammar::is_direction))]
 fn direction_item<S: Source>(
     alloc: Global,
     cursor: &mut Cursor,
     source: &mut S,
 ) -> Result<PortItem, ReadError>
-    ensures { Reads edif same direction result cursor.old cursor.new (S.supply source.old) (S.supply source.new) }
+    ensures reads { Reads edif same direction result cursor.old cursor.new (S.supply source.old) (S.supply source.new) }
+    ensures value { IfOk result IsPortItem }
+    ensures size { IfOk result (λ i. port_item_size i + room cursor.new < room cursor.old) }
+    ensures kind { IfOk result (λ i. is_direction i ≡ true) }
 {
     let direction = cursor.choose(alloc, direction_words(), source)?;
     cursor.finish_form(alloc, source)?;
     Ok(PortItem::Direction(direction))
 }
 
-#[tactic(auto, using(readers::proofs::Reading::sequences), unfolding(crate::specs::Grammar::port_property))]
+#[tactic(auto, using(readers::proofs::Reading::sequences), unfolding(crate::specs::Grammar::port_property, crate::specs::Grammar::is_direction))]
 fn port_property<S: Source>(
     alloc: Global,
     cursor: &mut Cursor,
     source: &mut S,
 ) -> Result<PortItem, ReadError>
-    ensures { Reads edif same port_property result cursor.old cursor.new (S.supply source.old) (S.supply source.new) }
+    ensures reads { Reads edif same port_property result cursor.old cursor.new (S.supply source.old) (S.supply source.new) }
+    ensures value { IfOk result IsPortItem }
+    ensures size { IfOk result (λ i. port_item_size i + room cursor.new < room cursor.old) }
+    ensures kind { IfOk result (λ i. is_direction i ≡ false) }
 {
     let property = read_property(alloc, cursor, source)?;
     Ok(PortItem::Property(property))
 }
 
-#[tactic(auto, using(readers::proofs::Reading::sequences), unfolding(crate::specs::Grammar::port_designator))]
+#[tactic(auto, using(readers::proofs::Reading::sequences), unfolding(crate::specs::Grammar::port_designator, crate::specs::Grammar::is_direction))]
 fn port_designator<S: Source>(
     alloc: Global,
     cursor: &mut Cursor,
     source: &mut S,
 ) -> Result<PortItem, ReadError>
-    ensures { Reads edif same port_designator result cursor.old cursor.new (S.supply source.old) (S.supply source.new) }
+    ensures reads { Reads edif same port_designator result cursor.old cursor.new (S.supply source.old) (S.supply source.new) }
+    ensures value { IfOk result IsPortItem }
+    ensures size { IfOk result (λ i. port_item_size i + room cursor.new < room cursor.old) }
+    ensures kind { IfOk result (λ i. is_direction i ≡ false) }
 {
     let text = read_designator(alloc, cursor, source)?;
     Ok(PortItem::Designator(text))
 }
 
-#[tactic(auto, using(readers::proofs::Reading::sequences), unfolding(crate::specs::Grammar::port_note))]
+#[tactic(auto, using(readers::proofs::Reading::sequences), unfolding(crate::specs::Grammar::port_note, crate::specs::Grammar::is_direction))]
 fn port_note<S: Source>(
     alloc: Global,
     cursor: &mut Cursor,
     keyword: Keyword,
     source: &mut S,
 ) -> Result<PortItem, ReadError>
-    ensures { Reads edif same (port_note keyword) result cursor.old cursor.new (S.supply source.old) (S.supply source.new) }
+    ensures reads { Reads edif same (port_note keyword) result cursor.old cursor.new (S.supply source.old) (S.supply source.new) }
+    ensures value { IfOk result IsPortItem }
+    ensures size { IfOk result (λ i. port_item_size i + room cursor.new < room cursor.old) }
+    ensures kind { IfOk result (λ i. is_direction i ≡ false) }
 {
     let note = read_note(alloc, cursor, keyword, source)?;
     Ok(PortItem::Note(note))

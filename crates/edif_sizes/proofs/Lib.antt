@@ -4,4 +4,3 @@ pub mod Nets
 pub mod Library
 pub mod Tokens
 pub mod Law
-pub mod Limited

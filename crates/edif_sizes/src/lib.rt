@@ -2,12 +2,10 @@
 //
 // `size_within`: each item of each list of a file, at every depth, spells at least one token of its own, and each token has at least one
 // byte. So a file that some bytes read as has at most as many items, in all its lists together, as the bytes have tokens, and these are at
-// most as many as the bytes, which are within the limit of an input. `read_sized_edif` is `read_edif` with this as a clause for every
-// source, also for one that does not tell its bytes.
+// most as many as the bytes, which are within the limit of an input. `read_edif` says the bound itself of a file from every source, also from
+// one that does not tell its bytes.
 #![tactic(auto)]
 
-pub mod file;
 pub mod laws;
 
-pub use file::read_sized_edif;
 pub use laws::size_within;

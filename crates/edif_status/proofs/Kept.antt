@@ -1,5 +1,5 @@
 -- The user data, notes and statuses that a text spells are such as a text can have.
-use Rattle.std.proofs.Common.{◌≡◌, ◌∙◌, sym, refl, ap, subst, ℕ, zero, suc, ◌≤◌, List, [], ◌∷◌, ◌++◌, map, Some, None, ℤ, arith}
+use Rattle.std.proofs.Common.{◌≡◌, ◌∙◌, sym, refl, ap, subst, ℕ, zero, suc, ◌+◌, ◌≤◌, List, [], ◌∷◌, ◌++◌, map, Some, None, ℤ, arith}
 use Rattle.std.specs.Prelude.{fold, max}
 use Rattle.std.specs.List.{AllByRecursion}
 use Rattle.grammar.specs.Part.{gives, takes}
@@ -7,6 +7,7 @@ use Rattle.nl_bytes.proofs.Uses.{AllByRecursion-push, AllByRecursion-append}
 use Rattle.edif_values.specs.declared.token.Token.{Token}
 use Rattle.edif_values.specs.declared.token.Token.TheVariants.{LeftParen, RightParen, Word, Number, Str}
 use Rattle.edif_values.specs.Proper.{IsProper}
+use Rattle.edif_values.proofs.Sizes.{size-Word, size-Number, size-Str}
 use Rattle.edif_values.specs.declared.keyword.Keyword.{Keyword}
 use Rattle.edif_values.specs.declared.keyword.Keyword.TheVariants as k
 use Rattle.edif_values.specs.Keywords.{same_keyword}
@@ -49,13 +50,13 @@ list_leaves ts = ap leaves (sym (rolls-List ts)) ∙ fold-roll-UserTree (List To
 
 -- ---- what is known of a tree
 
-word_tree : (room : ℕ) (w : List ℕ) → IsProper (Word w) → IsTree room (tree.Word w)
+pub word_tree : (room : ℕ) (w : List ℕ) → IsProper (Word w) → IsTree room (tree.Word w)
 word_tree room w h = let d = word_depth w in record { shallow = omega (arith, d); proper = rw (word_leaves w) (h, tt) }
 
-number_tree : (room : ℕ) (n : ℤ) → IsProper (Number n) → IsTree room (tree.Number n)
+pub number_tree : (room : ℕ) (n : ℤ) → IsProper (Number n) → IsTree room (tree.Number n)
 number_tree room n h = let d = number_depth n in record { shallow = omega (arith, d); proper = rw (number_leaves n) (h, tt) }
 
-string_tree : (room : ℕ) (s : List ℕ) → IsProper (Str s) → IsTree room (tree.Str s)
+pub string_tree : (room : ℕ) (s : List ℕ) → IsProper (Str s) → IsTree room (tree.Str s)
 string_tree room s h = let d = string_depth s in record { shallow = omega (arith, d); proper = rw (string_leaves s) (h, tt) }
 
 deepest : (room d : ℕ) (ts : List UserTree) → d ≤ room → AreTrees room ts → fold max d (map depth ts) ≤ room
@@ -71,6 +72,13 @@ list_tree room ts all =
     let d = list_depth ts in
     let m = deepest room 0 ts (omega arith) all in
     record { shallow = omega (arith, d, m); proper = rw (list_leaves ts) (proper_leaves room ts all) }
+
+-- a list of trees within some levels is a tree within one more
+pub list_within : (levels : ℕ) (ts : List UserTree) → AreTrees levels ts → IsTree (levels + 1) (tree.List ts)
+list_within levels ts all = let t = list_tree levels ts all in record { shallow = omega (arith, t.shallow); proper = t.proper }
+
+-- for a tree that is no list
+pub ruleset leaf_values = (word_tree, number_tree, string_tree, size-Word, size-Number, size-Str)
 
 -- ---- user data
 

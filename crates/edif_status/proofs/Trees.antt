@@ -1,6 +1,8 @@
 -- What trees, a list and a leaf read as, after a look at the next token.
 use Rattle.std.proofs.Common.{◌≡◌, ◌∙◌, sym, ap, refl, ℕ, zero, suc, ◌-◌, ◌<◌, true, false, Bool, List, [], ◌∷◌, ◌++◌, Option, Some, None, option_map, Result, Ok, Err, ℤ, arith}
-use Rattle.std.proofs.lemmas.List.{map_push}
+use Rattle.std.proofs.lemmas.List.{map_push, length_push}
+use Rattle.std.proofs.lemmas.List.Sums.{sum_by_push}
+use Rattle.nl_bytes.proofs.Uses.{AllByRecursion-push}
 use Rattle.grammar.specs.Part.{gives, sequence, Glance, leaves}
 use Rattle.grammar.specs.Reading.{read, and_then, judged, glanced}
 use Rattle.grammar.specs.Whole.{Terminal, proper, end}
@@ -181,7 +183,7 @@ pub too_deep : (room : ℕ) (k : List Alias) (c : Reader (List Alias) Found) (i 
 too_deep room k c i x none some live = rw (none, some, live) (deep_at k c.window x i)
 
 -- for a loop over the trees of a list
-pub ruleset tree_loops = (trees_more, trees_end, trees_fault, map_push, sequences)
+pub ruleset tree_loops = (trees_more, trees_end, trees_fault, AllByRecursion-push, sum_by_push, length_push, map_push, sequences)
 
 -- for a tree
 pub ruleset tree_choice = (tree_is_list, tree_is_leaf, tree_fault, too_deep, near_text, sequences)

@@ -5,7 +5,8 @@
 // value that they answer is the one that the tokens spell by the productions of `specs/Grammar.antt`, and the tokens behind the form are
 // left. A text fault is the first token that no text has there, or the fault of the bytes or the end in its place, with the reason for it;
 // in user data the `(` of a 65th list in one another is refused as TooDeep. A source that fails and want of memory aside, they answer
-// nothing else. What the tokens of a text spell keeps the limits of `edif_values`, whose types these are (lemmas in `proofs/Kept.antt`).
+// nothing else. What the tokens of a text spell keeps the limits of `edif_values`, whose types these are (lemmas in `proofs/Kept.antt`), and
+// so does the value that is answered of a source that tells no bytes; its lists have together fewer items than tokens were taken.
 #![tactic(auto)]
 
 pub mod note;

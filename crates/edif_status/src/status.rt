@@ -1,6 +1,9 @@
-ghost use Rattle.std.specs.Prelude.{[]};
-ghost use Rattle.readers.specs.Readers.{same, Reads};
+ghost use Rattle.std.specs.Prelude.{◌+◌, ◌<◌, [], IfOk};
+ghost use Rattle.readers.specs.Readers.{same, Reads, room};
 ghost use Rattle.edif_keywords.specs.Language.{edif};
+ghost use Rattle.std.specs.List.{AllByRecursion};
+ghost use Rattle.edif_values.specs.Values.{IsStatusItem, IsStatus};
+ghost use Rattle.edif_values.specs.Sizes.{list_size, status_item_size, status_size};
 ghost use Rattle.edif_status.specs.Grammar.{status_written, status_note, status_item, status_part, status_rest, status};
 
 use crate::note::read_note;
@@ -18,20 +21,24 @@ pub fn read_status<S: Source>(
     cursor: &mut Cursor,
     source: &mut S,
 ) -> Result<Status, ReadError>
-    ensures { Reads edif same status result cursor.old cursor.new (S.supply source.old) (S.supply source.new) }
+    ensures reads { Reads edif same status result cursor.old cursor.new (S.supply source.old) (S.supply source.new) }
+    ensures value { IfOk result IsStatus }
+    ensures size { IfOk result (λ s. status_size s + room cursor.new < room cursor.old) }
 {
     let items = read_status_items(alloc, cursor, source)?;
     Ok(Status { items })
 }
 
 /// Reads the parts of a status, up to the end of its form.
-#[tactic(auto, using(edif_keywords::proofs::Forms::item_loops), unfolding(crate::specs::Grammar::status_rest, crate::specs::Grammar::status_part))]
+#[tactic(auto, using(edif_keywords::proofs::Collected::item_lists), unfolding(crate::specs::Grammar::status_rest, crate::specs::Grammar::status_part))]
 fn read_status_items<S: Source>(
     alloc: Global,
     cursor: &mut Cursor,
     source: &mut S,
 ) -> Result<Seq<StatusItem>, ReadError>
-    ensures { Reads edif same (status_rest []) result cursor.old cursor.new (S.supply source.old) (S.supply source.new) }
+    ensures reads { Reads edif same (status_rest []) result cursor.old cursor.new (S.supply source.old) (S.supply source.new) }
+    ensures value { IfOk result (λ is. AllByRecursion IsStatusItem is) }
+    ensures size { IfOk result (λ is. list_size status_item_size is + room cursor.new < room cursor.old) }
 {
     let mut items = Seq::empty(alloc);
     while cursor.at_form(alloc, source)? {
@@ -49,7 +56,9 @@ fn read_status_item<S: Source>(
     cursor: &mut Cursor,
     source: &mut S,
 ) -> Result<StatusItem, ReadError>
-    ensures { Reads edif same status_part result cursor.old cursor.new (S.supply source.old) (S.supply source.new) }
+    ensures reads { Reads edif same status_part result cursor.old cursor.new (S.supply source.old) (S.supply source.new) }
+    ensures value { IfOk result IsStatusItem }
+    ensures size { IfOk result (λ i. status_item_size i + room cursor.new < room cursor.old) }
 {
     let allowed = &[Keyword::Written, Keyword::Comment, Keyword::UserData];
     let keyword = cursor.begin(alloc, allowed, source)?;
@@ -64,7 +73,9 @@ fn read_status_form<S: Source>(
     keyword: Keyword,
     source: &mut S,
 ) -> Result<StatusItem, ReadError>
-    ensures { Reads edif same (status_item keyword) result cursor.old cursor.new (S.supply source.old) (S.supply source.new) }
+    ensures reads { Reads edif same (status_item keyword) result cursor.old cursor.new (S.supply source.old) (S.supply source.new) }
+    ensures value { IfOk result IsStatusItem }
+    ensures size { IfOk result (λ i. status_item_size i + room cursor.new < room cursor.old) }
 {
     if same_keyword(keyword, Keyword::Written) {
         return status_written(alloc, cursor, source);
@@ -79,7 +90,9 @@ fn status_written<S: Source>(
     cursor: &mut Cursor,
     source: &mut S,
 ) -> Result<StatusItem, ReadError>
-    ensures { Reads edif same status_written result cursor.old cursor.new (S.supply source.old) (S.supply source.new) }
+    ensures reads { Reads edif same status_written result cursor.old cursor.new (S.supply source.old) (S.supply source.new) }
+    ensures value { IfOk result IsStatusItem }
+    ensures size { IfOk result (λ i. status_item_size i + room cursor.new < room cursor.old) }
 {
     let written = read_written(alloc, cursor, source)?;
     Ok(StatusItem::Written(written))
@@ -93,7 +106,9 @@ fn status_note<S: Source>(
     keyword: Keyword,
     source: &mut S,
 ) -> Result<StatusItem, ReadError>
-    ensures { Reads edif same (status_note keyword) result cursor.old cursor.new (S.supply source.old) (S.supply source.new) }
+    ensures reads { Reads edif same (status_note keyword) result cursor.old cursor.new (S.supply source.old) (S.supply source.new) }
+    ensures value { IfOk result IsStatusItem }
+    ensures size { IfOk result (λ i. status_item_size i + room cursor.new < room cursor.old) }
 {
     let note = read_note(alloc, cursor, keyword, source)?;
     Ok(StatusItem::Note(note))

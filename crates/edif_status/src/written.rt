@@ -1,6 +1,9 @@
-ghost use Rattle.std.specs.Prelude.{[]};
-ghost use Rattle.readers.specs.Readers.{same, Reads};
+ghost use Rattle.std.specs.Prelude.{◌+◌, ◌<◌, [], IfOk};
+ghost use Rattle.readers.specs.Readers.{same, Reads, room};
 ghost use Rattle.edif_keywords.specs.Language.{edif};
+ghost use Rattle.std.specs.List.{AllByRecursion};
+ghost use Rattle.edif_values.specs.Values.{IsInteger, IsStamp, IsVersion, IsWrittenItem, IsWritten};
+ghost use Rattle.edif_values.specs.Sizes.{list_size, written_item_size, written_size};
 ghost use Rattle.edif_status.specs.Grammar.{clock, stamp, version_text, no_version, maybe_version, author, program, data_origin, written_note, written_item, written_part, written_rest, written};
 
 use crate::note::read_note;
@@ -17,7 +20,9 @@ pub(crate) fn read_written<S: Source>(
     cursor: &mut Cursor,
     source: &mut S,
 ) -> Result<Written, ReadError>
-    ensures { Reads edif same written result cursor.old cursor.new (S.supply source.old) (S.supply source.new) }
+    ensures reads { Reads edif same written result cursor.old cursor.new (S.supply source.old) (S.supply source.new) }
+    ensures value { IfOk result IsWritten }
+    ensures size { IfOk result (λ w. written_size w + room cursor.new < room cursor.old) }
 {
     cursor.begin(alloc, &[Keyword::TimeStamp], source)?;
     let stamp = read_stamp(alloc, cursor, source)?;
@@ -32,7 +37,8 @@ fn read_stamp<S: Source>(
     cursor: &mut Cursor,
     source: &mut S,
 ) -> Result<Stamp, ReadError>
-    ensures { Reads edif same stamp result cursor.old cursor.new (S.supply source.old) (S.supply source.new) }
+    ensures reads { Reads edif same stamp result cursor.old cursor.new (S.supply source.old) (S.supply source.new) }
+    ensures value { IfOk result IsStamp }
 {
     let year = cursor.int(alloc, source)?;
     let month = cursor.int(alloc, source)?;
@@ -50,7 +56,11 @@ fn read_clock<S: Source>(
     day: Int,
     source: &mut S,
 ) -> Result<Stamp, ReadError>
-    ensures { Reads edif same (clock year month day) result cursor.old cursor.new (S.supply source.old) (S.supply source.new) }
+    requires year { IsInteger year }
+    requires month { IsInteger month }
+    requires day { IsInteger day }
+    ensures reads { Reads edif same (clock year month day) result cursor.old cursor.new (S.supply source.old) (S.supply source.new) }
+    ensures value { IfOk result IsStamp }
 {
     let hour = cursor.int(alloc, source)?;
     let minute = cursor.int(alloc, source)?;
@@ -67,13 +77,15 @@ fn read_clock<S: Source>(
 }
 
 /// Reads what is told of a writing, up to the end of its form.
-#[tactic(auto, using(edif_keywords::proofs::Forms::item_loops), unfolding(crate::specs::Grammar::written_rest, crate::specs::Grammar::written_part))]
+#[tactic(auto, using(edif_keywords::proofs::Collected::item_lists), unfolding(crate::specs::Grammar::written_rest, crate::specs::Grammar::written_part))]
 fn read_written_items<S: Source>(
     alloc: Global,
     cursor: &mut Cursor,
     source: &mut S,
 ) -> Result<Seq<WrittenItem>, ReadError>
-    ensures { Reads edif same (written_rest []) result cursor.old cursor.new (S.supply source.old) (S.supply source.new) }
+    ensures reads { Reads edif same (written_rest []) result cursor.old cursor.new (S.supply source.old) (S.supply source.new) }
+    ensures value { IfOk result (λ is. AllByRecursion IsWrittenItem is) }
+    ensures size { IfOk result (λ is. list_size written_item_size is + room cursor.new < room cursor.old) }
 {
     let mut items = Seq::empty(alloc);
     while cursor.at_form(alloc, source)? {
@@ -91,7 +103,9 @@ fn read_written_item<S: Source>(
     cursor: &mut Cursor,
     source: &mut S,
 ) -> Result<WrittenItem, ReadError>
-    ensures { Reads edif same written_part result cursor.old cursor.new (S.supply source.old) (S.supply source.new) }
+    ensures reads { Reads edif same written_part result cursor.old cursor.new (S.supply source.old) (S.supply source.new) }
+    ensures value { IfOk result IsWrittenItem }
+    ensures size { IfOk result (λ i. written_item_size i + room cursor.new < room cursor.old) }
 {
     let allowed = &[
         Keyword::Author,
@@ -112,7 +126,9 @@ fn read_written_form<S: Source>(
     keyword: Keyword,
     source: &mut S,
 ) -> Result<WrittenItem, ReadError>
-    ensures { Reads edif same (written_item keyword) result cursor.old cursor.new (S.supply source.old) (S.supply source.new) }
+    ensures reads { Reads edif same (written_item keyword) result cursor.old cursor.new (S.supply source.old) (S.supply source.new) }
+    ensures value { IfOk result IsWrittenItem }
+    ensures size { IfOk result (λ i. written_item_size i + room cursor.new < room cursor.old) }
 {
     if same_keyword(keyword, Keyword::Author) {
         return read_author(alloc, cursor, source);
@@ -134,7 +150,9 @@ fn read_author<S: Source>(
     cursor: &mut Cursor,
     source: &mut S,
 ) -> Result<WrittenItem, ReadError>
-    ensures { Reads edif same author result cursor.old cursor.new (S.supply source.old) (S.supply source.new) }
+    ensures reads { Reads edif same author result cursor.old cursor.new (S.supply source.old) (S.supply source.new) }
+    ensures value { IfOk result IsWrittenItem }
+    ensures size { IfOk result (λ i. written_item_size i + room cursor.new < room cursor.old) }
 {
     let name = cursor.string(alloc, source)?;
     cursor.finish_form(alloc, source)?;
@@ -148,7 +166,9 @@ fn read_program<S: Source>(
     cursor: &mut Cursor,
     source: &mut S,
 ) -> Result<WrittenItem, ReadError>
-    ensures { Reads edif same program result cursor.old cursor.new (S.supply source.old) (S.supply source.new) }
+    ensures reads { Reads edif same program result cursor.old cursor.new (S.supply source.old) (S.supply source.new) }
+    ensures value { IfOk result IsWrittenItem }
+    ensures size { IfOk result (λ i. written_item_size i + room cursor.new < room cursor.old) }
 {
     let name = cursor.string(alloc, source)?;
     let version = read_version(alloc, cursor, source)?;
@@ -162,7 +182,9 @@ fn read_data_origin<S: Source>(
     cursor: &mut Cursor,
     source: &mut S,
 ) -> Result<WrittenItem, ReadError>
-    ensures { Reads edif same data_origin result cursor.old cursor.new (S.supply source.old) (S.supply source.new) }
+    ensures reads { Reads edif same data_origin result cursor.old cursor.new (S.supply source.old) (S.supply source.new) }
+    ensures value { IfOk result IsWrittenItem }
+    ensures size { IfOk result (λ i. written_item_size i + room cursor.new < room cursor.old) }
 {
     let name = cursor.string(alloc, source)?;
     let version = read_version(alloc, cursor, source)?;
@@ -176,7 +198,8 @@ fn read_version<S: Source>(
     cursor: &mut Cursor,
     source: &mut S,
 ) -> Result<Option<Text>, ReadError>
-    ensures { Reads edif same maybe_version result cursor.old cursor.new (S.supply source.old) (S.supply source.new) }
+    ensures reads { Reads edif same maybe_version result cursor.old cursor.new (S.supply source.old) (S.supply source.new) }
+    ensures value { IfOk result IsVersion }
 {
     if cursor.at_form(alloc, source)? {
         cursor.begin(alloc, &[Keyword::Version], source)?;
@@ -192,7 +215,8 @@ fn read_version_text<S: Source>(
     cursor: &mut Cursor,
     source: &mut S,
 ) -> Result<Option<Text>, ReadError>
-    ensures { Reads edif same version_text result cursor.old cursor.new (S.supply source.old) (S.supply source.new) }
+    ensures reads { Reads edif same version_text result cursor.old cursor.new (S.supply source.old) (S.supply source.new) }
+    ensures value { IfOk result IsVersion }
 {
     let text = cursor.string(alloc, source)?;
     cursor.finish_form(alloc, source)?;
@@ -207,7 +231,8 @@ fn no_version<S: Source>(
     cursor: &mut Cursor,
     source: &mut S,
 ) -> Result<Option<Text>, ReadError>
-    ensures { Reads edif same no_version result cursor.old cursor.new (S.supply source.old) (S.supply source.new) }
+    ensures reads { Reads edif same no_version result cursor.old cursor.new (S.supply source.old) (S.supply source.new) }
+    ensures value { IfOk result IsVersion }
 {
     cursor.finish_form(alloc, source)?;
     Ok(None)

@@ -2,7 +2,6 @@
 use crate::given::source_of;
 use crate::texts::{ALIASED, PARTS, PARTS_WRITTEN, SMALL, SMALL_WRITTEN, TREES};
 use edif_library::{edif_size, read_edif};
-use edif_sizes::read_sized_edif;
 use edif_writer::write_edif;
 use nl_io::{MemSink, MemSource};
 use std::alloc::Global;
@@ -10,7 +9,7 @@ use std::test::Fail;
 
 /// The size of the file that a text is.
 fn size_of(alloc: Global, source: &mut MemSource) -> Option<u64> {
-    match read_sized_edif(alloc, source) {
+    match read_edif(alloc, source) {
         Ok(file) => Some(edif_size(&file)),
         Err(_) => None,
     }

@@ -1,5 +1,5 @@
 -- The `(` and the word that begin a form, where the bytes that are held show both.
-use Rattle.std.proofs.Common.{◌≡◌, ℕ, ◌+◌, ◌<◌, ◌≤◌, Bool, true, false, cond, eqb, leb, List, [], ◌∷◌, length, take, drop, Option, Some, None, Ok, refl, sym, ap, ◌∙◌, subst, arith, length-take, length-drop}
+use Rattle.std.proofs.Common.{◌≡◌, ℕ, ◌<◌, ◌≤◌, Bool, true, false, cond, eqb, leb, List, [], ◌∷◌, length, take, drop, Option, Some, None, refl, sym, ap, ◌∙◌, subst, arith, length-take, length-drop}
 use Rattle.std.specs.Prelude.{IsFalse}
 use Rattle.std.proofs.lemmas.Bool.{eqb-true}
 use Rattle.std.proofs.lemmas.List.Sums.{prefix_len-le-length}
@@ -7,7 +7,7 @@ use Rattle.nl_bytes.specs.declared.bytes.TheConstants.{LIMIT}
 use Rattle.nl_bytes.specs.Classes.{is_space}
 use Rattle.nl_bytes.specs.Bytes.{Window, given}
 use Rattle.edif_tokens.specs.declared.form.FormAt.{FormAt}
-use Rattle.edif_tokens.specs.Held.{is_near, space_length, past, past_space, front_mark, held_mark, past_mark, word_length, front_word, held_word, past_word}
+use Rattle.edif_tokens.specs.Held.{is_near, space_length, past_space, front_mark, held_mark, past_mark, word_length, front_word, held_word, past_word}
 use Rattle.edif_tokens.specs.HeldForm.{no_form, opened, form_behind, form_at, ReadsForm}
 use Rattle.edif_tokens.specs.Streams.{State}
 use Rattle.edif_tokens.proofs.HeldTokens.{past_given, space_given, past_mark_is, word_enough, mark_taken, word_taken}

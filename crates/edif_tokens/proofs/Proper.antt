@@ -82,7 +82,7 @@ signed_small : (t : Bool) (m : ℕ) → m < 2 ^ 63 → nat_abs (cond t (neg_ℤ 
 signed_small true m lt = rw (neg_abs m) lt
 signed_small false m lt = lt
 
-integer_small : (text : List ℕ) → IfSome (integer_of text) (λ z. nat_abs z < 2 ^ 63)
+pub integer_small : (text : List ℕ) → IfSome (integer_of text) (λ z. nat_abs z < 2 ^ 63)
 integer_small [] = tt
 integer_small (b ∷ bs) = go (cond (eqb b 43 || eqb b 45) (decimal_value bs) (decimal_value (b ∷ bs)))
   where

@@ -1,6 +1,7 @@
-ghost use Rattle.std.specs.Prelude.{◌≡◌, ◌≤◌, ◌<◌, ℕ, List, length, Option, IfOk, IsErrOf};
+ghost use Rattle.std.specs.Prelude.{◌≡◌, ◌≤◌, ◌<◌, ℕ, List, length, Option, IfOk, IfSome, IsErrOf};
 ghost use Rattle.nl_io.specs.Causes.{Rose};
 ghost use Rattle.nl_base.specs.Faults.{OnText};
+ghost use Rattle.edif_values.specs.Proper.{IsProper};
 ghost use Rattle.edif_tokens.specs.Scan.{Finds};
 
 use crate::lexeme::token;
@@ -23,6 +24,7 @@ pub fn found<S: Source>(
     ensures bounded { OnText result (λ t. bytes.new.place.offset ≤ t.stop) }
     ensures count { (S.supply source.old).faults ≤ (S.supply source.new).faults }
     ensures cause { IsErrOf result ReadError.ReadFault → Rose (S.supply source.old).faults (S.supply source.new).faults }
+    ensures proper { IfOk result (λ t. IfSome t (λ x. IsProper x.token)) }
 {
     let next = bytes.skip(Class::Space, source)?;
     let Some(byte) = next else {

@@ -1,6 +1,7 @@
 ghost use Rattle.std.specs.Prelude.{◌≡◌, ◌+◌, ◌<◌, ◌≤◌, ◌^◌, ◌∷◌, [], ℕ, true, List, length, Some, None, Option, IfOk, IfSome, IsNone, false, IsErrOf, Ok, Err};
 ghost use Rattle.nl_io.specs.Causes.{Rose};
 ghost use Rattle.nl_base.specs.Faults.{OnText};
+ghost use Rattle.edif_values.specs.Proper.{IsProper};
 ghost use Rattle.nl_bytes.specs.Classes.{in_class};
 ghost use Rattle.nl_bytes.specs.Bytes.{Uses};
 ghost use Rattle.nl_base.specs.Place.{place_past};
@@ -98,7 +99,8 @@ fn pieced_text<S: Source>(
 pub fn word_of(text: Text) -> Token
     requires spelled { is_identifier text ≡ true }
     requires short { length text ≤ 1024 }
-    ensures { result ≡ Token.Word text }
+    ensures token { result ≡ Token.Word text }
+    ensures proper { IsProper result }
 {
     Token::Word(Ident::of(text))
 }
@@ -121,6 +123,7 @@ fn pieced_word<S: Source>(
     ensures never_spent { IsErrOf result ReadError.Spent → ⊥ }
     ensures bounded { OnText result (λ t. bytes.new.place.offset ≤ t.stop) }
     ensures ended { IfOk result (λ f. bytes.new.place.offset ≤ f.stop) }
+    ensures proper { IfOk result (λ f. IsProper f.token) }
 {
     let place = bytes.place();
     let Spanned { text, stop } = pieced_text(
@@ -141,7 +144,8 @@ fn pieced_word<S: Source>(
 
 /// The number that digits are, or that they are out of range.
 pub fn number_found(place: Place, stop: u64, digits: &[u8]) -> Result<Found, ReadError>
-    ensures { result ≡ number_found place stop digits.now }
+    ensures found { result ≡ number_found place stop digits.now }
+    ensures proper { IfOk result (λ f. IsProper f.token) }
 {
     match integer_of(digits) {
         None => Err(refuse(place, stop, Reason::NumberRange)),
@@ -172,6 +176,7 @@ fn pieced_number<S: Source>(
     ensures never_spent { IsErrOf result ReadError.Spent → ⊥ }
     ensures bounded { OnText result (λ t. bytes.new.place.offset ≤ t.stop) }
     ensures ended { IfOk result (λ f. bytes.new.place.offset ≤ f.stop) }
+    ensures proper { IfOk result (λ f. IsProper f.token) }
 {
     let Spanned { text, stop } = pieced_text(
         bytes,
@@ -201,6 +206,7 @@ fn pieced_token<S: Source>(
     ensures never_spent { IsErrOf result ReadError.Spent → ⊥ }
     ensures bounded { OnText result (λ t. bytes.new.place.offset ≤ t.stop) }
     ensures ended { IfOk result (λ f. bytes.new.place.offset ≤ f.stop) }
+    ensures proper { IfOk result (λ f. IsProper f.token) }
 {
     match start_of(byte) {
         Start::Open => Ok(mark(bytes, byte, Token::LeftParen, source)),
@@ -243,6 +249,7 @@ pub fn token<S: Source>(
     ensures bounded { OnText result (λ t. bytes.new.place.offset ≤ t.stop) }
     ensures limit { IfOk result (λ f. f.stop ≤ LIMIT) }
     ensures ended { IfOk result (λ f. bytes.new.place.offset ≤ f.stop) }
+    ensures proper { IfOk result (λ f. IsProper f.token) }
 {
     if byte == b'"' {
         let count = held_quoted(bytes);

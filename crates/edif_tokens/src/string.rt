@@ -1,7 +1,8 @@
-ghost use Rattle.std.specs.Prelude.{◌≡◌, ◌+◌, ◌<◌, ◌≤◌, ◌∷◌, [], ℕ, true, false, List, length, Option, IfOk, OnOk, IsErrOf, IsTrue};
+ghost use Rattle.std.specs.Prelude.{◌≡◌, ◌+◌, ◌<◌, ◌≤◌, ◌∷◌, [], ℕ, true, false, List, length, All, Option, IfOk, OnOk, IsErrOf, IsTrue};
 ghost use Rattle.std.specs.Char.{is_ascii_digit};
 ghost use Rattle.nl_io.specs.Causes.{Rose};
 ghost use Rattle.nl_base.specs.Faults.{OnText};
+ghost use Rattle.edif_values.specs.Proper.{IsProper};
 ghost use Rattle.edif_tokens.specs.Strings.{Codes, Within, Parts, Escape, Code};
 ghost use Rattle.edif_tokens.specs.Scan.{ReadsPart, Reads};
 ghost use Rattle.edif_tokens.specs.Spelling.{string_spelled};
@@ -56,6 +57,7 @@ fn add_code<S: Source>(
     ensures cause { IsErrOf result ReadError.ReadFault → Rose (S.supply source.old).faults (S.supply source.new).faults }
     ensures never_spent { IsErrOf result ReadError.Spent → ⊥ }
     ensures bounded { OnText result (λ t. bytes.new.place.offset ≤ t.stop) }
+    ensures short { OnOk result (length value.new.items ≤ 1048576) }
 {
     let code = code(bytes, begun, source)?;
     let here = bytes.place();
@@ -77,11 +79,13 @@ fn escape<S: Source>(
     value: &mut Vec<u8>,
     source: &mut S,
 ) -> Result<(), ReadError>
+    requires { length value.old.items ≤ 1048576 }
     ensures reads { ReadsPart (λ s. Escape s false) (λ s. Parts) place start bytes.old bytes.new (S.supply source.old).left (S.supply source.new).left value.old.items value.new.items result }
     ensures count { (S.supply source.old).faults ≤ (S.supply source.new).faults }
     ensures cause { IsErrOf result ReadError.ReadFault → Rose (S.supply source.old).faults (S.supply source.new).faults }
     ensures never_spent { IsErrOf result ReadError.Spent → ⊥ }
     ensures bounded { OnText result (λ t. bytes.new.place.offset ≤ t.stop) }
+    ensures short { OnOk result (length value.new.items ≤ 1048576) }
 {
     let mut coded = false;
     loop {
@@ -110,6 +114,7 @@ fn parts<S: Source>(
     value: &mut Vec<u8>,
     source: &mut S,
 ) -> Result<(), ReadError>
+    requires { length value.old.items ≤ 1048576 }
     ensures reads { ReadsPart (λ s. Parts) (λ s. Parts) place place bytes.old bytes.new (S.supply source.old).left (S.supply source.new).left value.old.items value.new.items result }
     ensures quote { OnOk result ((rest : List ℕ) × (bytes.new.held ≡ 34 ∷ rest)) }
     ensures within { OnOk result (bytes.new.place.offset ≤ LIMIT) }
@@ -117,6 +122,7 @@ fn parts<S: Source>(
     ensures cause { IsErrOf result ReadError.ReadFault → Rose (S.supply source.old).faults (S.supply source.new).faults }
     ensures never_spent { IsErrOf result ReadError.Spent → ⊥ }
     ensures bounded { OnText result (λ t. bytes.new.place.offset ≤ t.stop) }
+    ensures short { OnOk result (length value.new.items ≤ 1048576) }
 {
     'parts: loop {
         let most = MOST.saturating_sub(value.len());
@@ -139,6 +145,25 @@ fn parts<S: Source>(
     }
 }
 
+/// Each byte is below 256.
+#[inline(always)]
+fn each_is_byte(bytes: &[u8])
+    ensures { All (λ b. b < 256) bytes.now }
+{
+    let _first = bytes.first();
+}
+
+/// The string that a text is.
+#[inline(always)]
+pub fn string_of(text: Text) -> Token
+    requires { length text ≤ 1048576 }
+    ensures token { result ≡ Token.Str text }
+    ensures proper { IsProper result }
+{
+    each_is_byte(text.bytes());
+    Token::Str(text)
+}
+
 /// Reads a string, whose first quote is ahead.
 #[inline(never)]
 pub fn string<S: Source>(
@@ -156,6 +181,7 @@ pub fn string<S: Source>(
     ensures never_spent { IsErrOf result ReadError.Spent → ⊥ }
     ensures bounded { OnText result (λ t. bytes.new.place.offset ≤ t.stop) }
     ensures ended { IfOk result (λ f. bytes.new.place.offset ≤ f.stop) }
+    ensures proper { IfOk result (λ f. IsProper f.token) }
 {
     bytes.advance();
     let mut value = Vec::new(alloc);
@@ -166,6 +192,6 @@ pub fn string<S: Source>(
     Ok(Found {
         place,
         stop: here.offset + 1,
-        token: Token::Str(text),
+        token: string_of(text),
     })
 }

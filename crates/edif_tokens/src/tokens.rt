@@ -1,4 +1,4 @@
-ghost use Rattle.std.specs.Prelude.{◌≡◌, ◌+◌, ◌<◌, ◌≤◌, ℕ, List, Option, Some, Ok, length, IfOk, IsFalse};
+ghost use Rattle.std.specs.Prelude.{◌≡◌, ◌+◌, ◌<◌, ◌≤◌, ℕ, List, Option, Some, Ok, length, IfOk, IfSome, IsFalse};
 ghost use Rattle.nl_bytes.specs.declared.bytes.TheConstants.{LIMIT};
 
 use crate::finding::found;
@@ -31,6 +31,7 @@ impl Model for Tokens {
 
 impl Tokens {
     ghost use Rattle.edif_values.specs.declared.token.Token.TheVariants.{Word};
+    ghost use Rattle.edif_values.specs.Proper.{IsProper};
     ghost use Rattle.edif_tokens.specs.Stream.{ReadsToken, fresh};
     ghost use Rattle.edif_tokens.specs.Held.{held_mark, mark_token, past_mark, held_word, past_word};
     ghost use Rattle.edif_tokens.specs.HeldForm.{form_at, ReadsForm};
@@ -176,7 +177,8 @@ impl Tokens {
         alloc: Global,
         source: &mut S,
     ) -> Result<Option<Found>, ReadError>
-        ensures { ReadsToken result self.old self.new (S.supply source.old).left (S.supply source.new).left (S.supply source.old).faults (S.supply source.new).faults }
+        ensures reads { ReadsToken result self.old self.new (S.supply source.old).left (S.supply source.new).left (S.supply source.old).faults (S.supply source.new).faults }
+        ensures proper { IfOk result (λ t. IfSome t (λ x. IsProper x.token)) }
     {
         if self.spent {
             return Err(ReadError::Spent);

@@ -1,6 +1,7 @@
 // Tokens that are held whole, with the byte that shows their end.
 ghost use Rattle.std.specs.Prelude.{◌≡◌, ◌↔◌, ◌+◌, ◌<◌, ◌≤◌, ◌∷◌, [], ℕ, true, false, List, length, Some, None, Option, IfOk, IfErr, IfSome, IsNone, IsSome, IsTrue, IsErrOf, Ok, Err};
 ghost use Rattle.nl_base.specs.Faults.{OnText};
+ghost use Rattle.edif_values.specs.Proper.{IsProper};
 ghost use Rattle.nl_bytes.specs.Bytes.{Uses, given};
 ghost use Rattle.edif_tokens.specs.Scan.{Reads, IsWhole, IsQuoted, NoneWhole, NoneQuoted};
 ghost use Rattle.edif_tokens.specs.Spelling.{word_spelled, number_spelled, string_spelled, token_by, start_of, begins_word, is_parenthesis};
@@ -8,6 +9,7 @@ ghost use Rattle.edif_tokens.specs.Scan.{number_found};
 
 use crate::lexeme::{number_found, word_of};
 use crate::scan::may_follow;
+use crate::string::string_of;
 use crate::token::Found;
 use edif_values::Token;
 use nl_base::{ReadError, Text};
@@ -42,6 +44,7 @@ pub fn held_mark<S: Source>(bytes: &mut Bytes, byte: u8, source: &S) -> Option<F
     ensures reads { IfSome result (λ f. Reads (token_by (start_of byte)) bytes.old.place bytes.old bytes.new (S.supply source.now).left (S.supply source.now).left (Ok f)) }
     ensures limit { IfSome result (λ f. f.stop ≤ LIMIT) }
     ensures ended { IfSome result (λ f. bytes.new.place.offset ≤ f.stop) }
+    ensures proper { IfSome result (λ f. IsProper f.token) }
     ensures comes { IsSome result ↔ (IsTrue (is_parenthesis byte) × (bytes.old.place.offset < LIMIT)) }
     ensures none { IsNone result → bytes.new ≡ bytes.old }
 {
@@ -95,6 +98,7 @@ pub fn held_word<S: Source>(
     ensures reads { Reads (word_spelled false) bytes.old.place bytes.old bytes.new (S.supply source.now).left (S.supply source.now).left result }
     ensures limit { IfOk result (λ f. f.stop ≤ LIMIT) }
     ensures ended { IfOk result (λ f. bytes.new.place.offset ≤ f.stop) }
+    ensures proper { IfOk result (λ f. IsProper f.token) }
     ensures error { IfErr result (λ e. e ≡ ReadError.NoMemory) }
 {
     let place = bytes.place();
@@ -125,6 +129,7 @@ pub fn held_number<S: Source>(
     ensures never_spent { IsErrOf result ReadError.Spent → ⊥ }
     ensures bounded { OnText result (λ t. bytes.new.place.offset ≤ t.stop) }
     ensures ended { IfOk result (λ f. bytes.new.place.offset ≤ f.stop) }
+    ensures proper { IfOk result (λ f. IsProper f.token) }
 {
     let place = bytes.place();
     let (front, _) = bytes.held().split_at(count);
@@ -166,6 +171,7 @@ pub fn held_string<S: Source>(
     ensures reads { Reads string_spelled bytes.old.place bytes.old bytes.new (S.supply source.now).left (S.supply source.now).left result }
     ensures limit { IfOk result (λ f. f.stop ≤ LIMIT) }
     ensures ended { IfOk result (λ f. bytes.new.place.offset ≤ f.stop) }
+    ensures proper { IfOk result (λ f. IsProper f.token) }
     ensures error { IfErr result (λ e. e ≡ ReadError.NoMemory) }
 {
     let place = bytes.place();
@@ -178,6 +184,6 @@ pub fn held_string<S: Source>(
     Ok(Found {
         place,
         stop: place.offset + count as u64,
-        token: Token::Str(text),
+        token: string_of(text),
     })
 }

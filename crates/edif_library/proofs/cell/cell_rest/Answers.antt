@@ -1,36 +1,59 @@
-use Rattle.std.proofs.Common.{arith}
-use Rattle.edif_library.proofs.Once.{cell_loops}
+use Rattle.std.proofs.Common.{refl, ◌||◌, ◌∙◌, ap, sym, arith}
+use Rattle.std.proofs.lemmas.Result.{err_from_is_err_and}
+use Rattle.nl_bytes.proofs.Uses.{AllByRecursion-push}
+use Rattle.edif_values.specs.Values.{is_view}
+use Rattle.edif_values.specs.Sizes.{list_size, cell_item_size}
+use Rattle.edif_library.proofs.Items.{begun, look_failed, end_failed, ended, fewer, item_failed, add_failed, smaller, turn, one_more}
+use Rattle.edif_library.proofs.Once.{AreCellItems, viewed_more, none_viewed, viewed_once}
 use Rattle.edif_library.specs.Grammar.{cell_rest}
 use Rattle.edif_library.proofs.cell.cell_rest.Goals as goal
 
 pub loop-items-init : goal.loop-items-init
 unfolding cell_rest
-loop-items-init g c = grind (arith, cell_loops)
+loop-items-init g c = rw c.empty-items.ensures (sym none_viewed, begun _ (tt, omega arith) refl)
 
 pub returns-in_err-at_form : goal.returns-in_err-at_form
 unfolding cell_rest
-returns-in_err-at_form g c = grind (arith, cell_loops)
+returns-in_err-at_form g c =
+    let p = err_from_is_err_and c.from_residual.result c.from_residual.ensures.1 in
+    rw (p.1, p.2) (record { reads = look_failed _ _ AreCellItems (list_size cell_item_size) _ c.loop-items.invariant.1 c.in_err-at_form.ensures.looks; value = tt; once = tt; size = tt })
 
 pub returns-in_err-item : goal.returns-in_err-item
 unfolding cell_rest
-returns-in_err-item g c = grind (arith, cell_loops)
+returns-in_err-item g c =
+    let p = err_from_is_err_and c.from_residual-in_err-item.result c.from_residual-in_err-item.ensures.1 in
+    rw (p.1, p.2) (record { reads = item_failed _ _ AreCellItems (list_size cell_item_size) _ c.loop-items.invariant.1 (rw c.if-branch.true at c.in_ok-at_form.ensures.looks) (rw c.loop-items.invariant.0 at c.in_err-item.ensures.reads); value = tt; once = tt; size = tt })
 
 pub loop-items-smaller : goal.loop-items-smaller
 unfolding cell_rest
-loop-items-smaller g c = grind (arith, cell_loops)
+loop-items-smaller g c = smaller _ _ AreCellItems (list_size cell_item_size) _ c.loop-items.invariant.1 (rw c.if-branch.true at c.in_ok-at_form.ensures.looks) (rw c.loop-items.invariant.0 at c.in_ok-item.ensures.reads) c.in_ok-add.ensures
 
 pub loop-items-preserved : goal.loop-items-preserved
 unfolding cell_rest
-loop-items-preserved g c = grind (arith, cell_loops)
+loop-items-preserved g c = (
+  rw (c.in_ok-add.ensures.added.0, viewed_more) (c.is_viewed-viewed.ensures ∙ ap (λ b. b || is_view c.in_ok-item.item) c.loop-items.invariant.0),
+  turn _ _ AreCellItems (list_size cell_item_size) _ c.loop-items.invariant.1 (rw c.if-branch.true at c.in_ok-at_form.ensures.looks) (rw c.loop-items.invariant.0 at c.in_ok-item.ensures.reads) c.in_ok-add.ensures
+      (AllByRecursion-push _ _ _ c.loop-items.invariant.1.good.0 c.in_ok-item.ensures.value, viewed_once _ _ _ c.loop-items.invariant.0 c.in_ok-item.ensures.once c.loop-items.invariant.1.good.1)
+      (one_more cell_item_size c.loop-items.items c.in_ok-item.item _ _ c.in_ok-item.ensures.size),
+)
 
 pub returns-in_err-add : goal.returns-in_err-add
 unfolding cell_rest
-returns-in_err-add g c = grind (arith, cell_loops)
+returns-in_err-add g c =
+    let p = err_from_is_err_and c.from_residual-in_err-add.result c.from_residual-in_err-add.ensures.1 in
+    rw (p.1, p.2) (record { reads = add_failed _ _ AreCellItems (list_size cell_item_size) _ c.loop-items.invariant.1 (rw c.if-branch.true at c.in_ok-at_form.ensures.looks) (rw c.loop-items.invariant.0 at c.in_ok-item.ensures.reads) c.in_err-add.ensures; value = tt; once = tt; size = tt })
 
 pub returns-in_err-finish_form : goal.returns-in_err-finish_form
 unfolding cell_rest
-returns-in_err-finish_form g c = grind (arith, cell_loops)
+returns-in_err-finish_form g c =
+    let p = err_from_is_err_and c.from_residual-in_err-finish_form.result c.from_residual-in_err-finish_form.ensures.1 in
+    rw (p.1, p.2) (record { reads = end_failed _ _ AreCellItems (list_size cell_item_size) _ c.loop-items.invariant.1 (rw c.if-branch.false at c.in_ok-at_form.ensures.looks) c.in_err-finish_form.ensures; value = tt; once = tt; size = tt })
 
 pub returns : goal.returns
 unfolding cell_rest
-returns g c = grind (arith, cell_loops)
+returns g c = record {
+  reads = ended _ _ AreCellItems (list_size cell_item_size) _ c.loop-items.invariant.1 (rw c.if-branch.false at c.in_ok-at_form.ensures.looks) c.in_ok-finish_form.ensures;
+  value = c.loop-items.invariant.1.good.0;
+  once = c.loop-items.invariant.1.good.1;
+  size = fewer _ _ AreCellItems (list_size cell_item_size) _ c.loop-items.invariant.1 (rw c.if-branch.false at c.in_ok-at_form.ensures.looks) c.in_ok-finish_form.ensures;
+}

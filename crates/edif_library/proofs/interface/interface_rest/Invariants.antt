@@ -1,12 +1,15 @@
 use Rattle.std.specs.Prelude.{[]}
+use Rattle.std.specs.List.{AllByRecursion}
+use Rattle.edif_values.specs.Values.{IsInterfaceItem}
+use Rattle.edif_values.specs.Sizes.{list_size, interface_item_size}
 use Rattle.readers.specs.Readers.{room}
-use Rattle.readers.proofs.Loops.{Goes}
+use Rattle.readers.proofs.Loops.{Collects}
 use Rattle.edif_keywords.specs.Language.{edif}
 use Rattle.edif_library.specs.Grammar.{interface_rest}
 use Rattle.edif_library.proofs.interface.interface_rest.Given as goal
 
 abbrev pub invariant-loop-items : goal.invariant-loop-items
-invariant-loop-items g l = Goes edif (interface_rest []) (interface_rest l.items) l.cursor l.fn.cursor (g.S.Source.supply l.source) (g.S.Source.supply l.fn.source)
+invariant-loop-items g l = Collects edif (interface_rest []) (interface_rest l.items) (AllByRecursion IsInterfaceItem l.items) (list_size interface_item_size l.items) l.cursor l.fn.cursor (g.S.Source.supply l.source) (g.S.Source.supply l.fn.source)
 
 abbrev pub decreases-loop-items : goal.decreases-loop-items
 decreases-loop-items g l = room l.cursor

@@ -4,21 +4,21 @@ use Rattle.edif_names.specs.Grammar.{array}
 use Rattle.edif_names.proofs.name.array.Goals as goal
 
 -- src/name.rt:112:16
-pub returns-in_err-name : goal.returns-in_err-name
+pub returns-in_err-name-clause-reads : goal.returns-in_err-name-clause-reads
 unfolding array
-returns-in_err-name g c = grind (arith, sequences)
+returns-in_err-name-clause-reads g c = grind (arith, sequences)
 
 -- src/name.rt:113:16
-pub returns-in_err-size : goal.returns-in_err-size
+pub returns-in_err-size-clause-reads : goal.returns-in_err-size-clause-reads
 unfolding array
-returns-in_err-size g c = grind (arith, sequences)
+returns-in_err-size-clause-reads g c = grind (arith, sequences)
 
 -- src/name.rt:114:5
-pub returns-in_err-finish_form : goal.returns-in_err-finish_form
+pub returns-in_err-finish_form-clause-reads : goal.returns-in_err-finish_form-clause-reads
 unfolding array
-returns-in_err-finish_form g c = grind (arith, sequences)
+returns-in_err-finish_form-clause-reads g c = grind (arith, sequences)
 
 -- src/name.rt:104:1
-pub returns : goal.returns
+pub returns-clause-reads : goal.returns-clause-reads
 unfolding array
-returns g c = grind (arith, sequences)
+returns-clause-reads g c = grind (arith, sequences)

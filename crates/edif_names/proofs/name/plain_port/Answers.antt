@@ -4,11 +4,11 @@ use Rattle.edif_names.specs.Grammar.{plain_port}
 use Rattle.edif_names.proofs.name.plain_port.Goals as goal
 
 -- src/name.rt:138:16
-pub returns-in_err-name : goal.returns-in_err-name
+pub returns-in_err-name-clause-reads : goal.returns-in_err-name-clause-reads
 unfolding plain_port
-returns-in_err-name g c = grind (arith, sequences)
+returns-in_err-name-clause-reads g c = grind (arith, sequences)
 
 -- src/name.rt:130:1
-pub returns : goal.returns
+pub returns-clause-reads : goal.returns-clause-reads
 unfolding plain_port
-returns g c = grind (arith, sequences)
+returns-clause-reads g c = grind (arith, sequences)

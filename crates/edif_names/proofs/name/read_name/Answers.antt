@@ -4,21 +4,21 @@ use Rattle.edif_names.specs.Grammar.{name}
 use Rattle.edif_names.proofs.name.read_name.Goals as goal
 
 -- src/name.rt:35:8
-pub returns-in_err-at_form : goal.returns-in_err-at_form
+pub returns-in_err-at_form-clause-reads : goal.returns-in_err-at_form-clause-reads
 unfolding name
-returns-in_err-at_form g c = grind (arith, form_or_token)
+returns-in_err-at_form-clause-reads g c = grind (arith, form_or_token)
 
 -- src/name.rt:36:9
-pub returns-in_err-begin : goal.returns-in_err-begin
+pub returns-in_err-begin-clause-reads : goal.returns-in_err-begin-clause-reads
 unfolding name
-returns-in_err-begin g c = grind (arith, form_or_token)
+returns-in_err-begin-clause-reads g c = grind (arith, form_or_token)
 
 -- src/name.rt:37:9
-pub returns-then-branch : goal.returns-then-branch
+pub returns-then-branch-clause-reads : goal.returns-then-branch-clause-reads
 unfolding name
-returns-then-branch g c = grind (arith, form_or_token)
+returns-then-branch-clause-reads g c = grind (arith, form_or_token)
 
 -- src/name.rt:27:1
-pub returns : goal.returns
+pub returns-clause-reads : goal.returns-clause-reads
 unfolding name
-returns g c = grind (arith, form_or_token)
+returns-clause-reads g c = grind (arith, form_or_token)

@@ -4,21 +4,21 @@ use Rattle.edif_names.specs.Grammar.{port_name}
 use Rattle.edif_names.proofs.name.read_port_name.Goals as goal
 
 -- src/name.rt:81:8
-pub returns-in_err-at_form : goal.returns-in_err-at_form
+pub returns-in_err-at_form-clause-reads : goal.returns-in_err-at_form-clause-reads
 unfolding port_name
-returns-in_err-at_form g c = grind (arith, form_or_token)
+returns-in_err-at_form-clause-reads g c = grind (arith, form_or_token)
 
 -- src/name.rt:82:23
-pub returns-in_err-keyword : goal.returns-in_err-keyword
+pub returns-in_err-keyword-clause-reads : goal.returns-in_err-keyword-clause-reads
 unfolding port_name
-returns-in_err-keyword g c = grind (arith, form_or_token)
+returns-in_err-keyword-clause-reads g c = grind (arith, form_or_token)
 
 -- src/name.rt:83:9
-pub returns-then-branch : goal.returns-then-branch
+pub returns-then-branch-clause-reads : goal.returns-then-branch-clause-reads
 unfolding port_name
-returns-then-branch g c = grind (arith, form_or_token)
+returns-then-branch-clause-reads g c = grind (arith, form_or_token)
 
 -- src/name.rt:73:1
-pub returns : goal.returns
+pub returns-clause-reads : goal.returns-clause-reads
 unfolding port_name
-returns g c = grind (arith, form_or_token)
+returns-clause-reads g c = grind (arith, form_or_token)

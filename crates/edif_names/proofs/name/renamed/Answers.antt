@@ -4,21 +4,21 @@ use Rattle.edif_names.specs.Grammar.{renamed}
 use Rattle.edif_names.proofs.name.renamed.Goals as goal
 
 -- src/name.rt:51:17
-pub returns-in_err-ident : goal.returns-in_err-ident
+pub returns-in_err-ident-clause-reads : goal.returns-in_err-ident-clause-reads
 unfolding renamed
-returns-in_err-ident g c = grind (arith, sequences)
+returns-in_err-ident-clause-reads g c = grind (arith, sequences)
 
 -- src/name.rt:52:16
-pub returns-in_err-text : goal.returns-in_err-text
+pub returns-in_err-text-clause-reads : goal.returns-in_err-text-clause-reads
 unfolding renamed
-returns-in_err-text g c = grind (arith, sequences)
+returns-in_err-text-clause-reads g c = grind (arith, sequences)
 
 -- src/name.rt:53:5
-pub returns-in_err-finish_form : goal.returns-in_err-finish_form
+pub returns-in_err-finish_form-clause-reads : goal.returns-in_err-finish_form-clause-reads
 unfolding renamed
-returns-in_err-finish_form g c = grind (arith, sequences)
+returns-in_err-finish_form-clause-reads g c = grind (arith, sequences)
 
 -- src/name.rt:43:1
-pub returns : goal.returns
+pub returns-clause-reads : goal.returns-clause-reads
 unfolding renamed
-returns g c = grind (arith, sequences)
+returns-clause-reads g c = grind (arith, sequences)

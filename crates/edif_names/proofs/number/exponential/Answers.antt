@@ -4,21 +4,21 @@ use Rattle.edif_names.specs.Grammar.{exponential}
 use Rattle.edif_names.proofs.number.exponential.Goals as goal
 
 -- src/number.rt:37:20
-pub returns-in_err-mantissa : goal.returns-in_err-mantissa
+pub returns-in_err-mantissa-clause-reads : goal.returns-in_err-mantissa-clause-reads
 unfolding exponential
-returns-in_err-mantissa g c = grind (arith, sequences)
+returns-in_err-mantissa-clause-reads g c = grind (arith, sequences)
 
 -- src/number.rt:38:20
-pub returns-in_err-exponent : goal.returns-in_err-exponent
+pub returns-in_err-exponent-clause-reads : goal.returns-in_err-exponent-clause-reads
 unfolding exponential
-returns-in_err-exponent g c = grind (arith, sequences)
+returns-in_err-exponent-clause-reads g c = grind (arith, sequences)
 
 -- src/number.rt:39:5
-pub returns-in_err-finish_form : goal.returns-in_err-finish_form
+pub returns-in_err-finish_form-clause-reads : goal.returns-in_err-finish_form-clause-reads
 unfolding exponential
-returns-in_err-finish_form g c = grind (arith, sequences)
+returns-in_err-finish_form-clause-reads g c = grind (arith, sequences)
 
 -- src/number.rt:29:1
-pub returns : goal.returns
+pub returns-clause-reads : goal.returns-clause-reads
 unfolding exponential
-returns g c = grind (arith, sequences)
+returns-clause-reads g c = grind (arith, sequences)

@@ -4,11 +4,11 @@ use Rattle.edif_names.specs.Grammar.{whole}
 use Rattle.edif_names.proofs.number.whole.Goals as goal
 
 -- src/number.rt:47:20
-pub returns-in_err-mantissa : goal.returns-in_err-mantissa
+pub returns-in_err-mantissa-clause-reads : goal.returns-in_err-mantissa-clause-reads
 unfolding whole
-returns-in_err-mantissa g c = grind (arith, sequences)
+returns-in_err-mantissa-clause-reads g c = grind (arith, sequences)
 
 -- src/number.rt:43:1
-pub returns : goal.returns
+pub returns-clause-reads : goal.returns-clause-reads
 unfolding whole
-returns g c = grind (arith, sequences)
+returns-clause-reads g c = grind (arith, sequences)

@@ -4,16 +4,16 @@ use Rattle.edif_names.specs.Grammar.{owner}
 use Rattle.edif_names.proofs.property.owner.Goals as goal
 
 -- src/property.rt:99:16
-pub returns-in_err-text : goal.returns-in_err-text
+pub returns-in_err-text-clause-reads : goal.returns-in_err-text-clause-reads
 unfolding owner
-returns-in_err-text g c = grind (arith, sequences)
+returns-in_err-text-clause-reads g c = grind (arith, sequences)
 
 -- src/property.rt:100:5
-pub returns-in_err-finish_form : goal.returns-in_err-finish_form
+pub returns-in_err-finish_form-clause-reads : goal.returns-in_err-finish_form-clause-reads
 unfolding owner
-returns-in_err-finish_form g c = grind (arith, sequences)
+returns-in_err-finish_form-clause-reads g c = grind (arith, sequences)
 
 -- src/property.rt:91:1
-pub returns : goal.returns
+pub returns-clause-reads : goal.returns-clause-reads
 unfolding owner
-returns g c = grind (arith, sequences)
+returns-clause-reads g c = grind (arith, sequences)

@@ -4,21 +4,21 @@ use Rattle.edif_names.specs.Grammar.{property}
 use Rattle.edif_names.proofs.property.read_property.Goals as goal
 
 -- src/property.rt:39:16
-pub returns-in_err-name : goal.returns-in_err-name
+pub returns-in_err-name-clause-reads : goal.returns-in_err-name-clause-reads
 unfolding property
-returns-in_err-name g c = grind (arith, sequences)
+returns-in_err-name-clause-reads g c = grind (arith, sequences)
 
 -- src/property.rt:40:17
-pub returns-in_err-value : goal.returns-in_err-value
+pub returns-in_err-value-clause-reads : goal.returns-in_err-value-clause-reads
 unfolding property
-returns-in_err-value g c = grind (arith, sequences)
+returns-in_err-value-clause-reads g c = grind (arith, sequences)
 
 -- src/property.rt:41:16
-pub returns-in_err-tail : goal.returns-in_err-tail
+pub returns-in_err-tail-clause-reads : goal.returns-in_err-tail-clause-reads
 unfolding property
-returns-in_err-tail g c = grind (arith, sequences)
+returns-in_err-tail-clause-reads g c = grind (arith, sequences)
 
 -- src/property.rt:31:1
-pub returns : goal.returns
+pub returns-clause-reads : goal.returns-clause-reads
 unfolding property
-returns g c = grind (arith, sequences)
+returns-clause-reads g c = grind (arith, sequences)

@@ -4,11 +4,11 @@ use Rattle.edif_names.specs.Grammar.{tail_item}
 use Rattle.edif_names.proofs.property.tail_item.Goals as goal
 
 -- src/property.rt:71:19
-pub returns-in_err-keyword : goal.returns-in_err-keyword
+pub returns-in_err-keyword-clause-reads : goal.returns-in_err-keyword-clause-reads
 unfolding tail_item
-returns-in_err-keyword g c = grind (arith, sequences)
+returns-in_err-keyword-clause-reads g c = grind (arith, sequences)
 
 -- src/property.rt:63:1
-pub returns : goal.returns
+pub returns-clause-reads : goal.returns-clause-reads
 unfolding tail_item
-returns g c = grind (arith, sequences)
+returns-clause-reads g c = grind (arith, sequences)

@@ -4,21 +4,21 @@ use Rattle.edif_names.specs.Grammar.{boolean_value}
 use Rattle.edif_names.proofs.value.boolean_value.Goals as goal
 
 -- src/value.rt:104:19
-pub returns-in_err-keyword : goal.returns-in_err-keyword
+pub returns-in_err-keyword-clause-reads : goal.returns-in_err-keyword-clause-reads
 unfolding boolean_value
-returns-in_err-keyword g c = grind (arith, sequences)
+returns-in_err-keyword-clause-reads g c = grind (arith, sequences)
 
 -- src/value.rt:105:5
-pub returns-in_err-finish_form : goal.returns-in_err-finish_form
+pub returns-in_err-finish_form-clause-reads : goal.returns-in_err-finish_form-clause-reads
 unfolding boolean_value
-returns-in_err-finish_form g c = grind (arith, sequences)
+returns-in_err-finish_form-clause-reads g c = grind (arith, sequences)
 
 -- src/value.rt:106:5
-pub returns-in_err-finish_form-2 : goal.returns-in_err-finish_form-2
+pub returns-in_err-finish_form-2-clause-reads : goal.returns-in_err-finish_form-2-clause-reads
 unfolding boolean_value
-returns-in_err-finish_form-2 g c = grind (arith, sequences)
+returns-in_err-finish_form-2-clause-reads g c = grind (arith, sequences)
 
 -- src/value.rt:96:1
-pub returns : goal.returns
+pub returns-clause-reads : goal.returns-clause-reads
 unfolding boolean_value
-returns g c = grind (arith, sequences)
+returns-clause-reads g c = grind (arith, sequences)

@@ -4,16 +4,16 @@ use Rattle.edif_names.specs.Grammar.{number_value}
 use Rattle.edif_names.proofs.value.number_value.Goals as goal
 
 -- src/value.rt:90:18
-pub returns-in_err-number : goal.returns-in_err-number
+pub returns-in_err-number-clause-reads : goal.returns-in_err-number-clause-reads
 unfolding number_value
-returns-in_err-number g c = grind (arith, sequences)
+returns-in_err-number-clause-reads g c = grind (arith, sequences)
 
 -- src/value.rt:91:5
-pub returns-in_err-finish_form : goal.returns-in_err-finish_form
+pub returns-in_err-finish_form-clause-reads : goal.returns-in_err-finish_form-clause-reads
 unfolding number_value
-returns-in_err-finish_form g c = grind (arith, sequences)
+returns-in_err-finish_form-clause-reads g c = grind (arith, sequences)
 
 -- src/value.rt:82:1
-pub returns : goal.returns
+pub returns-clause-reads : goal.returns-clause-reads
 unfolding number_value
-returns g c = grind (arith, sequences)
+returns-clause-reads g c = grind (arith, sequences)

@@ -4,11 +4,11 @@ use Rattle.edif_names.specs.Grammar.{value}
 use Rattle.edif_names.proofs.value.read_value.Goals as goal
 
 -- src/value.rt:28:19
-pub returns-in_err-keyword : goal.returns-in_err-keyword
+pub returns-in_err-keyword-clause-reads : goal.returns-in_err-keyword-clause-reads
 unfolding value
-returns-in_err-keyword g c = grind (arith, sequences)
+returns-in_err-keyword-clause-reads g c = grind (arith, sequences)
 
 -- src/value.rt:14:1
-pub returns : goal.returns
+pub returns-clause-reads : goal.returns-clause-reads
 unfolding value
-returns g c = grind (arith, sequences)
+returns-clause-reads g c = grind (arith, sequences)

@@ -4,16 +4,16 @@ use Rattle.edif_names.specs.Grammar.{string_value}
 use Rattle.edif_names.proofs.value.string_value.Goals as goal
 
 -- src/value.rt:62:16
-pub returns-in_err-text : goal.returns-in_err-text
+pub returns-in_err-text-clause-reads : goal.returns-in_err-text-clause-reads
 unfolding string_value
-returns-in_err-text g c = grind (arith, sequences)
+returns-in_err-text-clause-reads g c = grind (arith, sequences)
 
 -- src/value.rt:63:5
-pub returns-in_err-finish_form : goal.returns-in_err-finish_form
+pub returns-in_err-finish_form-clause-reads : goal.returns-in_err-finish_form-clause-reads
 unfolding string_value
-returns-in_err-finish_form g c = grind (arith, sequences)
+returns-in_err-finish_form-clause-reads g c = grind (arith, sequences)
 
 -- src/value.rt:54:1
-pub returns : goal.returns
+pub returns-clause-reads : goal.returns-clause-reads
 unfolding string_value
-returns g c = grind (arith, sequences)
+returns-clause-reads g c = grind (arith, sequences)

@@ -3,18 +3,18 @@ use Rattle.readers.proofs.Reading.{sequences}
 use Rattle.edif_nets.specs.Grammar.{cell_ref}
 use Rattle.edif_nets.proofs.instance.cell_ref.Goals as goal
 
-pub returns-in_err-begin : goal.returns-in_err-begin
+pub returns-in_err-begin-clause-reads : goal.returns-in_err-begin-clause-reads
 unfolding cell_ref
-returns-in_err-begin g c = grind (arith, sequences)
+returns-in_err-begin-clause-reads g c = grind (arith, sequences)
 
-pub returns-in_err-cell : goal.returns-in_err-cell
+pub returns-in_err-cell-clause-reads : goal.returns-in_err-cell-clause-reads
 unfolding cell_ref
-returns-in_err-cell g c = grind (arith, sequences)
+returns-in_err-cell-clause-reads g c = grind (arith, sequences)
 
-pub returns-in_err-library : goal.returns-in_err-library
+pub returns-in_err-library-clause-reads : goal.returns-in_err-library-clause-reads
 unfolding cell_ref
-returns-in_err-library g c = grind (arith, sequences)
+returns-in_err-library-clause-reads g c = grind (arith, sequences)
 
-pub returns : goal.returns
+pub returns-clause-reads : goal.returns-clause-reads
 unfolding cell_ref
-returns g c = grind (arith, sequences)
+returns-clause-reads g c = grind (arith, sequences)

@@ -3,18 +3,18 @@ use Rattle.readers.proofs.Reading.{sequences}
 use Rattle.edif_nets.specs.Grammar.{library_named}
 use Rattle.edif_nets.proofs.instance.library_named.Goals as goal
 
-pub returns-in_err-library : goal.returns-in_err-library
+pub returns-in_err-library-clause-reads : goal.returns-in_err-library-clause-reads
 unfolding library_named
-returns-in_err-library g c = grind (arith, sequences)
+returns-in_err-library-clause-reads g c = grind (arith, sequences)
 
-pub returns-in_err-finish_form : goal.returns-in_err-finish_form
+pub returns-in_err-finish_form-clause-reads : goal.returns-in_err-finish_form-clause-reads
 unfolding library_named
-returns-in_err-finish_form g c = grind (arith, sequences)
+returns-in_err-finish_form-clause-reads g c = grind (arith, sequences)
 
-pub returns-in_err-finish_form-2 : goal.returns-in_err-finish_form-2
+pub returns-in_err-finish_form-2-clause-reads : goal.returns-in_err-finish_form-2-clause-reads
 unfolding library_named
-returns-in_err-finish_form-2 g c = grind (arith, sequences)
+returns-in_err-finish_form-2-clause-reads g c = grind (arith, sequences)
 
-pub returns : goal.returns
+pub returns-clause-reads : goal.returns-clause-reads
 unfolding library_named
-returns g c = grind (arith, sequences)
+returns-clause-reads g c = grind (arith, sequences)

@@ -3,18 +3,18 @@ use Rattle.edif_nets.proofs.Parts.{form_or_token}
 use Rattle.edif_nets.specs.Grammar.{maybe_library}
 use Rattle.edif_nets.proofs.instance.maybe_library.Goals as goal
 
-pub returns-in_err-at_form : goal.returns-in_err-at_form
+pub returns-in_err-at_form-clause-reads : goal.returns-in_err-at_form-clause-reads
 unfolding maybe_library
-returns-in_err-at_form g c = grind (arith, form_or_token)
+returns-in_err-at_form-clause-reads g c = grind (arith, form_or_token)
 
-pub returns-in_err-begin : goal.returns-in_err-begin
+pub returns-in_err-begin-clause-reads : goal.returns-in_err-begin-clause-reads
 unfolding maybe_library
-returns-in_err-begin g c = grind (arith, form_or_token)
+returns-in_err-begin-clause-reads g c = grind (arith, form_or_token)
 
-pub returns-then-branch : goal.returns-then-branch
+pub returns-then-branch-clause-reads : goal.returns-then-branch-clause-reads
 unfolding maybe_library
-returns-then-branch g c = grind (arith, form_or_token)
+returns-then-branch-clause-reads g c = grind (arith, form_or_token)
 
-pub returns : goal.returns
+pub returns-clause-reads : goal.returns-clause-reads
 unfolding maybe_library
-returns g c = grind (arith, form_or_token)
+returns-clause-reads g c = grind (arith, form_or_token)

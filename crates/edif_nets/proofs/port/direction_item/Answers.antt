@@ -3,14 +3,14 @@ use Rattle.readers.proofs.Reading.{sequences}
 use Rattle.edif_nets.specs.Grammar.{direction}
 use Rattle.edif_nets.proofs.port.direction_item.Goals as goal
 
-pub returns-in_err-direction : goal.returns-in_err-direction
+pub returns-in_err-direction-clause-reads : goal.returns-in_err-direction-clause-reads
 unfolding direction
-returns-in_err-direction g c = grind (arith, sequences)
+returns-in_err-direction-clause-reads g c = grind (arith, sequences)
 
-pub returns-in_err-finish_form : goal.returns-in_err-finish_form
+pub returns-in_err-finish_form-clause-reads : goal.returns-in_err-finish_form-clause-reads
 unfolding direction
-returns-in_err-finish_form g c = grind (arith, sequences)
+returns-in_err-finish_form-clause-reads g c = grind (arith, sequences)
 
-pub returns : goal.returns
+pub returns-clause-reads : goal.returns-clause-reads
 unfolding direction
-returns g c = grind (arith, sequences)
+returns-clause-reads g c = grind (arith, sequences)

@@ -1,4 +1,6 @@
 use Rattle.std.proofs.Common.{arith}
+use Rattle.edif_values.specs.Values.{ArePortItems}
+use Rattle.edif_nets.proofs.Kept.{port_items_more}
 use Rattle.edif_nets.proofs.Parts.{port_loops}
 use Rattle.edif_nets.specs.Grammar.{port_rest}
 use Rattle.edif_nets.proofs.port.port_rest.Goals as goal
@@ -7,13 +9,13 @@ pub loop-items-init : goal.loop-items-init
 unfolding port_rest
 loop-items-init g c = grind (arith, port_loops)
 
-pub returns-in_err-at_form : goal.returns-in_err-at_form
+pub returns-in_err-at_form-clause-reads : goal.returns-in_err-at_form-clause-reads
 unfolding port_rest
-returns-in_err-at_form g c = grind (arith, port_loops)
+returns-in_err-at_form-clause-reads g c = grind (arith, port_loops)
 
-pub returns-in_err-item : goal.returns-in_err-item
+pub returns-in_err-item-clause-reads : goal.returns-in_err-item-clause-reads
 unfolding port_rest
-returns-in_err-item g c = grind (arith, port_loops)
+returns-in_err-item-clause-reads g c = grind (arith, port_loops)
 
 pub loop-items-smaller : goal.loop-items-smaller
 unfolding port_rest
@@ -21,16 +23,20 @@ loop-items-smaller g c = grind (arith, port_loops)
 
 pub loop-items-preserved : goal.loop-items-preserved
 unfolding port_rest
-loop-items-preserved g c = grind (arith, port_loops)
+loop-items-preserved g c =
+    let good : ArePortItems c.add.new.list =
+    rw c.in_ok-add.ensures.added.0
+    (port_items_more c.loop-items.items c.in_ok-item.item c.loop-items.directed c.loop-items.invariant.0.good c.in_ok-item.ensures.value c.loop-items.invariant.1 c.in_ok-item.ensures.one) in
+    grind (arith, port_loops)
 
-pub returns-in_err-add : goal.returns-in_err-add
+pub returns-in_err-add-clause-reads : goal.returns-in_err-add-clause-reads
 unfolding port_rest
-returns-in_err-add g c = grind (arith, port_loops)
+returns-in_err-add-clause-reads g c = grind (arith, port_loops)
 
-pub returns-in_err-finish_form : goal.returns-in_err-finish_form
+pub returns-in_err-finish_form-clause-reads : goal.returns-in_err-finish_form-clause-reads
 unfolding port_rest
-returns-in_err-finish_form g c = grind (arith, port_loops)
+returns-in_err-finish_form-clause-reads g c = grind (arith, port_loops)
 
-pub returns : goal.returns
+pub returns-clause-reads : goal.returns-clause-reads
 unfolding port_rest
-returns g c = grind (arith, port_loops)
+returns-clause-reads g c = grind (arith, port_loops)

@@ -3,14 +3,14 @@ use Rattle.readers.proofs.Reading.{sequences}
 use Rattle.edif_nets.specs.Grammar.{designator}
 use Rattle.edif_nets.proofs.port.read_designator.Goals as goal
 
-pub returns-in_err-text : goal.returns-in_err-text
+pub returns-in_err-text-clause-reads : goal.returns-in_err-text-clause-reads
 unfolding designator
-returns-in_err-text g c = grind (arith, sequences)
+returns-in_err-text-clause-reads g c = grind (arith, sequences)
 
-pub returns-in_err-finish_form : goal.returns-in_err-finish_form
+pub returns-in_err-finish_form-clause-reads : goal.returns-in_err-finish_form-clause-reads
 unfolding designator
-returns-in_err-finish_form g c = grind (arith, sequences)
+returns-in_err-finish_form-clause-reads g c = grind (arith, sequences)
 
-pub returns : goal.returns
+pub returns-clause-reads : goal.returns-clause-reads
 unfolding designator
-returns g c = grind (arith, sequences)
+returns-clause-reads g c = grind (arith, sequences)

@@ -3,14 +3,14 @@ use Rattle.readers.proofs.Reading.{sequences}
 use Rattle.edif_nets.specs.Grammar.{port}
 use Rattle.edif_nets.proofs.port.read_port.Goals as goal
 
-pub returns-in_err-name : goal.returns-in_err-name
+pub returns-in_err-name-clause-reads : goal.returns-in_err-name-clause-reads
 unfolding port
-returns-in_err-name g c = grind (arith, sequences)
+returns-in_err-name-clause-reads g c = grind (arith, sequences)
 
-pub returns-in_err-items : goal.returns-in_err-items
+pub returns-in_err-items-clause-reads : goal.returns-in_err-items-clause-reads
 unfolding port
-returns-in_err-items g c = grind (arith, sequences)
+returns-in_err-items-clause-reads g c = grind (arith, sequences)
 
-pub returns : goal.returns
+pub returns-clause-reads : goal.returns-clause-reads
 unfolding port
-returns g c = grind (arith, sequences)
+returns-clause-reads g c = grind (arith, sequences)

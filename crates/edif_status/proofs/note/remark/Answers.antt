@@ -4,11 +4,11 @@ use Rattle.edif_status.specs.Grammar.{remark}
 use Rattle.edif_status.proofs.note.remark.Goals as goal
 
 -- src/note.rt:41:17
-pub returns-in_err-texts : goal.returns-in_err-texts
+pub returns-in_err-texts-clause-reads : goal.returns-in_err-texts-clause-reads
 unfolding remark
-returns-in_err-texts g c = grind (arith, sequences)
+returns-in_err-texts-clause-reads g c = grind (arith, sequences)
 
 -- src/note.rt:37:1
-pub returns : goal.returns
+pub returns-clause-reads : goal.returns-clause-reads
 unfolding remark
-returns g c = grind (arith, sequences)
+returns-clause-reads g c = grind (arith, sequences)

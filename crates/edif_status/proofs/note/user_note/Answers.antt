@@ -4,11 +4,11 @@ use Rattle.edif_status.specs.Grammar.{user_note}
 use Rattle.edif_status.proofs.note.user_note.Goals as goal
 
 -- src/note.rt:54:16
-pub returns-in_err-data : goal.returns-in_err-data
+pub returns-in_err-data-clause-reads : goal.returns-in_err-data-clause-reads
 unfolding user_note
-returns-in_err-data g c = grind (arith, sequences)
+returns-in_err-data-clause-reads g c = grind (arith, sequences)
 
 -- src/note.rt:46:1
-pub returns : goal.returns
+pub returns-clause-reads : goal.returns-clause-reads
 unfolding user_note
-returns g c = grind (arith, sequences)
+returns-clause-reads g c = grind (arith, sequences)

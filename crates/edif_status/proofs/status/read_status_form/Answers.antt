@@ -3,9 +3,9 @@ use Rattle.readers.proofs.Reading.{sequences}
 use Rattle.edif_status.proofs.status.read_status_form.Goals as goal
 
 -- src/status.rt:84:9
-pub returns-then-same_keyword : goal.returns-then-same_keyword
-returns-then-same_keyword g c = grind (arith, sequences)
+pub returns-then-same_keyword-clause-reads : goal.returns-then-same_keyword-clause-reads
+returns-then-same_keyword-clause-reads g c = grind (arith, sequences)
 
 -- src/status.rt:74:1
-pub returns : goal.returns
-returns g c = grind (arith, sequences)
+pub returns-clause-reads : goal.returns-clause-reads
+returns-clause-reads g c = grind (arith, sequences)

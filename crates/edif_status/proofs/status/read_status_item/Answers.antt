@@ -4,11 +4,11 @@ use Rattle.edif_status.specs.Grammar.{status_part}
 use Rattle.edif_status.proofs.status.read_status_item.Goals as goal
 
 -- src/status.rt:69:19
-pub returns-in_err-keyword : goal.returns-in_err-keyword
+pub returns-in_err-keyword-clause-reads : goal.returns-in_err-keyword-clause-reads
 unfolding status_part
-returns-in_err-keyword g c = grind (arith, sequences)
+returns-in_err-keyword-clause-reads g c = grind (arith, sequences)
 
 -- src/status.rt:60:1
-pub returns : goal.returns
+pub returns-clause-reads : goal.returns-clause-reads
 unfolding status_part
-returns g c = grind (arith, sequences)
+returns-clause-reads g c = grind (arith, sequences)

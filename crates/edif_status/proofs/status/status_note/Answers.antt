@@ -4,11 +4,11 @@ use Rattle.edif_status.specs.Grammar.{status_note}
 use Rattle.edif_status.proofs.status.status_note.Goals as goal
 
 -- src/status.rt:112:16
-pub returns-in_err-note : goal.returns-in_err-note
+pub returns-in_err-note-clause-reads : goal.returns-in_err-note-clause-reads
 unfolding status_note
-returns-in_err-note g c = grind (arith, sequences)
+returns-in_err-note-clause-reads g c = grind (arith, sequences)
 
 -- src/status.rt:103:1
-pub returns : goal.returns
+pub returns-clause-reads : goal.returns-clause-reads
 unfolding status_note
-returns g c = grind (arith, sequences)
+returns-clause-reads g c = grind (arith, sequences)

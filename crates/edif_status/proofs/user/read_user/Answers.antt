@@ -4,16 +4,16 @@ use Rattle.edif_status.specs.Grammar.{user}
 use Rattle.edif_status.proofs.user.read_user.Goals as goal
 
 -- src/user.rt:38:16
-pub returns-in_err-name : goal.returns-in_err-name
+pub returns-in_err-name-clause-reads : goal.returns-in_err-name-clause-reads
 unfolding user
-returns-in_err-name g c = grind (arith, sequences)
+returns-in_err-name-clause-reads g c = grind (arith, sequences)
 
 -- src/user.rt:39:17
-pub returns-in_err-trees : goal.returns-in_err-trees
+pub returns-in_err-trees-clause-reads : goal.returns-in_err-trees-clause-reads
 unfolding user
-returns-in_err-trees g c = grind (arith, sequences)
+returns-in_err-trees-clause-reads g c = grind (arith, sequences)
 
 -- src/user.rt:30:1
-pub returns : goal.returns
+pub returns-clause-reads : goal.returns-clause-reads
 unfolding user
-returns g c = grind (arith, sequences)
+returns-clause-reads g c = grind (arith, sequences)

@@ -4,16 +4,16 @@ use Rattle.edif_status.specs.Grammar.{author}
 use Rattle.edif_status.proofs.written.read_author.Goals as goal
 
 -- src/written.rt:167:16
-pub returns-in_err-name : goal.returns-in_err-name
+pub returns-in_err-name-clause-reads : goal.returns-in_err-name-clause-reads
 unfolding author
-returns-in_err-name g c = grind (arith, sequences)
+returns-in_err-name-clause-reads g c = grind (arith, sequences)
 
 -- src/written.rt:168:5
-pub returns-in_err-finish_form : goal.returns-in_err-finish_form
+pub returns-in_err-finish_form-clause-reads : goal.returns-in_err-finish_form-clause-reads
 unfolding author
-returns-in_err-finish_form g c = grind (arith, sequences)
+returns-in_err-finish_form-clause-reads g c = grind (arith, sequences)
 
 -- src/written.rt:159:1
-pub returns : goal.returns
+pub returns-clause-reads : goal.returns-clause-reads
 unfolding author
-returns g c = grind (arith, sequences)
+returns-clause-reads g c = grind (arith, sequences)

@@ -4,26 +4,26 @@ use Rattle.edif_status.specs.Grammar.{clock}
 use Rattle.edif_status.proofs.written.read_clock.Goals as goal
 
 -- src/written.rt:83:16
-pub returns-in_err-hour : goal.returns-in_err-hour
+pub returns-in_err-hour-clause-reads : goal.returns-in_err-hour-clause-reads
 unfolding clock
-returns-in_err-hour g c = grind (arith, sequences)
+returns-in_err-hour-clause-reads g c = grind (arith, sequences)
 
 -- src/written.rt:84:18
-pub returns-in_err-minute : goal.returns-in_err-minute
+pub returns-in_err-minute-clause-reads : goal.returns-in_err-minute-clause-reads
 unfolding clock
-returns-in_err-minute g c = grind (arith, sequences)
+returns-in_err-minute-clause-reads g c = grind (arith, sequences)
 
 -- src/written.rt:85:18
-pub returns-in_err-second : goal.returns-in_err-second
+pub returns-in_err-second-clause-reads : goal.returns-in_err-second-clause-reads
 unfolding clock
-returns-in_err-second g c = grind (arith, sequences)
+returns-in_err-second-clause-reads g c = grind (arith, sequences)
 
 -- src/written.rt:86:5
-pub returns-in_err-finish_form : goal.returns-in_err-finish_form
+pub returns-in_err-finish_form-clause-reads : goal.returns-in_err-finish_form-clause-reads
 unfolding clock
-returns-in_err-finish_form g c = grind (arith, sequences)
+returns-in_err-finish_form-clause-reads g c = grind (arith, sequences)
 
 -- src/written.rt:72:1
-pub returns : goal.returns
+pub returns-clause-reads : goal.returns-clause-reads
 unfolding clock
-returns g c = grind (arith, sequences)
+returns-clause-reads g c = grind (arith, sequences)

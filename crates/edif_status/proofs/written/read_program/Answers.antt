@@ -4,16 +4,16 @@ use Rattle.edif_status.specs.Grammar.{program}
 use Rattle.edif_status.proofs.written.read_program.Goals as goal
 
 -- src/written.rt:181:16
-pub returns-in_err-name : goal.returns-in_err-name
+pub returns-in_err-name-clause-reads : goal.returns-in_err-name-clause-reads
 unfolding program
-returns-in_err-name g c = grind (arith, sequences)
+returns-in_err-name-clause-reads g c = grind (arith, sequences)
 
 -- src/written.rt:182:19
-pub returns-in_err-version : goal.returns-in_err-version
+pub returns-in_err-version-clause-reads : goal.returns-in_err-version-clause-reads
 unfolding program
-returns-in_err-version g c = grind (arith, sequences)
+returns-in_err-version-clause-reads g c = grind (arith, sequences)
 
 -- src/written.rt:173:1
-pub returns : goal.returns
+pub returns-clause-reads : goal.returns-clause-reads
 unfolding program
-returns g c = grind (arith, sequences)
+returns-clause-reads g c = grind (arith, sequences)

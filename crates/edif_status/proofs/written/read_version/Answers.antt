@@ -4,21 +4,21 @@ use Rattle.edif_status.specs.Grammar.{maybe_version}
 use Rattle.edif_status.proofs.written.read_version.Goals as goal
 
 -- src/written.rt:209:8
-pub returns-in_err-at_form : goal.returns-in_err-at_form
+pub returns-in_err-at_form-clause-reads : goal.returns-in_err-at_form-clause-reads
 unfolding maybe_version
-returns-in_err-at_form g c = grind (arith, version_or_end)
+returns-in_err-at_form-clause-reads g c = grind (arith, version_or_end)
 
 -- src/written.rt:210:9
-pub returns-in_err-begin : goal.returns-in_err-begin
+pub returns-in_err-begin-clause-reads : goal.returns-in_err-begin-clause-reads
 unfolding maybe_version
-returns-in_err-begin g c = grind (arith, version_or_end)
+returns-in_err-begin-clause-reads g c = grind (arith, version_or_end)
 
 -- src/written.rt:211:9
-pub returns-then-branch : goal.returns-then-branch
+pub returns-then-branch-clause-reads : goal.returns-then-branch-clause-reads
 unfolding maybe_version
-returns-then-branch g c = grind (arith, version_or_end)
+returns-then-branch-clause-reads g c = grind (arith, version_or_end)
 
 -- src/written.rt:201:1
-pub returns : goal.returns
+pub returns-clause-reads : goal.returns-clause-reads
 unfolding maybe_version
-returns g c = grind (arith, version_or_end)
+returns-clause-reads g c = grind (arith, version_or_end)

@@ -4,21 +4,21 @@ use Rattle.edif_status.specs.Grammar.{written}
 use Rattle.edif_status.proofs.written.read_written.Goals as goal
 
 -- src/written.rt:50:5
-pub returns-in_err-begin : goal.returns-in_err-begin
+pub returns-in_err-begin-clause-reads : goal.returns-in_err-begin-clause-reads
 unfolding written
-returns-in_err-begin g c = grind (arith, sequences)
+returns-in_err-begin-clause-reads g c = grind (arith, sequences)
 
 -- src/written.rt:51:17
-pub returns-in_err-stamp : goal.returns-in_err-stamp
+pub returns-in_err-stamp-clause-reads : goal.returns-in_err-stamp-clause-reads
 unfolding written
-returns-in_err-stamp g c = grind (arith, sequences)
+returns-in_err-stamp-clause-reads g c = grind (arith, sequences)
 
 -- src/written.rt:52:17
-pub returns-in_err-items : goal.returns-in_err-items
+pub returns-in_err-items-clause-reads : goal.returns-in_err-items-clause-reads
 unfolding written
-returns-in_err-items g c = grind (arith, sequences)
+returns-in_err-items-clause-reads g c = grind (arith, sequences)
 
 -- src/written.rt:42:1
-pub returns : goal.returns
+pub returns-clause-reads : goal.returns-clause-reads
 unfolding written
-returns g c = grind (arith, sequences)
+returns-clause-reads g c = grind (arith, sequences)

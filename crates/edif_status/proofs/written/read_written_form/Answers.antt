@@ -4,26 +4,26 @@ use Rattle.edif_status.specs.Grammar.{written_note}
 use Rattle.edif_status.proofs.written.read_written_form.Goals as goal
 
 -- src/written.rt:146:9
-pub returns-then-same_keyword : goal.returns-then-same_keyword
+pub returns-then-same_keyword-clause-reads : goal.returns-then-same_keyword-clause-reads
 unfolding written_note
-returns-then-same_keyword g c = grind (arith, sequences)
+returns-then-same_keyword-clause-reads g c = grind (arith, sequences)
 
 -- src/written.rt:149:9
-pub returns-then-same_keyword-2 : goal.returns-then-same_keyword-2
+pub returns-then-same_keyword-2-clause-reads : goal.returns-then-same_keyword-2-clause-reads
 unfolding written_note
-returns-then-same_keyword-2 g c = grind (arith, sequences)
+returns-then-same_keyword-2-clause-reads g c = grind (arith, sequences)
 
 -- src/written.rt:152:9
-pub returns-then-same_keyword-3 : goal.returns-then-same_keyword-3
+pub returns-then-same_keyword-3-clause-reads : goal.returns-then-same_keyword-3-clause-reads
 unfolding written_note
-returns-then-same_keyword-3 g c = grind (arith, sequences)
+returns-then-same_keyword-3-clause-reads g c = grind (arith, sequences)
 
 -- src/written.rt:154:16
-pub returns-in_err-note : goal.returns-in_err-note
+pub returns-in_err-note-clause-reads : goal.returns-in_err-note-clause-reads
 unfolding written_note
-returns-in_err-note g c = grind (arith, sequences)
+returns-in_err-note-clause-reads g c = grind (arith, sequences)
 
 -- src/written.rt:136:1
-pub returns : goal.returns
+pub returns-clause-reads : goal.returns-clause-reads
 unfolding written_note
-returns g c = grind (arith, sequences)
+returns-clause-reads g c = grind (arith, sequences)

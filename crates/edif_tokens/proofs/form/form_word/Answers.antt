@@ -1,5 +1,4 @@
-use Rattle.std.proofs.Common.{◌≡◌, ◌∙◌, sym, ap, ℕ, List, length, take, drop, arith}
-use Rattle.edif_tokens.specs.Held.{past_mark}
+use Rattle.std.proofs.Common.{◌∙◌, sym, ap, ℕ, List, length, take, drop, arith}
 use Rattle.edif_tokens.proofs.HeldForms.{form_held}
 use Rattle.edif_tokens.proofs.form.form_word.Goals as goal
 

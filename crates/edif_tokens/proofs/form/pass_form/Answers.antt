@@ -1,4 +1,4 @@
-use Rattle.std.proofs.Common.{◌∙◌, sym, ap, ℕ, List, length}
+use Rattle.std.proofs.Common.{◌∙◌, sym, ap, length}
 use Rattle.nl_bytes.specs.Bytes.{Window}
 use Rattle.edif_tokens.specs.Held.{space_length, held_word, past_word}
 use Rattle.edif_tokens.proofs.HeldForms.{form_held}

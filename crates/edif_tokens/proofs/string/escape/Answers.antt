@@ -39,6 +39,7 @@ loop-next-preserved g c =
     record {
       part = part_trans (part_trans c.loop-next.invariant.part (part_space skips c.loop-next.coded _ _ _))
           (part_trans (part_byte (λ s. Escape s c.loop-next.coded) _ _ _ _ c.advance.new.self _ _ b skips.ahead.0 skips.ahead.1 c.advance.ensures.held c.advance.ensures.place (escape_digit c.loop-next.coded b _ skips.longest digit)) c.in_ok-add_code.ensures.reads);
+      short = c.in_ok-add_code.ensures.short;
       count = omega (arith, c.skip.ensures.count, c.add_code.ensures.count);
     }
 

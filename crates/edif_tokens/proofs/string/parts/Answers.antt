@@ -54,6 +54,7 @@ parts-preserved g c =
     record {
       part = part_trans (part_trans c.parts.invariant.part (plain_part runs (omega (arith, c.len.ensures, c.saturating_sub-most.ensures)) _ _))
           (parts_escape held c.advance.ensures.held c.advance.ensures.place (rw c.place-here.ensures.place at c.in_ok-escape.ensures.reads) _);
+      short = c.in_ok-escape.ensures.short;
       count = omega (arith, c.run.ensures.count, c.escape.ensures.count);
     }
 
@@ -64,3 +65,13 @@ returns-in_err-escape-clause-reads g c =
     let held = runs.ahead.1 ∙ ap (λ (x : ℕ). x ∷ runs.ahead.0) c.if-b-ne37.false in
     rw (p.1, p.2) (part_trans (part_trans c.parts.invariant.part (plain_part runs (omega (arith, c.len.ensures, c.saturating_sub-most.ensures)) _ _))
     (parts_escape held c.advance.ensures.held c.advance.ensures.place (rw c.place-here.ensures.place at c.in_err-escape.ensures.reads) _))
+
+pub escape-requires : goal.escape-requires
+escape-requires g c =
+    let runs = c.in_ok-next.ensures.runs in
+    omega (arith, c.parts.invariant.short, c.len.ensures, c.saturating_sub-most.ensures, runs.bounded, ap length runs.added, length-append c.parts.value.items runs.used)
+
+pub returns-then-b-eq34-clause-short : goal.returns-then-b-eq34-clause-short
+returns-then-b-eq34-clause-short g c =
+    let runs = c.in_ok-next.ensures.runs in
+    omega (arith, c.parts.invariant.short, c.len.ensures, c.saturating_sub-most.ensures, runs.bounded, ap length runs.added, length-append c.parts.value.items runs.used)

@@ -23,7 +23,7 @@ word_of-requires-clause-spelled g c =
 pub returns-clause-reads : goal.returns-clause-reads
 returns-clause-reads g c =
     let text : c.in_ok-text.text ≡ take c.args.count c.args.bytes.now.held = c.in_ok-text.ensures ∙ c.split_at.ensures.front ∙ ap (λ (xs : List ℕ). take c.args.count xs) c.held.ensures in
-    word_whole _ c.requires.whole c.requires.some c.pass.ensures.held c.pass.ensures.place text _ (rw (c.place-place.ensures.place, c.word_of.ensures) refl)
+    word_whole _ c.requires.whole c.requires.some c.pass.ensures.held c.pass.ensures.place text _ (rw (c.place-place.ensures.place, c.word_of.ensures.token) refl)
 
 pub returns-clause-ended : goal.returns-clause-ended
 returns-clause-ended g c =

@@ -1,5 +1,3 @@
-use Rattle.std.proofs.Common.{ap, ◌∙◌}
-use Rattle.edif_keywords.specs.Calls.{form_word}
 use Rattle.edif_keywords.proofs.HeldForms.{inside_form}
 use Rattle.edif_keywords.proofs.cursor.Cursor.form_word.Goals as goal
 

@@ -9,4 +9,4 @@ take_form-requires-clause-form c = let l = inside_form _ _ _ _ _ c.self.view_is 
 pub invariant_of-self : goal.invariant_of-self
 invariant_of-self c =
     let l = inside_form _ _ _ _ _ c.self.view_is _ c.requires.form c.requires.some in
-    (λ s. c.self.invariant.0 (sym (ap (λ (t : State). t.spent) c.take_form.ensures.left) ∙ s), c.self.invariant.1, rw l.1 tt)
+    (λ s. c.self.invariant.0 (sym (ap (λ (t : State). t.spent) c.take_form.ensures.left) ∙ s), c.self.invariant.1, rw l.1 tt, rw l.1 tt)

@@ -3,15 +3,15 @@ use Rattle.std.proofs.lemmas.Result.{err_from_is_err_and}
 use Rattle.edif_tokens.proofs.Readers.{reads_found, state}
 use Rattle.edif_tokens.proofs.tokens.Tokens.next.Goals as goal
 
-pub returns : goal.returns
-returns g c =
+pub returns-clause-reads : goal.returns-clause-reads
+returns-clause-reads g c =
     let found = c.found-result.ensures in
     let all = reads_found found.finds found.never_spent found.bounded found.count found.cause c.place-here.ensures.held c.place-here.ensures.taken in
     let old : c.args.self.now ≡ state c.self.inside.bytes false = sym c.self.view_is ∙ ap (λ (b : Bool). state c.self.inside.bytes b) c.if-self.false in
     rw old (rw c.in_ok-found.was at all)
 
-pub returns-in_err-found : goal.returns-in_err-found
-returns-in_err-found g c =
+pub returns-in_err-found-clause-reads : goal.returns-in_err-found-clause-reads
+returns-in_err-found-clause-reads g c =
     let found = c.found-result.ensures in
     let all = reads_found found.finds found.never_spent found.bounded found.count found.cause c.place-here.ensures.held c.place-here.ensures.taken in
     let old : c.args.self.now ≡ state c.self.inside.bytes false = sym c.self.view_is ∙ ap (λ (b : Bool). state c.self.inside.bytes b) c.if-self.false in

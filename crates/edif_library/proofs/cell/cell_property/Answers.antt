@@ -1,0 +1,22 @@
+use Rattle.std.proofs.Common.{Err, refl}
+use Rattle.std.proofs.lemmas.Result.{err_from_is_err_and}
+use Rattle.readers.specs.Readers.{same}
+use Rattle.readers.proofs.Chain.{reads_failed, reads_last}
+use Rattle.edif_keywords.specs.Language.{edif}
+use Rattle.edif_library.specs.Grammar.{cell_property}
+use Rattle.edif_library.proofs.cell.cell_property.Goals as goal
+
+pub returns-in_err-property : goal.returns-in_err-property
+unfolding cell_property
+returns-in_err-property g c =
+    let p = err_from_is_err_and c.from_residual.result c.from_residual.ensures.1 in
+    rw (p.1, p.2) (record { reads = reads_failed edif same same _ _ (Err _) c.in_err-property.ensures.reads refl; value = tt; kind = tt; size = tt })
+
+pub returns : goal.returns
+unfolding cell_property
+returns g c = record {
+  reads = reads_last edif same same _ _ _ _ _ _ _ _ _ refl refl c.in_ok-property.ensures.reads;
+  value = c.in_ok-property.ensures.value;
+  kind = refl;
+  size = c.in_ok-property.ensures.size;
+}

@@ -1,0 +1,12 @@
+use Rattle.std.proofs.Common.{arith}
+use Rattle.readers.proofs.Reading.{sequences}
+use Rattle.edif_nets.specs.Grammar.{instance_property}
+use Rattle.edif_nets.proofs.instance.instance_property.Goals as goal
+
+pub returns-in_err-property-clause-reads : goal.returns-in_err-property-clause-reads
+unfolding instance_property
+returns-in_err-property-clause-reads g c = grind (arith, sequences)
+
+pub returns-clause-reads : goal.returns-clause-reads
+unfolding instance_property
+returns-clause-reads g c = grind (arith, sequences)

@@ -1,0 +1,12 @@
+use Rattle.std.proofs.Common.{arith}
+use Rattle.readers.proofs.Reading.{sequences}
+use Rattle.edif_nets.specs.Grammar.{no_library}
+use Rattle.edif_nets.proofs.instance.no_library.Goals as goal
+
+pub returns-in_err-finish_form-clause-reads : goal.returns-in_err-finish_form-clause-reads
+unfolding no_library
+returns-in_err-finish_form-clause-reads g c = grind (arith, sequences)
+
+pub returns-clause-reads : goal.returns-clause-reads
+unfolding no_library
+returns-clause-reads g c = grind (arith, sequences)

@@ -1,0 +1,12 @@
+use Rattle.std.proofs.Common.{arith}
+use Rattle.readers.proofs.Reading.{sequences}
+use Rattle.edif_nets.specs.Grammar.{port_designator}
+use Rattle.edif_nets.proofs.port.port_designator.Goals as goal
+
+pub returns-in_err-text-clause-reads : goal.returns-in_err-text-clause-reads
+unfolding port_designator
+returns-in_err-text-clause-reads g c = grind (arith, sequences)
+
+pub returns-clause-reads : goal.returns-clause-reads
+unfolding port_designator
+returns-clause-reads g c = grind (arith, sequences)

@@ -1,0 +1,12 @@
+use Rattle.std.proofs.Common.{arith}
+use Rattle.readers.proofs.Reading.{sequences}
+use Rattle.edif_nets.specs.Grammar.{port_note}
+use Rattle.edif_nets.proofs.port.port_note.Goals as goal
+
+pub returns-in_err-note-clause-reads : goal.returns-in_err-note-clause-reads
+unfolding port_note
+returns-in_err-note-clause-reads g c = grind (arith, sequences)
+
+pub returns-clause-reads : goal.returns-clause-reads
+unfolding port_note
+returns-clause-reads g c = grind (arith, sequences)
