@@ -24,7 +24,8 @@ use Rattle.vlog_tokens.specs.Held as tokens
 use Rattle.vlog_tokens.specs.Items.{word_token}
 use Rattle.vlog_tokens.specs.Keywords.{is_keyword}
 use Rattle.vlog_tokens.specs.Language.{vlog}
-use Rattle.vlog_tokens.proofs.HeldWords.{word_reads}
+use Rattle.vlog_values.specs.Values.{IsName}
+use Rattle.vlog_tokens.proofs.HeldWords.{word_reads, held_word_name}
 use Rattle.vlog_exprs.specs.Language.{NoContext, Vlog}
 use Rattle.vlog_exprs.specs.Calls.{held_word, past_word, TakesHeld}
 use Rattle.vlog_exprs.specs.Reasons.{at_mark, at_group, at_name, at_choice, meant_by, glance_of}
@@ -81,6 +82,14 @@ some_held a w e some = rw (← e) (by w some)
     by : (w : List ℕ) → (length w ≡ 0 → ⊥) → 0 < length w
     by [] some = absurd (some refl)
     by (x ∷ xs) some = omega arith
+
+-- such a word keeps what a name does
+pub held_is_name : (a : Reader NoContext VFound) (w text : List ℕ) → w ≡ held_word a → (length w ≡ 0 → ⊥) → text ≡ w → IsName text
+held_is_name a w text e some same =
+    let there = some_held a w e some in
+    let l = word_live a there in
+    let inside : 0 < length (tokens.held_word a.window) = subst (λ (w : List ℕ). 0 < length w) l.2 there in
+    rw (same, e, l.2) (held_word_name a.window inside)
 
 -- a word that is no keyword is a name
 pub name_is : (w v text : List ℕ) → v ≡ w → text ≡ v → is_keyword v ≡ false → word_token w ≡ Name text

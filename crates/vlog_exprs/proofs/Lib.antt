@@ -6,6 +6,8 @@ pub mod Expressions
 pub mod Glances
 pub mod HeldMarks
 pub mod HeldWords
+pub mod Known
+pub mod Lists
 pub mod Live
 pub mod OneToken
 pub mod TokenKinds

@@ -69,6 +69,12 @@ kept t (takes c) = Takes c
 kept t (refuses reason) = Refuses reason
 kept t leaves = Leaves t
 
+-- a token that is given back is such
+abbrev pub IfLeaves : {C : Type 0} → Glance C → (VToken → Type 0) → Type 0
+IfLeaves (Takes c) Good = Unit {0}
+IfLeaves (Refuses reason) Good = Unit {0}
+IfLeaves (Leaves t) Good = Good t
+
 -- what is answered where a token of this place and stop was looked at
 abbrev pub seen_answer : {C : Type 0} → Place → ℕ → Glance C → Result (Option C) ReadError
 seen_answer place stop (Takes c) = Ok (Some c)

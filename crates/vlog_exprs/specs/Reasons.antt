@@ -1,7 +1,7 @@
 -- What a token says at its place, or the reason for which it may not stand there: one definition for each kind of place (IEEE 1364-2005, 3).
 -- The order is that of the reasons, of which the first that fits is given, but for the last two, which the others fall back on: the end of the
 -- input and the faults within a token come before all of these.
-use Rattle.std.specs.Prelude.{ℕ, zero, suc, nat_eq, Bool, true, false, ◌&&◌, if◌then◌else◌, List, [], ◌∷◌, Option, Some, None, option_map, Result, Ok, Err, ℤ, pos, negsuc, neg_ℤ, int_lt, nat_abs, map}
+use Rattle.std.specs.Prelude.{◌≡◌, ℕ, zero, suc, nat_eq, Bool, true, false, ◌&&◌, if◌then◌else◌, List, [], ◌∷◌, Option, Some, None, option_map, Result, Ok, Err, ℤ, pos, negsuc, neg_ℤ, int_lt, nat_abs, map}
 use Rattle.std.specs.Borrow.{Bor}
 use Rattle.std.specs.List.{find}
 use Rattle.grammar.specs.Part.{Glance, takes, refuses, leaves}
@@ -97,6 +97,10 @@ keyword_of due t = Err (misplaced t)
 -- the value of the first of some keywords that is this one
 unfoldable pub meant_by : {A : Type 0} → List (List ℕ × A) → List ℕ → Option A
 meant_by words w = option_map (λ row. row.1) (find (λ row. same_bytes w row.0) words)
+
+-- a value that some keyword means
+abbrev pub IsMeant : {A : Type 0} → List (List ℕ × A) → A → Type 0
+IsMeant words a = (w : List ℕ) × (meant_by words w ≡ Some a)
 
 -- words and values as the program has them
 abbrev pub rows : {A : Type 0} → List (Bor (List ℕ) × A) → List (List ℕ × A)

@@ -1,7 +1,8 @@
 // Attributes.
-ghost use Rattle.std.specs.Prelude.{◌≡◌, IsFalse};
-ghost use Rattle.readers.specs.Readers.{same, Reads, ReadsMaybe, TakesNext};
+ghost use Rattle.std.specs.Prelude.{◌≡◌, ◌+◌, ◌<◌, ◌≤◌, length, IfOk, IsFalse};
+ghost use Rattle.readers.specs.Readers.{same, room, Reads, ReadsMaybe, TakesNext};
 ghost use Rattle.vlog_tokens.specs.Language.{vlog};
+ghost use Rattle.vlog_values.specs.Values.{IsConst, IsAttr, AreAttrs};
 ghost use Rattle.vlog_exprs.specs.Calls.{stands};
 ghost use Rattle.vlog_exprs.specs.Grammar.{group_end, attr_value, attr, group, attrs};
 ghost use Rattle.vlog_exprs.specs.Reasons as say;
@@ -59,7 +60,8 @@ fn read_attr_value<S: Source>(
     cursor: &mut VCursor,
     source: &mut S,
 ) -> Result<Const, ReadError>
-    ensures { ReadsMaybe vlog same attr_value result cursor.old cursor.new (S.supply source.old) (S.supply source.new) }
+    ensures reads { ReadsMaybe vlog same attr_value result cursor.old cursor.new (S.supply source.old) (S.supply source.new) }
+    ensures value { IfOk result IsConst }
 {
     if cursor.takes(alloc, b'=', source)? {
         let value = read_const(alloc, cursor, source)?;
@@ -74,7 +76,8 @@ fn read_attr<S: Source>(
     cursor: &mut VCursor,
     source: &mut S,
 ) -> Result<Attr, ReadError>
-    ensures { Reads vlog same attr result cursor.old cursor.new (S.supply source.old) (S.supply source.new) }
+    ensures reads { Reads vlog same attr result cursor.old cursor.new (S.supply source.old) (S.supply source.new) }
+    ensures value { IfOk result IsAttr }
 {
     let name = cursor.name(alloc, source)?;
     let value = read_attr_value(alloc, cursor, source)?;
@@ -89,7 +92,10 @@ fn read_group<S: Source>(
     mut attrs: Seq<Attr>,
     source: &mut S,
 ) -> Result<Seq<Attr>, ReadError>
-    ensures { Reads vlog same (group attrs) result cursor.old cursor.new (S.supply source.old) (S.supply source.new) }
+    requires { AreAttrs attrs }
+    ensures reads { Reads vlog same (group attrs) result cursor.old cursor.new (S.supply source.old) (S.supply source.new) }
+    ensures value { IfOk result AreAttrs }
+    ensures size { IfOk result (λ all. length all + room cursor.new < length attrs + room cursor.old) }
 {
     let attr = read_attr(alloc, cursor, source)?;
     cursor.add(&mut attrs, attr)?;
@@ -108,7 +114,9 @@ pub fn read_attrs<S: Source>(
     cursor: &mut VCursor,
     source: &mut S,
 ) -> Result<Seq<Attr>, ReadError>
-    ensures { ReadsMaybe vlog same attrs result cursor.old cursor.new (S.supply source.old) (S.supply source.new) }
+    ensures reads { ReadsMaybe vlog same attrs result cursor.old cursor.new (S.supply source.old) (S.supply source.new) }
+    ensures value { IfOk result AreAttrs }
+    ensures size { IfOk result (λ attrs. length attrs + room cursor.new ≤ room cursor.old) }
 {
     let mut attrs = Seq::empty(alloc);
     while takes_group(alloc, cursor, source)? {

@@ -1,7 +1,8 @@
 // Bounds, ranges and selects.
-ghost use Rattle.std.specs.Prelude.{◌≡◌, ◌<◌, ◌^◌, nat_abs, IfOk, option_map};
+ghost use Rattle.std.specs.Prelude.{◌≡◌, ◌<◌, ◌^◌, nat_abs, IfOk, IfSome, option_map};
 ghost use Rattle.readers.specs.Readers.{same, Reads, ReadsMaybe};
 ghost use Rattle.vlog_tokens.specs.Language.{vlog};
+ghost use Rattle.vlog_values.specs.Values.{IsBound, IsRange, IsSelect};
 ghost use Rattle.vlog_exprs.specs.Grammar.{bound_number, bound, range_rest, range, maybe_range, select_rest, select};
 
 use crate::cursor::VCursor;
@@ -51,7 +52,8 @@ pub fn read_range_rest<S: Source>(
     cursor: &mut VCursor,
     source: &mut S,
 ) -> Result<Range, ReadError>
-    ensures { Reads vlog same range_rest result cursor.old cursor.new (S.supply source.old) (S.supply source.new) }
+    ensures reads { Reads vlog same range_rest result cursor.old cursor.new (S.supply source.old) (S.supply source.new) }
+    ensures value { IfOk result IsRange }
 {
     let left = read_bound(alloc, cursor, source)?;
     cursor.mark(alloc, b':', source)?;
@@ -67,7 +69,8 @@ pub fn read_range<S: Source>(
     cursor: &mut VCursor,
     source: &mut S,
 ) -> Result<Range, ReadError>
-    ensures { Reads vlog same range result cursor.old cursor.new (S.supply source.old) (S.supply source.new) }
+    ensures reads { Reads vlog same range result cursor.old cursor.new (S.supply source.old) (S.supply source.new) }
+    ensures value { IfOk result IsRange }
 {
     cursor.mark(alloc, b'[', source)?;
     let range = read_range_rest(alloc, cursor, source)?;
@@ -81,7 +84,8 @@ pub fn read_range_if_any<S: Source>(
     cursor: &mut VCursor,
     source: &mut S,
 ) -> Result<Option<Range>, ReadError>
-    ensures { ReadsMaybe vlog same maybe_range result cursor.old cursor.new (S.supply source.old) (S.supply source.new) }
+    ensures reads { ReadsMaybe vlog same maybe_range result cursor.old cursor.new (S.supply source.old) (S.supply source.new) }
+    ensures value { IfOk result (λ range. IfSome range IsRange) }
 {
     if cursor.takes(alloc, b'[', source)? {
         let range = read_range_rest(alloc, cursor, source)?;
@@ -98,7 +102,9 @@ fn read_select_rest<S: Source>(
     left: i32,
     source: &mut S,
 ) -> Result<Select, ReadError>
-    ensures { Reads vlog same (select_rest left) result cursor.old cursor.new (S.supply source.old) (S.supply source.new) }
+    requires { IsBound left }
+    ensures reads { Reads vlog same (select_rest left) result cursor.old cursor.new (S.supply source.old) (S.supply source.new) }
+    ensures value { IfOk result IsSelect }
 {
     if cursor.takes(alloc, b':', source)? {
         let right = read_bound(alloc, cursor, source)?;
@@ -116,7 +122,8 @@ pub fn read_select<S: Source>(
     cursor: &mut VCursor,
     source: &mut S,
 ) -> Result<Select, ReadError>
-    ensures { ReadsMaybe vlog same select result cursor.old cursor.new (S.supply source.old) (S.supply source.new) }
+    ensures reads { ReadsMaybe vlog same select result cursor.old cursor.new (S.supply source.old) (S.supply source.new) }
+    ensures value { IfOk result IsSelect }
 {
     if cursor.takes(alloc, b'[', source)? {
         let left = read_bound(alloc, cursor, source)?;

@@ -1,8 +1,10 @@
 // Constants.
-ghost use Rattle.std.specs.Prelude.{◌≡◌, IsFalse};
+ghost use Rattle.std.specs.Prelude.{◌≡◌, IfOk, IfSome, IsFalse};
 ghost use Rattle.readers.specs.Readers.{same, Reads, ReadsMaybe, TakesNext};
 ghost use Rattle.vlog_tokens.specs.Language.{vlog};
+ghost use Rattle.vlog_values.specs.Values.{IsNumber, IsLiteral, IsConst};
 ghost use Rattle.vlog_exprs.specs.Grammar.{digits, sized_const, const_start, signed, const_rest, constant};
+ghost use Rattle.vlog_exprs.specs.Known.{IsConstStart};
 ghost use Rattle.vlog_exprs.specs.Reasons as say;
 
 use crate::cursor::VCursor;
@@ -21,7 +23,8 @@ pub(crate) fn takes_digits<S: Source>(
     number: Int,
     source: &mut S,
 ) -> Result<Option<Literal>, ReadError>
-    ensures { TakesNext vlog same (λ _ x. say.at_digits number x.token) result cursor.old cursor.new (S.supply source.old) (S.supply source.new) }
+    ensures reads { TakesNext vlog same (λ _ x. say.at_digits number x.token) result cursor.old cursor.new (S.supply source.old) (S.supply source.new) }
+    ensures value { IfOk result (λ literal. IfSome literal IsLiteral) }
 {
     if let Some(_mark) = cursor.held_mark() {
         return Ok(None);
@@ -39,7 +42,8 @@ fn take_const_start<S: Source>(
     cursor: &mut VCursor,
     source: &mut S,
 ) -> Result<ConstStart, ReadError>
-    ensures { Reads vlog same const_start result cursor.old cursor.new (S.supply source.old) (S.supply source.new) }
+    ensures reads { Reads vlog same const_start result cursor.old cursor.new (S.supply source.old) (S.supply source.new) }
+    ensures value { IfOk result IsConstStart }
 {
     let VFound { place, stop, token } = cursor.take(alloc, source)?;
     let said = const_start(alloc, token);
@@ -53,7 +57,8 @@ fn take_signed<S: Source>(
     negative: bool,
     source: &mut S,
 ) -> Result<Const, ReadError>
-    ensures { Reads vlog same (signed negative) result cursor.old cursor.new (S.supply source.old) (S.supply source.new) }
+    ensures reads { Reads vlog same (signed negative) result cursor.old cursor.new (S.supply source.old) (S.supply source.new) }
+    ensures value { IfOk result IsConst }
 {
     let VFound { place, stop, token } = cursor.take(alloc, source)?;
     let said = signed_of(alloc, negative, token);
@@ -68,7 +73,9 @@ fn read_sized_const<S: Source>(
     number: Int,
     source: &mut S,
 ) -> Result<Const, ReadError>
-    ensures { ReadsMaybe vlog same (sized_const number) result cursor.old cursor.new (S.supply source.old) (S.supply source.new) }
+    requires { IsNumber number }
+    ensures reads { ReadsMaybe vlog same (sized_const number) result cursor.old cursor.new (S.supply source.old) (S.supply source.new) }
+    ensures value { IfOk result IsConst }
 {
     match takes_digits(alloc, cursor, number, source)? {
         Some(literal) => Ok(Const::Lit(literal)),
@@ -84,8 +91,10 @@ fn read_const_rest<S: Source>(
     start: ConstStart,
     source: &mut S,
 ) -> Result<Const, ReadError>
-    requires { IsFalse cursor.old.spent }
-    ensures { ReadsMaybe vlog same (const_rest start) result cursor.old cursor.new (S.supply source.old) (S.supply source.new) }
+    requires unspent { IsFalse cursor.old.spent }
+    requires start { IsConstStart start }
+    ensures reads { ReadsMaybe vlog same (const_rest start) result cursor.old cursor.new (S.supply source.old) (S.supply source.new) }
+    ensures value { IfOk result IsConst }
 {
     match start {
         ConstStart::Whole(constant) => Ok(constant),
@@ -107,7 +116,8 @@ pub fn read_const<S: Source>(
     cursor: &mut VCursor,
     source: &mut S,
 ) -> Result<Const, ReadError>
-    ensures { Reads vlog same constant result cursor.old cursor.new (S.supply source.old) (S.supply source.new) }
+    ensures reads { Reads vlog same constant result cursor.old cursor.new (S.supply source.old) (S.supply source.new) }
+    ensures value { IfOk result IsConst }
 {
     let start = take_const_start(alloc, cursor, source)?;
     let constant = read_const_rest(alloc, cursor, start, source)?;

@@ -5,7 +5,9 @@ ghost use Rattle.readers.specs.Sources.{IsNear};
 ghost use Rattle.readers.specs.Readers.{same, fault_at, spoilt, Reads, Looks, Ends, Adds};
 ghost use Rattle.vlog_tokens.specs.Keywords.{is_keyword};
 ghost use Rattle.vlog_tokens.specs.Language.{vlog};
-ghost use Rattle.vlog_exprs.specs.Calls.{is_unlooked, held_mark, past_mark, held_word, past_word, TakesHeld, answer, left_after, seen_answer, seen_left, LooksOut};
+ghost use Rattle.vlog_tokens.specs.Proper.{IsProper};
+ghost use Rattle.vlog_values.specs.Values.{IsName};
+ghost use Rattle.vlog_exprs.specs.Calls.{is_unlooked, held_mark, past_mark, held_word, past_word, TakesHeld, answer, left_after, seen_answer, seen_left, IfLeaves, LooksOut};
 ghost use Rattle.vlog_exprs.specs.Reasons.{trailing};
 
 use crate::glance::Glance;
@@ -29,6 +31,7 @@ pub struct VCursor {
 impl Model for VCursor {
     ghost use Rattle.std.specs.Prelude.{◌≡◌, None, IsTrue, IfSome};
     ghost use Rattle.vlog_tokens.specs.declared.token.VFound.{VFound};
+    ghost use Rattle.vlog_tokens.specs.Proper.{IsProper};
     ghost use Rattle.readers.specs.Sources.{IsNear};
     ghost use Rattle.readers.specs.Readers.{Reader};
     ghost use Rattle.vlog_exprs.specs.Language.{NoContext};
@@ -37,7 +40,7 @@ impl Model for VCursor {
 
     ghost view = { λ c. record { window = c.tokens.window; ahead = c.ahead; context = tt; spent = c.spent } };
 
-    ghost invariant = { λ c. (IsTrue c.tokens.spent → IsTrue c.spent) × (IsTrue c.spent → c.ahead ≡ None) × IfSome c.ahead (λ x. IsNear c.tokens.window x.stop) };
+    ghost invariant = { λ c. (IsTrue c.tokens.spent → IsTrue c.spent) × (IsTrue c.spent → c.ahead ≡ None) × IfSome c.ahead (λ x. IsNear c.tokens.window x.stop) × IfSome c.ahead (λ x. IsProper x.token) };
 }
 
 impl VCursor {
@@ -127,7 +130,8 @@ impl VCursor {
     /// Takes the name that is next, where no token was looked at and the bytes that are held show it and its end.
     #[inline(always)]
     pub(crate) fn held_name(&mut self, alloc: Global) -> Result<Option<Text>, ReadError>
-        ensures { TakesHeld result self.old self.new }
+        ensures held { TakesHeld result self.old self.new }
+        ensures value { IfOk result (λ name. IfSome name IsName) }
     {
         let held = self.held_word();
         let count = held.len();
@@ -150,6 +154,7 @@ impl VCursor {
         ensures token { self.old.ahead ≡ Some result }
         ensures left { self.new ≡ record { window = self.old.window; ahead = None; context = self.old.context; spent = self.old.spent } }
         ensures near { IsNear self.new.window result.stop }
+        ensures proper { IsProper result.token }
     {
         match self.ahead.take() {
             Some(found) => found,
@@ -162,6 +167,7 @@ impl VCursor {
     pub fn take<S: Source>(&mut self, alloc: Global, source: &mut S) -> Result<VFound, ReadError>
         ensures reads { Reads vlog same any result self.old self.new (S.supply source.old) (S.supply source.new) }
         ensures near { IfOk result (λ x. IsNear self.new.window x.stop) }
+        ensures proper { IfOk result (λ x. IsProper x.token) }
     {
         if self.spent {
             return Err(ReadError::Spent);
@@ -207,6 +213,7 @@ impl VCursor {
     pub fn ahead(&self) -> Option<&VFound>
         ensures token { option_map (λ x. x.now) result ≡ self.now.ahead }
         ensures none { IsTrue self.now.spent → IsNone result }
+        ensures proper { IfSome result (λ x. IsProper x.now.token) }
     {
         self.ahead.as_ref()
     }
@@ -264,6 +271,7 @@ impl VCursor {
     ) -> Result<Option<T>, ReadError>
         requires unspent { IsFalse self.old.spent }
         requires near { IsNear self.old.window stop }
+        requires proper { IfLeaves glance IsProper }
         ensures answer { result ≡ seen_answer place stop glance }
         ensures left { self.new ≡ seen_left place stop glance self.old }
     {
@@ -283,7 +291,8 @@ impl VCursor {
         alloc: Global,
         source: &mut S,
     ) -> Result<Option<VFound>, ReadError>
-        ensures { LooksOut result self.old self.new (S.supply source.old) (S.supply source.new) }
+        ensures reads { LooksOut result self.old self.new (S.supply source.old) (S.supply source.new) }
+        ensures proper { IfOk result (λ next. IfSome next (λ x. IsProper x.token)) }
     {
         self.look(alloc, source)?;
         let found = self.ahead.take();

@@ -1,8 +1,11 @@
 // Expressions, whose braces are at most 64 deep.
-ghost use Rattle.std.specs.Prelude.{◌≡◌, ◌<◌, ◌∷◌, [], IfOk, IsFalse};
-ghost use Rattle.readers.specs.Readers.{same, Reads, ReadsMaybe, TakesNext};
+ghost use Rattle.std.specs.Prelude.{◌≡◌, ◌+◌, ◌<◌, ◌≤◌, ◌∷◌, [], ℕ, suc, true, false, IfOk, IfSome, IsFalse};
+ghost use Rattle.readers.specs.Readers.{same, room, Reads, ReadsMaybe, TakesNext};
 ghost use Rattle.vlog_tokens.specs.Language.{vlog};
+ghost use Rattle.vlog_values.specs.Values.{AreSome, IsCount, IsExprWithin, IsExpr, is_left};
+ghost use Rattle.vlog_values.specs.Sizes.{list_size, expr_size, maybe_size};
 ghost use Rattle.vlog_exprs.specs.Grammar.{mark, commas, sized, expr_start, expr_rest, cat_rest, rep_rest, braced, inside, expr, maybe_expr};
+ghost use Rattle.vlog_exprs.specs.Known.{IsGood, IsStart};
 ghost use Rattle.vlog_exprs.specs.Reasons as say;
 
 use crate::bound::read_select;
@@ -16,22 +19,23 @@ use std::alloc::Global;
 use vlog_tokens::VFound;
 use vlog_values::Expr;
 
-/// Takes the first token of an expression, where `room` braces may be opened, one in another.
+/// Takes the first token of an expression, where `levels` braces may be opened, one in another.
 fn take_expr_start<S: Source>(
     alloc: Global,
     cursor: &mut VCursor,
     left: bool,
-    room: u8,
+    levels: u8,
     source: &mut S,
 ) -> Result<ExprStart, ReadError>
-    ensures reads { Reads vlog same (expr_start left room) result cursor.old cursor.new (S.supply source.old) (S.supply source.new) }
-    ensures room { IfOk result (λ start. start ≡ ExprStart.Brace → 0 < room) }
+    ensures reads { Reads vlog same (expr_start left levels) result cursor.old cursor.new (S.supply source.old) (S.supply source.new) }
+    ensures room { IfOk result (λ start. start ≡ ExprStart.Brace → 0 < levels) }
+    ensures value { IfOk result (IsStart left levels) }
 {
     let held = cursor.held_name(alloc)?;
     if let Some(text) = held {
         return Ok(ExprStart::Name(text));
     }
-    take_expr_token(alloc, cursor, left, room, source)
+    take_expr_token(alloc, cursor, left, levels, source)
 }
 
 /// Takes any token, with which an expression has to begin.
@@ -40,14 +44,15 @@ fn take_expr_token<S: Source>(
     alloc: Global,
     cursor: &mut VCursor,
     left: bool,
-    room: u8,
+    levels: u8,
     source: &mut S,
 ) -> Result<ExprStart, ReadError>
-    ensures reads { Reads vlog same (expr_start left room) result cursor.old cursor.new (S.supply source.old) (S.supply source.new) }
-    ensures room { IfOk result (λ start. start ≡ ExprStart.Brace → 0 < room) }
+    ensures reads { Reads vlog same (expr_start left levels) result cursor.old cursor.new (S.supply source.old) (S.supply source.new) }
+    ensures room { IfOk result (λ start. start ≡ ExprStart.Brace → 0 < levels) }
+    ensures value { IfOk result (IsStart left levels) }
 {
     let VFound { place, stop, token } = cursor.take(alloc, source)?;
-    let said = expr_start(alloc, left, room, token);
+    let said = expr_start(alloc, left, levels, token);
     cursor.judged(place, stop, said)
 }
 
@@ -57,7 +62,8 @@ fn takes_expr_start<S: Source>(
     cursor: &mut VCursor,
     source: &mut S,
 ) -> Result<Option<ExprStart>, ReadError>
-    ensures { TakesNext vlog same (λ _ x. say.at_expr x.token) result cursor.old cursor.new (S.supply source.old) (S.supply source.new) }
+    ensures reads { TakesNext vlog same (λ _ x. say.at_expr x.token) result cursor.old cursor.new (S.supply source.old) (S.supply source.new) }
+    ensures value { IfOk result (λ start. IfSome start (IsStart false 64)) }
 {
     let held = cursor.held_name(alloc)?;
     if let Some(text) = held {
@@ -72,7 +78,8 @@ fn takes_expr_token<S: Source>(
     cursor: &mut VCursor,
     source: &mut S,
 ) -> Result<Option<ExprStart>, ReadError>
-    ensures { TakesNext vlog same (λ _ x. say.at_expr x.token) result cursor.old cursor.new (S.supply source.old) (S.supply source.new) }
+    ensures reads { TakesNext vlog same (λ _ x. say.at_expr x.token) result cursor.old cursor.new (S.supply source.old) (S.supply source.new) }
+    ensures value { IfOk result (λ start. IfSome start (IsStart false 64)) }
 {
     if let Some(mark) = cursor.held_mark() {
         if mark != b'{' {
@@ -96,7 +103,10 @@ fn read_sized<S: Source>(
     number: Int,
     source: &mut S,
 ) -> Result<Expr, ReadError>
-    ensures { ReadsMaybe vlog same (sized number) result cursor.old cursor.new (S.supply source.old) (S.supply source.new) }
+    requires { IsCount number }
+    ensures reads { ReadsMaybe vlog same (sized number) result cursor.old cursor.new (S.supply source.old) (S.supply source.new) }
+    ensures value { IfOk result (λ e. (levels : ℕ) → IsExprWithin levels e) }
+    ensures size { IfOk result (λ e. expr_size e ≡ 0) }
 {
     match takes_digits(alloc, cursor, number, source)? {
         Some(literal) => Ok(Expr::Lit(literal)),
@@ -104,20 +114,23 @@ fn read_sized<S: Source>(
     }
 }
 
-/// Reads on behind the first token of an expression, before which `room` braces could be opened, one in another.
+/// Reads on behind the first token of an expression, before which `levels` braces could be opened, one in another.
 #[cycle(expr)]
 #[tactic(auto, using(readers::proofs::Reading::sequences), unfolding(crate::specs::Grammar::expr_rest))]
 fn read_rest<S: Source>(
     alloc: Global,
     cursor: &mut VCursor,
     left: bool,
-    room: u8,
+    levels: u8,
     start: ExprStart,
     source: &mut S,
 ) -> Result<Expr, ReadError>
     requires unspent { IsFalse cursor.old.spent }
-    requires room { start ≡ ExprStart.Brace → 0 < room }
-    ensures { ReadsMaybe vlog same (expr_rest (inside left room) start) result cursor.old cursor.new (S.supply source.old) (S.supply source.new) }
+    requires room { start ≡ ExprStart.Brace → 0 < levels }
+    requires start { IsStart left levels start }
+    ensures reads { ReadsMaybe vlog same (expr_rest (inside left levels) start) result cursor.old cursor.new (S.supply source.old) (S.supply source.new) }
+    ensures value { IfOk result (IsGood left levels) }
+    ensures size { IfOk result (λ e. expr_size e + room cursor.new ≤ room cursor.old) }
 {
     match start {
         ExprStart::Name(name) => {
@@ -130,26 +143,28 @@ fn read_rest<S: Source>(
         }
         ExprStart::Based(based) => Ok(Expr::Loose(based)),
         ExprStart::Brace => {
-            let expr = read_inside(alloc, cursor, left, room, source)?;
+            let expr = read_inside(alloc, cursor, left, levels, source)?;
             Ok(expr)
         }
     }
 }
 
-/// Reads an expression, where `room` braces may be opened, one in another.
+/// Reads an expression, where `levels` braces may be opened, one in another.
 #[cycle(expr)]
 #[tactic(auto, using(readers::proofs::Reading::sequences), unfolding(crate::specs::Grammar::expr, crate::specs::Grammar::expr_by))]
 fn read_expr_in<S: Source>(
     alloc: Global,
     cursor: &mut VCursor,
     left: bool,
-    room: u8,
+    levels: u8,
     source: &mut S,
 ) -> Result<Expr, ReadError>
-    ensures { Reads vlog same (expr left room) result cursor.old cursor.new (S.supply source.old) (S.supply source.new) }
+    ensures reads { Reads vlog same (expr left levels) result cursor.old cursor.new (S.supply source.old) (S.supply source.new) }
+    ensures value { IfOk result (IsGood left levels) }
+    ensures size { IfOk result (λ e. expr_size e + room cursor.new < room cursor.old) }
 {
-    let start = take_expr_start(alloc, cursor, left, room, source)?;
-    let expr = read_rest(alloc, cursor, left, room, start, source)?;
+    let start = take_expr_start(alloc, cursor, left, levels, source)?;
+    let expr = read_rest(alloc, cursor, left, levels, start, source)?;
     Ok(expr)
 }
 
@@ -160,17 +175,20 @@ fn read_list<S: Source>(
     alloc: Global,
     cursor: &mut VCursor,
     left: bool,
-    room: u8,
+    levels: u8,
     first: Expr,
     source: &mut S,
 ) -> Result<Seq<Expr>, ReadError>
-    requires { IsFalse cursor.old.spent }
-    ensures { Reads vlog same (commas (expr left room) (mark 125) (first ∷ [])) result cursor.old cursor.new (S.supply source.old) (S.supply source.new) }
+    requires unspent { IsFalse cursor.old.spent }
+    requires value { IsGood left levels first }
+    ensures reads { Reads vlog same (commas (expr left levels) (mark 125) (first ∷ [])) result cursor.old cursor.new (S.supply source.old) (S.supply source.new) }
+    ensures value { IfOk result (AreSome (IsGood left levels)) }
+    ensures size { IfOk result (λ es. list_size expr_size es + room cursor.new ≤ expr_size first + room cursor.old) }
 {
     let mut exprs = Seq::empty(alloc);
     cursor.add(&mut exprs, first)?;
     while cursor.takes(alloc, b',', source)? {
-        let expr = read_expr_in(alloc, cursor, left, room, source)?;
+        let expr = read_expr_in(alloc, cursor, left, levels, source)?;
         cursor.add(&mut exprs, expr)?;
     }
     cursor.mark(alloc, b'}', source)?;
@@ -184,14 +202,18 @@ fn read_replicated<S: Source>(
     alloc: Global,
     cursor: &mut VCursor,
     left: bool,
-    room: u8,
+    levels: u8,
     count: Int,
     source: &mut S,
 ) -> Result<Expr, ReadError>
-    ensures { Reads vlog same (rep_rest (expr left room) count) result cursor.old cursor.new (S.supply source.old) (S.supply source.new) }
+    requires right { left ≡ false }
+    requires count { IsCount count }
+    ensures reads { Reads vlog same (rep_rest (expr left levels) count) result cursor.old cursor.new (S.supply source.old) (S.supply source.new) }
+    ensures value { IfOk result (IsGood left (suc levels)) }
+    ensures size { IfOk result (λ e. expr_size e + room cursor.new < room cursor.old) }
 {
-    let first = read_expr_in(alloc, cursor, left, room, source)?;
-    let exprs = read_list(alloc, cursor, left, room, first, source)?;
+    let first = read_expr_in(alloc, cursor, left, levels, source)?;
+    let exprs = read_list(alloc, cursor, left, levels, first, source)?;
     cursor.mark(alloc, b'}', source)?;
     Ok(Expr::Rep(count, exprs))
 }
@@ -203,18 +225,22 @@ fn read_counted<S: Source>(
     alloc: Global,
     cursor: &mut VCursor,
     left: bool,
-    room: u8,
+    levels: u8,
     number: Int,
     source: &mut S,
 ) -> Result<Expr, ReadError>
-    ensures { Reads vlog same (braced (expr left room) (inside left room) (ExprStart.Number number)) result cursor.old cursor.new (S.supply source.old) (S.supply source.new) }
+    requires right { left ≡ false }
+    requires count { IsCount number }
+    ensures reads { Reads vlog same (braced (expr left levels) (inside left levels) (ExprStart.Number number)) result cursor.old cursor.new (S.supply source.old) (S.supply source.new) }
+    ensures value { IfOk result (IsGood left (suc levels)) }
+    ensures size { IfOk result (λ e. expr_size e + room cursor.new ≤ room cursor.old) }
 {
     if cursor.takes(alloc, b'{', source)? {
-        let expr = read_replicated(alloc, cursor, left, room, number, source)?;
+        let expr = read_replicated(alloc, cursor, left, levels, number, source)?;
         return Ok(expr);
     }
     let first = read_sized(alloc, cursor, number, source)?;
-    let exprs = read_list(alloc, cursor, left, room, first, source)?;
+    let exprs = read_list(alloc, cursor, left, levels, first, source)?;
     Ok(Expr::Cat(exprs))
 }
 
@@ -225,38 +251,43 @@ fn read_braced<S: Source>(
     alloc: Global,
     cursor: &mut VCursor,
     left: bool,
-    room: u8,
+    levels: u8,
     start: ExprStart,
     source: &mut S,
 ) -> Result<Expr, ReadError>
     requires unspent { IsFalse cursor.old.spent }
-    requires room { start ≡ ExprStart.Brace → 0 < room }
-    ensures { Reads vlog same (braced (expr left room) (inside left room) start) result cursor.old cursor.new (S.supply source.old) (S.supply source.new) }
+    requires room { start ≡ ExprStart.Brace → 0 < levels }
+    requires start { IsStart left levels start }
+    ensures reads { Reads vlog same (braced (expr left levels) (inside left levels) start) result cursor.old cursor.new (S.supply source.old) (S.supply source.new) }
+    ensures value { IfOk result (IsGood left (suc levels)) }
+    ensures size { IfOk result (λ e. expr_size e + room cursor.new ≤ room cursor.old) }
 {
     if let ExprStart::Number(number) = start {
-        let expr = read_counted(alloc, cursor, left, room, number, source)?;
+        let expr = read_counted(alloc, cursor, left, levels, number, source)?;
         return Ok(expr);
     }
-    let first = read_rest(alloc, cursor, left, room, start, source)?;
-    let exprs = read_list(alloc, cursor, left, room, first, source)?;
+    let first = read_rest(alloc, cursor, left, levels, start, source)?;
+    let exprs = read_list(alloc, cursor, left, levels, first, source)?;
     Ok(Expr::Cat(exprs))
 }
 
-/// Reads on behind a brace, before which `room` braces could be opened, one in another.
+/// Reads on behind a brace, before which `levels` braces could be opened, one in another.
 #[cycle(expr)]
 #[tactic(auto, using(crate::proofs::Braces::in_braces))]
 fn read_inside<S: Source>(
     alloc: Global,
     cursor: &mut VCursor,
     left: bool,
-    room: u8,
+    levels: u8,
     source: &mut S,
 ) -> Result<Expr, ReadError>
-    requires { 0 < room }
-    ensures { Reads vlog same (inside left room) result cursor.old cursor.new (S.supply source.old) (S.supply source.new) }
+    requires { 0 < levels }
+    ensures reads { Reads vlog same (inside left levels) result cursor.old cursor.new (S.supply source.old) (S.supply source.new) }
+    ensures value { IfOk result (IsGood left levels) }
+    ensures size { IfOk result (λ e. expr_size e + room cursor.new < room cursor.old) }
 {
-    let start = take_expr_start(alloc, cursor, left, room - 1, source)?;
-    let expr = read_braced(alloc, cursor, left, room - 1, start, source)?;
+    let start = take_expr_start(alloc, cursor, left, levels - 1, source)?;
+    let expr = read_braced(alloc, cursor, left, levels - 1, start, source)?;
     Ok(expr)
 }
 
@@ -267,7 +298,10 @@ pub fn read_expr<S: Source>(
     left_side: bool,
     source: &mut S,
 ) -> Result<Expr, ReadError>
-    ensures { Reads vlog same (expr left_side 64) result cursor.old cursor.new (S.supply source.old) (S.supply source.new) }
+    ensures reads { Reads vlog same (expr left_side 64) result cursor.old cursor.new (S.supply source.old) (S.supply source.new) }
+    ensures value { IfOk result IsExpr }
+    ensures left { IfOk result (λ e. left_side ≡ true → is_left e ≡ true) }
+    ensures size { IfOk result (λ e. expr_size e + room cursor.new < room cursor.old) }
 {
     let expr = read_expr_in(alloc, cursor, left_side, 64, source)?;
     Ok(expr)
@@ -280,7 +314,9 @@ pub fn read_expr_if_any<S: Source>(
     cursor: &mut VCursor,
     source: &mut S,
 ) -> Result<Option<Expr>, ReadError>
-    ensures { ReadsMaybe vlog same maybe_expr result cursor.old cursor.new (S.supply source.old) (S.supply source.new) }
+    ensures reads { ReadsMaybe vlog same maybe_expr result cursor.old cursor.new (S.supply source.old) (S.supply source.new) }
+    ensures value { IfOk result (λ e. IfSome e IsExpr) }
+    ensures size { IfOk result (λ e. maybe_size e + room cursor.new ≤ room cursor.old) }
 {
     match takes_expr_start(alloc, cursor, source)? {
         Some(start) => {

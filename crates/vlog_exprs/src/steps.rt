@@ -1,7 +1,8 @@
 // The calls that take one token which is due, or which need not stand.
-ghost use Rattle.std.specs.Prelude.{◌≡◌};
+ghost use Rattle.std.specs.Prelude.{◌≡◌, IfOk, IfSome};
 ghost use Rattle.readers.specs.Readers.{same, Reads, TakesNext};
 ghost use Rattle.vlog_tokens.specs.Language.{vlog};
+ghost use Rattle.vlog_values.specs.Values.{IsName, IsCount};
 ghost use Rattle.vlog_exprs.specs.Calls.{stands};
 ghost use Rattle.vlog_exprs.specs.Grammar.{name, number, mark, keyword, choice};
 ghost use Rattle.vlog_exprs.specs.Reasons as say;
@@ -18,7 +19,8 @@ use vlog_tokens::{VFound, is_keyword};
 impl VCursor {
     /// Takes a token: a name.
     pub fn name<S: Source>(&mut self, alloc: Global, source: &mut S) -> Result<Text, ReadError>
-        ensures { Reads vlog same name result self.old self.new (S.supply source.old) (S.supply source.new) }
+        ensures reads { Reads vlog same name result self.old self.new (S.supply source.old) (S.supply source.new) }
+        ensures value { IfOk result IsName }
     {
         let held = self.held_name(alloc)?;
         if let Some(text) = held {
@@ -30,7 +32,8 @@ impl VCursor {
     /// Takes any token, which has to be a name.
     #[inline(never)]
     fn name_token<S: Source>(&mut self, alloc: Global, source: &mut S) -> Result<Text, ReadError>
-        ensures { Reads vlog same name result self.old self.new (S.supply source.old) (S.supply source.new) }
+        ensures reads { Reads vlog same name result self.old self.new (S.supply source.old) (S.supply source.new) }
+        ensures value { IfOk result IsName }
     {
         let VFound { place, stop, token } = self.take(alloc, source)?;
         let said = name_of(alloc, token);
@@ -39,7 +42,8 @@ impl VCursor {
 
     /// Takes a token: a number.
     pub fn number<S: Source>(&mut self, alloc: Global, source: &mut S) -> Result<Int, ReadError>
-        ensures { Reads vlog same number result self.old self.new (S.supply source.old) (S.supply source.new) }
+        ensures reads { Reads vlog same number result self.old self.new (S.supply source.old) (S.supply source.new) }
+        ensures value { IfOk result IsCount }
     {
         let VFound { place, stop, token } = self.take(alloc, source)?;
         let said = number_of(alloc, token);
@@ -155,7 +159,8 @@ impl VCursor {
         alloc: Global,
         source: &mut S,
     ) -> Result<Option<Text>, ReadError>
-        ensures { TakesNext vlog same (λ _ x. say.at_name x.token) result self.old self.new (S.supply source.old) (S.supply source.new) }
+        ensures reads { TakesNext vlog same (λ _ x. say.at_name x.token) result self.old self.new (S.supply source.old) (S.supply source.new) }
+        ensures value { IfOk result (λ name. IfSome name IsName) }
     {
         let held = self.held_name(alloc)?;
         if let Some(text) = held {
@@ -171,7 +176,8 @@ impl VCursor {
         alloc: Global,
         source: &mut S,
     ) -> Result<Option<Text>, ReadError>
-        ensures { TakesNext vlog same (λ _ x. say.at_name x.token) result self.old self.new (S.supply source.old) (S.supply source.new) }
+        ensures reads { TakesNext vlog same (λ _ x. say.at_name x.token) result self.old self.new (S.supply source.old) (S.supply source.new) }
+        ensures value { IfOk result (λ name. IfSome name IsName) }
     {
         if self.at_held_keyword() {
             return Ok(None);
@@ -193,7 +199,8 @@ impl VCursor {
         words: &[(&[u8], T)],
         source: &mut S,
     ) -> Result<Option<T>, ReadError>
-        ensures { TakesNext vlog same (λ _ x. say.at_choice (say.rows words.now) x.token) result self.old self.new (S.supply source.old) (S.supply source.new) }
+        ensures reads { TakesNext vlog same (λ _ x. say.at_choice (say.rows words.now) x.token) result self.old self.new (S.supply source.old) (S.supply source.new) }
+        ensures value { IfOk result (λ value. IfSome value (say.IsMeant (say.rows words.now))) }
     {
         let held = self.held_word();
         let count = held.len();

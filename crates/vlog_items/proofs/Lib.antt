@@ -1,2 +1,5 @@
 pub mod Clear
+pub mod Lists
 pub mod Live
+pub mod Ordered
+pub mod Words

@@ -1,6 +1,8 @@
 // Assignments.
-ghost use Rattle.std.specs.Prelude.{◌≡◌};
-ghost use Rattle.readers.specs.Readers.{same, Reads};
+ghost use Rattle.std.specs.Prelude.{◌≡◌, ◌+◌, ◌<◌, length, IfOk};
+ghost use Rattle.readers.specs.Readers.{same, room, Reads};
+ghost use Rattle.vlog_values.specs.Values.{AreSome, AreAttrs, IsAssignment, AreAssigns};
+ghost use Rattle.vlog_values.specs.Sizes.{list_size, assignment_size, assigns_size};
 ghost use Rattle.vlog_tokens.specs.Language.{vlog};
 ghost use Rattle.vlog_exprs.specs.Grammar.{mark, list};
 ghost use Rattle.vlog_items.specs.Grammar.{assignment, assigns};
@@ -18,7 +20,9 @@ fn read_assignment<S: Source>(
     cursor: &mut VCursor,
     source: &mut S,
 ) -> Result<Assignment, ReadError>
-    ensures { Reads vlog same assignment result cursor.old cursor.new (S.supply source.old) (S.supply source.new) }
+    ensures reads { Reads vlog same assignment result cursor.old cursor.new (S.supply source.old) (S.supply source.new) }
+    ensures value { IfOk result IsAssignment }
+    ensures size { IfOk result (λ set. assignment_size set + room cursor.new < room cursor.old) }
 {
     let left = read_expr(alloc, cursor, true, source)?;
     cursor.mark(alloc, b'=', source)?;
@@ -33,7 +37,9 @@ fn read_assignments<S: Source>(
     cursor: &mut VCursor,
     source: &mut S,
 ) -> Result<Seq<Assignment>, ReadError>
-    ensures { Reads vlog same (list assignment (mark 59)) result cursor.old cursor.new (S.supply source.old) (S.supply source.new) }
+    ensures reads { Reads vlog same (list assignment (mark 59)) result cursor.old cursor.new (S.supply source.old) (S.supply source.new) }
+    ensures value { IfOk result (AreSome IsAssignment) }
+    ensures size { IfOk result (λ sets. list_size assignment_size sets + room cursor.new < room cursor.old) }
 {
     let mut sets = Seq::empty(alloc);
     let set = read_assignment(alloc, cursor, source)?;
@@ -54,7 +60,10 @@ pub(crate) fn read_assigns<S: Source>(
     attrs: Seq<Attr>,
     source: &mut S,
 ) -> Result<Assigns, ReadError>
-    ensures { Reads vlog same (assigns attrs) result cursor.old cursor.new (S.supply source.old) (S.supply source.new) }
+    requires { AreAttrs attrs }
+    ensures reads { Reads vlog same (assigns attrs) result cursor.old cursor.new (S.supply source.old) (S.supply source.new) }
+    ensures value { IfOk result AreAssigns }
+    ensures size { IfOk result (λ s. assigns_size s + room cursor.new < room cursor.old + length attrs) }
 {
     let sets = read_assignments(alloc, cursor, source)?;
     Ok(Assigns { attrs, sets })

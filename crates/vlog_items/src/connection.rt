@@ -1,6 +1,8 @@
 // The connections of an instance.
-ghost use Rattle.std.specs.Prelude.{◌≡◌, ◌∷◌, []};
-ghost use Rattle.readers.specs.Readers.{same, Reads};
+ghost use Rattle.std.specs.Prelude.{◌≡◌, ◌+◌, ◌<◌, ◌≤◌, ◌∷◌, [], IfOk, IfSome};
+ghost use Rattle.readers.specs.Readers.{same, room, Reads};
+ghost use Rattle.vlog_values.specs.Values.{AreSome, IsExpr, IsNamedConn, IsConns};
+ghost use Rattle.vlog_values.specs.Sizes.{list_size, maybe_size, conn_size, conns_size};
 ghost use Rattle.vlog_tokens.specs.Language.{vlog};
 ghost use Rattle.vlog_exprs.specs.Grammar.{mark, commas, list, maybe_expr};
 ghost use Rattle.vlog_items.specs.Grammar.{named_rest, named, order_of, named_conns, ordered_conns, conns};
@@ -18,7 +20,9 @@ fn read_named_rest<S: Source>(
     cursor: &mut VCursor,
     source: &mut S,
 ) -> Result<NamedConn, ReadError>
-    ensures { Reads vlog same named_rest result cursor.old cursor.new (S.supply source.old) (S.supply source.new) }
+    ensures reads { Reads vlog same named_rest result cursor.old cursor.new (S.supply source.old) (S.supply source.new) }
+    ensures value { IfOk result IsNamedConn }
+    ensures size { IfOk result (λ conn. conn_size conn + room cursor.new < room cursor.old) }
 {
     let port = cursor.name(alloc, source)?;
     cursor.mark(alloc, b'(', source)?;
@@ -34,7 +38,9 @@ fn read_named<S: Source>(
     cursor: &mut VCursor,
     source: &mut S,
 ) -> Result<NamedConn, ReadError>
-    ensures { Reads vlog same named result cursor.old cursor.new (S.supply source.old) (S.supply source.new) }
+    ensures reads { Reads vlog same named result cursor.old cursor.new (S.supply source.old) (S.supply source.new) }
+    ensures value { IfOk result IsNamedConn }
+    ensures size { IfOk result (λ conn. conn_size conn + room cursor.new < room cursor.old) }
 {
     cursor.mark(alloc, b'.', source)?;
     let conn = read_named_rest(alloc, cursor, source)?;
@@ -49,7 +55,10 @@ fn read_more_named<S: Source>(
     mut conns: Seq<NamedConn>,
     source: &mut S,
 ) -> Result<Seq<NamedConn>, ReadError>
-    ensures { Reads vlog same (commas named (mark 41) conns) result cursor.old cursor.new (S.supply source.old) (S.supply source.new) }
+    requires { AreSome IsNamedConn conns }
+    ensures reads { Reads vlog same (commas named (mark 41) conns) result cursor.old cursor.new (S.supply source.old) (S.supply source.new) }
+    ensures value { IfOk result (AreSome IsNamedConn) }
+    ensures size { IfOk result (λ all. list_size conn_size all + room cursor.new < room cursor.old + list_size conn_size conns) }
 {
     while cursor.takes(alloc, b',', source)? {
         let conn = read_named(alloc, cursor, source)?;
@@ -66,7 +75,9 @@ fn read_named_conns<S: Source>(
     cursor: &mut VCursor,
     source: &mut S,
 ) -> Result<Conns, ReadError>
-    ensures { Reads vlog same named_conns result cursor.old cursor.new (S.supply source.old) (S.supply source.new) }
+    ensures reads { Reads vlog same named_conns result cursor.old cursor.new (S.supply source.old) (S.supply source.new) }
+    ensures value { IfOk result IsConns }
+    ensures size { IfOk result (λ conns. conns_size conns + room cursor.new ≤ room cursor.old) }
 {
     let first = read_named_rest(alloc, cursor, source)?;
     let mut conns = Seq::empty(alloc);
@@ -82,7 +93,9 @@ fn read_exprs<S: Source>(
     cursor: &mut VCursor,
     source: &mut S,
 ) -> Result<Seq<Option<Expr>>, ReadError>
-    ensures { Reads vlog same (list maybe_expr (mark 41)) result cursor.old cursor.new (S.supply source.old) (S.supply source.new) }
+    ensures reads { Reads vlog same (list maybe_expr (mark 41)) result cursor.old cursor.new (S.supply source.old) (S.supply source.new) }
+    ensures value { IfOk result (AreSome (λ e. IfSome e IsExpr)) }
+    ensures size { IfOk result (λ exprs. list_size maybe_size exprs + room cursor.new ≤ room cursor.old) }
 {
     let mut exprs = Seq::empty(alloc);
     let expr = read_expr_if_any(alloc, cursor, source)?;
@@ -112,7 +125,9 @@ fn read_ordered_conns<S: Source>(
     cursor: &mut VCursor,
     source: &mut S,
 ) -> Result<Conns, ReadError>
-    ensures { Reads vlog same ordered_conns result cursor.old cursor.new (S.supply source.old) (S.supply source.new) }
+    ensures reads { Reads vlog same ordered_conns result cursor.old cursor.new (S.supply source.old) (S.supply source.new) }
+    ensures value { IfOk result IsConns }
+    ensures size { IfOk result (λ conns. conns_size conns + room cursor.new ≤ room cursor.old) }
 {
     let exprs = read_exprs(alloc, cursor, source)?;
     Ok(Conns::Order(order_of(alloc, exprs)))
@@ -125,7 +140,9 @@ pub(crate) fn read_conns<S: Source>(
     cursor: &mut VCursor,
     source: &mut S,
 ) -> Result<Conns, ReadError>
-    ensures { Reads vlog same conns result cursor.old cursor.new (S.supply source.old) (S.supply source.new) }
+    ensures reads { Reads vlog same conns result cursor.old cursor.new (S.supply source.old) (S.supply source.new) }
+    ensures value { IfOk result IsConns }
+    ensures size { IfOk result (λ conns. conns_size conns + room cursor.new ≤ room cursor.old) }
 {
     if cursor.takes(alloc, b'.', source)? {
         let conns = read_named_conns(alloc, cursor, source)?;

@@ -1,6 +1,8 @@
 // Declarations of ports and nets.
-ghost use Rattle.std.specs.Prelude.{◌≡◌};
-ghost use Rattle.readers.specs.Readers.{same, Reads, ReadsMaybe, TakesNext};
+ghost use Rattle.std.specs.Prelude.{◌≡◌, ◌+◌, ◌<◌, length, IfOk};
+ghost use Rattle.readers.specs.Readers.{same, room, Reads, ReadsMaybe, TakesNext};
+ghost use Rattle.vlog_values.specs.Values.{AreSome, IsName, AreAttrs, IsPortDecl, IsNetDecl};
+ghost use Rattle.vlog_values.specs.Sizes.{port_size, net_size};
 ghost use Rattle.vlog_tokens.specs.Language.{vlog};
 ghost use Rattle.vlog_exprs.specs.Reasons as say;
 ghost use Rattle.vlog_exprs.specs.Grammar.{name, mark, commas, list};
@@ -21,7 +23,9 @@ pub fn read_more_names<S: Source>(
     close: u8,
     source: &mut S,
 ) -> Result<Seq<Text>, ReadError>
-    ensures { Reads vlog same (commas name (mark close) names) result cursor.old cursor.new (S.supply source.old) (S.supply source.new) }
+    ensures reads { Reads vlog same (commas name (mark close) names) result cursor.old cursor.new (S.supply source.old) (S.supply source.new) }
+    ensures value { AreSome IsName names → IfOk result (AreSome IsName) }
+    ensures size { IfOk result (λ all. length all + room cursor.new < room cursor.old + length names) }
 {
     while cursor.takes(alloc, b',', source)? {
         let name = cursor.name(alloc, source)?;
@@ -38,7 +42,9 @@ fn read_names<S: Source>(
     cursor: &mut VCursor,
     source: &mut S,
 ) -> Result<Seq<Text>, ReadError>
-    ensures { Reads vlog same (list name (mark 59)) result cursor.old cursor.new (S.supply source.old) (S.supply source.new) }
+    ensures reads { Reads vlog same (list name (mark 59)) result cursor.old cursor.new (S.supply source.old) (S.supply source.new) }
+    ensures value { IfOk result (AreSome IsName) }
+    ensures size { IfOk result (λ names. length names + room cursor.new < room cursor.old) }
 {
     let first = cursor.name(alloc, source)?;
     let mut names = Seq::empty(alloc);
@@ -86,7 +92,10 @@ pub(crate) fn read_port_item<S: Source>(
     dir: Dir,
     source: &mut S,
 ) -> Result<PortDecl, ReadError>
-    ensures { Reads vlog same (port_item attrs dir) result cursor.old cursor.new (S.supply source.old) (S.supply source.new) }
+    requires { AreAttrs attrs }
+    ensures reads { Reads vlog same (port_item attrs dir) result cursor.old cursor.new (S.supply source.old) (S.supply source.new) }
+    ensures value { IfOk result IsPortDecl }
+    ensures size { IfOk result (λ d. port_size d + room cursor.new < room cursor.old + length attrs) }
 {
     let kind = read_port_kind(alloc, cursor, source)?;
     let signed = read_signed(alloc, cursor, source)?;
@@ -111,7 +120,10 @@ pub(crate) fn read_net_item<S: Source>(
     kind: NetKind,
     source: &mut S,
 ) -> Result<NetDecl, ReadError>
-    ensures { Reads vlog same (net_item attrs kind) result cursor.old cursor.new (S.supply source.old) (S.supply source.new) }
+    requires { AreAttrs attrs }
+    ensures reads { Reads vlog same (net_item attrs kind) result cursor.old cursor.new (S.supply source.old) (S.supply source.new) }
+    ensures value { IfOk result IsNetDecl }
+    ensures size { IfOk result (λ d. net_size d + room cursor.new < room cursor.old + length attrs) }
 {
     let signed = read_signed(alloc, cursor, source)?;
     let range = read_range_if_any(alloc, cursor, source)?;

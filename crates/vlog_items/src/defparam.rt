@@ -1,6 +1,8 @@
 // `defparam`.
-ghost use Rattle.std.specs.Prelude.{◌≡◌};
-ghost use Rattle.readers.specs.Readers.{same, Reads};
+ghost use Rattle.std.specs.Prelude.{◌≡◌, ◌+◌, ◌<◌, length, IfOk};
+ghost use Rattle.readers.specs.Readers.{same, room, Reads};
+ghost use Rattle.vlog_values.specs.Values.{AreSome, IsName, AreAttrs, IsDefSet, AreDefparams};
+ghost use Rattle.vlog_values.specs.Sizes.{defparams_size};
 ghost use Rattle.vlog_tokens.specs.Language.{vlog};
 ghost use Rattle.vlog_exprs.specs.Grammar.{mark, list};
 ghost use Rattle.vlog_items.specs.Grammar.{def_value, def_set, defparams};
@@ -19,7 +21,9 @@ fn read_def_value<S: Source>(
     instance: Text,
     source: &mut S,
 ) -> Result<DefSet, ReadError>
-    ensures { Reads vlog same (def_value instance) result cursor.old cursor.new (S.supply source.old) (S.supply source.new) }
+    requires { IsName instance }
+    ensures reads { Reads vlog same (def_value instance) result cursor.old cursor.new (S.supply source.old) (S.supply source.new) }
+    ensures value { IfOk result IsDefSet }
 {
     let name = cursor.name(alloc, source)?;
     cursor.mark(alloc, b'=', source)?;
@@ -38,7 +42,8 @@ fn read_def_set<S: Source>(
     cursor: &mut VCursor,
     source: &mut S,
 ) -> Result<DefSet, ReadError>
-    ensures { Reads vlog same def_set result cursor.old cursor.new (S.supply source.old) (S.supply source.new) }
+    ensures reads { Reads vlog same def_set result cursor.old cursor.new (S.supply source.old) (S.supply source.new) }
+    ensures value { IfOk result IsDefSet }
 {
     let instance = cursor.name(alloc, source)?;
     cursor.mark(alloc, b'.', source)?;
@@ -53,7 +58,9 @@ fn read_def_sets<S: Source>(
     cursor: &mut VCursor,
     source: &mut S,
 ) -> Result<Seq<DefSet>, ReadError>
-    ensures { Reads vlog same (list def_set (mark 59)) result cursor.old cursor.new (S.supply source.old) (S.supply source.new) }
+    ensures reads { Reads vlog same (list def_set (mark 59)) result cursor.old cursor.new (S.supply source.old) (S.supply source.new) }
+    ensures value { IfOk result (AreSome IsDefSet) }
+    ensures size { IfOk result (λ sets. length sets + room cursor.new < room cursor.old) }
 {
     let mut sets = Seq::empty(alloc);
     let set = read_def_set(alloc, cursor, source)?;
@@ -74,7 +81,10 @@ pub(crate) fn read_defparams<S: Source>(
     attrs: Seq<Attr>,
     source: &mut S,
 ) -> Result<Defparams, ReadError>
-    ensures { Reads vlog same (defparams attrs) result cursor.old cursor.new (S.supply source.old) (S.supply source.new) }
+    requires { AreAttrs attrs }
+    ensures reads { Reads vlog same (defparams attrs) result cursor.old cursor.new (S.supply source.old) (S.supply source.new) }
+    ensures value { IfOk result AreDefparams }
+    ensures size { IfOk result (λ s. defparams_size s + room cursor.new < room cursor.old + length attrs) }
 {
     let sets = read_def_sets(alloc, cursor, source)?;
     Ok(Defparams { attrs, sets })

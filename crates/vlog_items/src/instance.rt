@@ -1,6 +1,9 @@
 // Instances.
-ghost use Rattle.std.specs.Prelude.{◌≡◌};
-ghost use Rattle.readers.specs.Readers.{same, Reads, ReadsMaybe};
+ghost use Rattle.std.specs.Prelude.{◌≡◌, ◌+◌, ◌<◌, ◌≤◌, length, IfOk};
+ghost use Rattle.std.specs.List.{AllByRecursion};
+ghost use Rattle.readers.specs.Readers.{same, room, Reads, ReadsMaybe};
+ghost use Rattle.vlog_values.specs.Values.{AreSome, IsName, AreAttrs, IsParamSet, IsInstance, AreInstances};
+ghost use Rattle.vlog_values.specs.Sizes.{list_size, instance_size, instances_size};
 ghost use Rattle.vlog_tokens.specs.Language.{vlog};
 ghost use Rattle.vlog_exprs.specs.Grammar.{mark, list};
 ghost use Rattle.vlog_items.specs.Grammar.{instance, override_rest, override_set, overrides, instances};
@@ -19,7 +22,9 @@ fn read_instance<S: Source>(
     cursor: &mut VCursor,
     source: &mut S,
 ) -> Result<VInst, ReadError>
-    ensures { Reads vlog same instance result cursor.old cursor.new (S.supply source.old) (S.supply source.new) }
+    ensures reads { Reads vlog same instance result cursor.old cursor.new (S.supply source.old) (S.supply source.new) }
+    ensures value { IfOk result IsInstance }
+    ensures size { IfOk result (λ inst. instance_size inst + room cursor.new < room cursor.old) }
 {
     let name = cursor.name(alloc, source)?;
     cursor.mark(alloc, b'(', source)?;
@@ -34,7 +39,9 @@ fn read_insts<S: Source>(
     cursor: &mut VCursor,
     source: &mut S,
 ) -> Result<Seq<VInst>, ReadError>
-    ensures { Reads vlog same (list instance (mark 59)) result cursor.old cursor.new (S.supply source.old) (S.supply source.new) }
+    ensures reads { Reads vlog same (list instance (mark 59)) result cursor.old cursor.new (S.supply source.old) (S.supply source.new) }
+    ensures value { IfOk result (AreSome IsInstance) }
+    ensures size { IfOk result (λ insts. list_size instance_size insts + room cursor.new < room cursor.old) }
 {
     let mut insts = Seq::empty(alloc);
     let inst = read_instance(alloc, cursor, source)?;
@@ -54,7 +61,8 @@ fn read_override_rest<S: Source>(
     cursor: &mut VCursor,
     source: &mut S,
 ) -> Result<ParamSet, ReadError>
-    ensures { Reads vlog same override_rest result cursor.old cursor.new (S.supply source.old) (S.supply source.new) }
+    ensures reads { Reads vlog same override_rest result cursor.old cursor.new (S.supply source.old) (S.supply source.new) }
+    ensures value { IfOk result IsParamSet }
 {
     let name = cursor.name(alloc, source)?;
     cursor.mark(alloc, b'(', source)?;
@@ -70,7 +78,8 @@ fn read_override<S: Source>(
     cursor: &mut VCursor,
     source: &mut S,
 ) -> Result<ParamSet, ReadError>
-    ensures { Reads vlog same override_set result cursor.old cursor.new (S.supply source.old) (S.supply source.new) }
+    ensures reads { Reads vlog same override_set result cursor.old cursor.new (S.supply source.old) (S.supply source.new) }
+    ensures value { IfOk result IsParamSet }
 {
     cursor.mark(alloc, b'.', source)?;
     let set = read_override_rest(alloc, cursor, source)?;
@@ -84,7 +93,9 @@ fn read_override_list<S: Source>(
     cursor: &mut VCursor,
     source: &mut S,
 ) -> Result<Seq<ParamSet>, ReadError>
-    ensures { Reads vlog same (list override_set (mark 41)) result cursor.old cursor.new (S.supply source.old) (S.supply source.new) }
+    ensures reads { Reads vlog same (list override_set (mark 41)) result cursor.old cursor.new (S.supply source.old) (S.supply source.new) }
+    ensures value { IfOk result (AreSome IsParamSet) }
+    ensures size { IfOk result (λ sets. length sets + room cursor.new < room cursor.old) }
 {
     let mut sets = Seq::empty(alloc);
     let set = read_override(alloc, cursor, source)?;
@@ -104,7 +115,9 @@ fn read_overrides<S: Source>(
     cursor: &mut VCursor,
     source: &mut S,
 ) -> Result<Seq<ParamSet>, ReadError>
-    ensures { ReadsMaybe vlog same overrides result cursor.old cursor.new (S.supply source.old) (S.supply source.new) }
+    ensures reads { ReadsMaybe vlog same overrides result cursor.old cursor.new (S.supply source.old) (S.supply source.new) }
+    ensures value { IfOk result (AllByRecursion IsParamSet) }
+    ensures size { IfOk result (λ sets. length sets + room cursor.new ≤ room cursor.old) }
 {
     if cursor.takes(alloc, b'#', source)? {
         cursor.mark(alloc, b'(', source)?;
@@ -123,7 +136,11 @@ pub(crate) fn read_instances<S: Source>(
     of_module: Text,
     source: &mut S,
 ) -> Result<Instances, ReadError>
-    ensures { Reads vlog same (instances attrs of_module) result cursor.old cursor.new (S.supply source.old) (S.supply source.new) }
+    requires attrs { AreAttrs attrs }
+    requires name { IsName of_module }
+    ensures reads { Reads vlog same (instances attrs of_module) result cursor.old cursor.new (S.supply source.old) (S.supply source.new) }
+    ensures value { IfOk result AreInstances }
+    ensures size { IfOk result (λ s. instances_size s + room cursor.new < room cursor.old + length attrs) }
 {
     let params = read_overrides(alloc, cursor, source)?;
     let insts = read_insts(alloc, cursor, source)?;

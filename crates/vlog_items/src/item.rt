@@ -1,7 +1,9 @@
 // The items of a module.
-ghost use Rattle.std.specs.Prelude.{◌≡◌};
+ghost use Rattle.std.specs.Prelude.{◌≡◌, ◌+◌, ◌<◌, length, IfOk};
 ghost use Rattle.grammar.specs.Part.{sequence};
-ghost use Rattle.readers.specs.Readers.{same, Reads};
+ghost use Rattle.readers.specs.Readers.{same, room, Reads};
+ghost use Rattle.vlog_values.specs.Values.{IsName, AreAttrs, IsItem};
+ghost use Rattle.vlog_values.specs.Sizes.{item_size};
 ghost use Rattle.vlog_tokens.specs.Language.{vlog};
 ghost use Rattle.vlog_exprs.specs.Grammar.{choice, attrs};
 ghost use Rattle.vlog_items.specs.Grammar.{item_words, word_item, instances_item, item};
@@ -62,7 +64,10 @@ fn read_word_item<S: Source>(
     word: ItemWord,
     source: &mut S,
 ) -> Result<ItemV, ReadError>
-    ensures { Reads vlog same (word_item attrs word) result cursor.old cursor.new (S.supply source.old) (S.supply source.new) }
+    requires { AreAttrs attrs }
+    ensures reads { Reads vlog same (word_item attrs word) result cursor.old cursor.new (S.supply source.old) (S.supply source.new) }
+    ensures value { IfOk result IsItem }
+    ensures size { IfOk result (λ item. item_size item + room cursor.new < room cursor.old + length attrs) }
 {
     match word {
         ItemWord::Port(dir) => {
@@ -97,7 +102,11 @@ fn read_instances_item<S: Source>(
     of_module: Text,
     source: &mut S,
 ) -> Result<ItemV, ReadError>
-    ensures { Reads vlog same (instances_item attrs of_module) result cursor.old cursor.new (S.supply source.old) (S.supply source.new) }
+    requires attrs { AreAttrs attrs }
+    requires name { IsName of_module }
+    ensures reads { Reads vlog same (instances_item attrs of_module) result cursor.old cursor.new (S.supply source.old) (S.supply source.new) }
+    ensures value { IfOk result IsItem }
+    ensures size { IfOk result (λ item. item_size item + room cursor.new < room cursor.old + length attrs) }
 {
     let instances = read_instances(alloc, cursor, attrs, of_module, source)?;
     Ok(ItemV::Instances(instances))
@@ -111,7 +120,10 @@ fn read_item_of<S: Source>(
     attrs: Seq<Attr>,
     source: &mut S,
 ) -> Result<ItemV, ReadError>
-    ensures { Reads vlog same (item attrs) result cursor.old cursor.new (S.supply source.old) (S.supply source.new) }
+    requires { AreAttrs attrs }
+    ensures reads { Reads vlog same (item attrs) result cursor.old cursor.new (S.supply source.old) (S.supply source.new) }
+    ensures value { IfOk result IsItem }
+    ensures size { IfOk result (λ item. item_size item + room cursor.new < room cursor.old + length attrs) }
 {
     match cursor.takes_name(alloc, source)? {
         Some(of_module) => {
@@ -133,7 +145,9 @@ pub fn read_item<S: Source>(
     cursor: &mut VCursor,
     source: &mut S,
 ) -> Result<ItemV, ReadError>
-    ensures { Reads vlog same (sequence attrs item) result cursor.old cursor.new (S.supply source.old) (S.supply source.new) }
+    ensures reads { Reads vlog same (sequence attrs item) result cursor.old cursor.new (S.supply source.old) (S.supply source.new) }
+    ensures value { IfOk result IsItem }
+    ensures size { IfOk result (λ item. item_size item + room cursor.new < room cursor.old) }
 {
     let attributes = read_attrs(alloc, cursor, source)?;
     let item = read_item_of(alloc, cursor, attributes, source)?;

@@ -4,7 +4,8 @@
 // The public contract in plain words: `read_item` reads an item and the attributes before it from the tokens ahead. Its value is what their
 // tokens spell by the grammar in `specs/Grammar.antt`, and what follows them is left; or it answers their first fault with its place, stop and
 // reason. A source that fails and want of memory aside, it answers nothing else. The readers of lists, port words, parameter sets and types are
-// public for the headers of modules, with contracts of the same kind.
+// public for the headers of modules, with contracts of the same kind. Also where the source tells no bytes, what they answer can be written, and
+// the items in all its lists are no more than the tokens that were taken.
 #![tactic(auto)]
 
 pub mod assign;

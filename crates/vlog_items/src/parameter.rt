@@ -1,6 +1,8 @@
 // Declarations of parameters.
-ghost use Rattle.std.specs.Prelude.{◌≡◌};
-ghost use Rattle.readers.specs.Readers.{same, Reads, ReadsMaybe, TakesNext};
+ghost use Rattle.std.specs.Prelude.{◌≡◌, ◌+◌, ◌<◌, length, IfOk, IfSome};
+ghost use Rattle.readers.specs.Readers.{same, room, Reads, ReadsMaybe, TakesNext};
+ghost use Rattle.vlog_values.specs.Values.{AreSome, AreAttrs, IsParamType, IsParamSet, IsParamDecl};
+ghost use Rattle.vlog_values.specs.Sizes.{param_size};
 ghost use Rattle.vlog_exprs.specs.Reasons as say;
 ghost use Rattle.vlog_tokens.specs.Language.{vlog};
 ghost use Rattle.vlog_exprs.specs.Grammar.{mark, list};
@@ -20,7 +22,8 @@ fn read_plain_type<S: Source>(
     cursor: &mut VCursor,
     source: &mut S,
 ) -> Result<ParamType, ReadError>
-    ensures { ReadsMaybe vlog same plain_type result cursor.old cursor.new (S.supply source.old) (S.supply source.new) }
+    ensures reads { ReadsMaybe vlog same plain_type result cursor.old cursor.new (S.supply source.old) (S.supply source.new) }
+    ensures value { IfOk result IsParamType }
 {
     let signed = read_signed(alloc, cursor, source)?;
     let range = read_range_if_any(alloc, cursor, source)?;
@@ -33,7 +36,8 @@ fn read_type_word<S: Source>(
     cursor: &mut VCursor,
     source: &mut S,
 ) -> Result<Option<ParamType>, ReadError>
-    ensures { TakesNext vlog same (λ _ x. say.at_choice param_type_words x.token) result cursor.old cursor.new (S.supply source.old) (S.supply source.new) }
+    ensures reads { TakesNext vlog same (λ _ x. say.at_choice param_type_words x.token) result cursor.old cursor.new (S.supply source.old) (S.supply source.new) }
+    ensures value { IfOk result (λ kind. IfSome kind IsParamType) }
 {
     cursor.takes_choice(
         alloc,
@@ -49,7 +53,8 @@ pub fn read_param_type<S: Source>(
     cursor: &mut VCursor,
     source: &mut S,
 ) -> Result<ParamType, ReadError>
-    ensures { ReadsMaybe vlog same param_type result cursor.old cursor.new (S.supply source.old) (S.supply source.new) }
+    ensures reads { ReadsMaybe vlog same param_type result cursor.old cursor.new (S.supply source.old) (S.supply source.new) }
+    ensures value { IfOk result IsParamType }
 {
     match read_type_word(alloc, cursor, source)? {
         Some(kind) => Ok(kind),
@@ -67,7 +72,8 @@ pub fn read_param_set<S: Source>(
     cursor: &mut VCursor,
     source: &mut S,
 ) -> Result<ParamSet, ReadError>
-    ensures { Reads vlog same param_set result cursor.old cursor.new (S.supply source.old) (S.supply source.new) }
+    ensures reads { Reads vlog same param_set result cursor.old cursor.new (S.supply source.old) (S.supply source.new) }
+    ensures value { IfOk result IsParamSet }
 {
     let name = cursor.name(alloc, source)?;
     cursor.mark(alloc, b'=', source)?;
@@ -82,7 +88,9 @@ fn read_param_sets<S: Source>(
     cursor: &mut VCursor,
     source: &mut S,
 ) -> Result<Seq<ParamSet>, ReadError>
-    ensures { Reads vlog same (list param_set (mark 59)) result cursor.old cursor.new (S.supply source.old) (S.supply source.new) }
+    ensures reads { Reads vlog same (list param_set (mark 59)) result cursor.old cursor.new (S.supply source.old) (S.supply source.new) }
+    ensures value { IfOk result (AreSome IsParamSet) }
+    ensures size { IfOk result (λ sets. length sets + room cursor.new < room cursor.old) }
 {
     let mut sets = Seq::empty(alloc);
     let set = read_param_set(alloc, cursor, source)?;
@@ -103,7 +111,10 @@ pub(crate) fn read_param_item<S: Source>(
     attrs: Seq<Attr>,
     source: &mut S,
 ) -> Result<ParamDecl, ReadError>
-    ensures { Reads vlog same (param_item attrs) result cursor.old cursor.new (S.supply source.old) (S.supply source.new) }
+    requires { AreAttrs attrs }
+    ensures reads { Reads vlog same (param_item attrs) result cursor.old cursor.new (S.supply source.old) (S.supply source.new) }
+    ensures value { IfOk result IsParamDecl }
+    ensures size { IfOk result (λ d. param_size d + room cursor.new < room cursor.old + length attrs) }
 {
     let kind = read_param_type(alloc, cursor, source)?;
     let sets = read_param_sets(alloc, cursor, source)?;

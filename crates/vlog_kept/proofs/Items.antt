@@ -13,7 +13,8 @@ use Rattle.vlog_exprs.specs.Grammar.{mark, choice}
 use Rattle.vlog_items.specs.declared.item.ItemWord.{ItemWord}
 use Rattle.vlog_items.specs.declared.item.ItemWord.TheVariants as words
 use Rattle.vlog_items.specs.Grammar.{signed, port_kind, param_type_words, plain_type, param_type, param_set, port_item, net_item, param_item, assignment, assigns, named_rest, named, order_of, named_conns, ordered_conns, conns, instance, override_rest, override_set, overrides, instances, def_value, def_set, defparams, item_words, word_item, instances_item, item}
-use Rattle.vlog_kept.proofs.Kept.{Kept, kept_gives, kept_then, kept_after, kept_weaker, kept_if, kept_name, taken_name_is, choice_is, kept_mark, kept_commas, kept_list}
+use Rattle.vlog_exprs.proofs.Known.{taken_name_is}
+use Rattle.vlog_kept.proofs.Kept.{Kept, kept_gives, kept_then, kept_after, kept_weaker, kept_if, kept_name, choice_is, kept_mark, kept_commas, kept_list}
 use Rattle.vlog_kept.proofs.Expressions.{kept_maybe_range, kept_expr, kept_maybe_expr, kept_constant}
 
 -- ---- declarations
@@ -138,4 +139,4 @@ kept_instances_item attrs m are is_name = kept_then (kept_instances attrs m are 
 
 pub kept_item_of : (attrs : List Attr) → AreAttrs attrs → Kept (item attrs) IsItem
 unfolding item
-kept_item_of attrs are = kept_if _ _ _ (λ x m is h. kept_instances_item attrs m are (taken_name_is x.token m is h)) (kept_after (choice item_words) (λ word. kept_word_item attrs are word))
+kept_item_of attrs are = kept_if _ _ _ (λ x m is h. kept_instances_item attrs m are (taken_name_is x.token is m h)) (kept_after (choice item_words) (λ word. kept_word_item attrs are word))

@@ -1,5 +1,5 @@
 -- What the values keep that a part spells from the tokens of a text: one fact for each way in which a part is made.
-use Rattle.std.proofs.Common.{◌≡◌, sym, subst, ℕ, Bool, true, false, cond, List, [], ◌∷◌, ◌++◌, length-append, Option, Some, None, Result, Ok, inl, inr, arith}
+use Rattle.std.proofs.Common.{◌≡◌, sym, subst, ℕ, Bool, true, false, cond, List, [], ◌∷◌, ◌++◌, Option, Some, None, Result, Ok, inl, inr, arith}
 use Rattle.std.specs.Prelude.{IfSome, option_map}
 use Rattle.std.specs.List.{AllByRecursion, find}
 use Rattle.grammar.specs.Part.{Glance, gives, sequence, takes}
@@ -8,7 +8,6 @@ use Rattle.grammar.specs.Whole.{Terminal, proper, end}
 use Rattle.nl_base.specs.Case.{same_bytes}
 use Rattle.nl_base.specs.declared.place.Place.{Place}
 use Rattle.nl_base.specs.declared.fault.Reason.{Reason}
-use Rattle.nl_bytes.proofs.Uses.{AllByRecursion-push}
 use Rattle.readers.specs.Parts.{at_token, of_token, one, if_next, while_next}
 use Rattle.vlog_values.specs.Values.{AreSome, IsName}
 use Rattle.vlog_tokens.specs.declared.token.VFound.{VFound}
@@ -17,6 +16,7 @@ use Rattle.vlog_tokens.specs.declared.token.VToken.TheVariants as token
 use Rattle.vlog_exprs.specs.Language.{NoContext, Vlog}
 use Rattle.vlog_exprs.specs.Reasons as say
 use Rattle.vlog_exprs.specs.Grammar.{name, after, commas, list}
+use Rattle.vlog_exprs.proofs.Known.{name_is, some_push}
 use Rattle.vlog_tokens.specs.Proper.{IsProper, AreSound}
 
 -- What the part spells from tokens of a text is good.
@@ -96,34 +96,8 @@ kept_while {A = A} {C = C} {S = S} {Good = Good} Holds f q e round last s holds 
 
 -- ---- one token
 
-name_is : (t : VToken) (n : List ℕ) → IsProper t → say.name_of t ≡ Ok n → IsName n
-name_is (token.Name m) n is h = let same : m ≡ n = cc in subst IsName same is
-name_is (token.Keyword w) n is h = absurd cc
-name_is (token.Number m) n is h = absurd cc
-name_is (token.Real r) n is h = absurd cc
-name_is (token.Based d) n is h = absurd cc
-name_is (token.Str s) n is h = absurd cc
-name_is (token.Punct b) n is h = absurd cc
-name_is token.AttrStart n is h = absurd cc
-name_is token.AttrStop n is h = absurd cc
-name_is (token.Symbol b) n is h = absurd cc
-name_is (token.Directive w) n is h = absurd cc
-
-pub taken_name_is : (t : VToken) (n : List ℕ) → IsProper t → say.at_name t ≡ takes n → IsName n
-taken_name_is (token.Name m) n is h = let same : m ≡ n = cc in subst IsName same is
-taken_name_is (token.Keyword w) n is h = absurd cc
-taken_name_is (token.Number m) n is h = absurd cc
-taken_name_is (token.Real r) n is h = absurd cc
-taken_name_is (token.Based d) n is h = absurd cc
-taken_name_is (token.Str s) n is h = absurd cc
-taken_name_is (token.Punct b) n is h = absurd cc
-taken_name_is token.AttrStart n is h = absurd cc
-taken_name_is token.AttrStop n is h = absurd cc
-taken_name_is (token.Symbol b) n is h = absurd cc
-taken_name_is (token.Directive w) n is h = absurd cc
-
 pub kept_name : Kept name IsName
-kept_name = kept_one _ (λ x n is h. name_is x.token n is h)
+kept_name = kept_one _ (λ x n is h. name_is x.token is n h)
 
 -- ---- keywords with a value each
 
@@ -165,10 +139,6 @@ module _ {A : Type 0} (Good : A → Type 0) where
 pub kept_mark : {A : Type 0} {Good : A → Type 0} {p q : Vlog A} (due : ℕ) → Kept p Good → Kept q Good → Kept (after due p q) Good
 unfolding after
 kept_mark due one_way other = kept_if _ _ _ (λ x c is h. one_way) other
-
--- one more item
-pub some_push : {A : Type 0} (Good : A → Type 0) (so_far : List A) (a : A) → AllByRecursion Good so_far → Good a → AreSome Good (so_far ++ a ∷ [])
-some_push Good so_far a all good = record { some = omega (arith, length-append so_far (a ∷ [])); all = AllByRecursion-push Good so_far a all good }
 
 module _ {A : Type 0} {Good : A → Type 0} {p : Vlog A} (item : Kept p Good) (close : Vlog (Unit {0})) where
   pub kept_commas : (so_far : List A) → AreSome Good so_far → Kept (commas p close so_far) (AreSome Good)

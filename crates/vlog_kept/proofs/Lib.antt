@@ -1,5 +1,3 @@
-pub mod Digits
-pub mod Lexemes
 pub mod Tokens
 pub mod Kept
 pub mod Expressions

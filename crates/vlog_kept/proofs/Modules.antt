@@ -28,7 +28,8 @@ use Rattle.vlog_modules.specs.Text.{VlogReads}
 use Rattle.vlog_modules.specs.Grammar.{dir_words, port_rest, port_decl, with_name, with_decl, port_turn, port_decls, name_header, decl_header, some_header, header, param_group, with_set, with_group, more_set, param_turn, param_groups, params_rest, params, ItemStart, at_group, at_module_name, at_word, word_start, at_item, item_rest, items, module_rest, module_of, net_type, directive_of, directive, with_module, with_implicit, PieceStart, at_piece, piece_rest, pieces, file}
 use Rattle.vlog_tokens.specs.Proper.{AreBytes, IsProper}
 use Rattle.vlog_kept.proofs.Tokens.{tokens_sound}
-use Rattle.vlog_kept.proofs.Kept.{Kept, kept_gives, kept_then, kept_after, kept_if, kept_while, kept_name, taken_name_is, kept_mark, some_push, kept_commas}
+use Rattle.vlog_exprs.proofs.Known.{taken_name_is, some_push}
+use Rattle.vlog_kept.proofs.Kept.{Kept, kept_gives, kept_then, kept_after, kept_if, kept_while, kept_name, kept_mark, kept_commas}
 use Rattle.vlog_kept.proofs.Starts.{PortDecls, ParamGroups, SoFar, choose, piece_cases}
 use Rattle.vlog_kept.proofs.Expressions.{kept_maybe_range, kept_constant, kept_group, kept_groups, kept_attrs}
 use Rattle.vlog_kept.proofs.Items.{kept_param_type, kept_param_set, kept_word_item, kept_instances_item, kept_item_of}
@@ -60,7 +61,7 @@ more_decl ds d are is = (AllByRecursion-push IsPortDecl ds.before ds.last are.0 
 
 kept_port_turn : (ds : PortDecls) → ArePorts ds → Kept (port_turn ds) ArePorts
 unfolding port_turn
-kept_port_turn ds are = kept_if _ _ _ (λ x n is h. kept_gives (with_name ds n) (more_name ds n are (taken_name_is x.token n is h))) (kept_then kept_port_decl (λ d is. kept_gives (with_decl ds d) (more_decl ds d are is)))
+kept_port_turn ds are = kept_if _ _ _ (λ x n is h. kept_gives (with_name ds n) (more_name ds n are (taken_name_is x.token is n h))) (kept_then kept_port_decl (λ d is. kept_gives (with_decl ds d) (more_decl ds d are is)))
 
 kept_port_decls : (ds : PortDecls) → ArePorts ds → Kept (port_decls ds) (AreSome IsPortDecl)
 unfolding port_decls
@@ -77,7 +78,7 @@ kept_decl_header = kept_then kept_port_decl (λ d is. kept_then (kept_port_decls
 
 kept_some_header : Kept some_header IsHeader
 unfolding some_header
-kept_some_header = kept_if _ _ _ (λ x n is h. kept_name_header n (taken_name_is x.token n is h)) kept_decl_header
+kept_some_header = kept_if _ _ _ (λ x n is h. kept_name_header n (taken_name_is x.token is n h)) kept_decl_header
 
 kept_header : Kept header IsHeader
 unfolding header
@@ -113,7 +114,7 @@ kept_more_set gs n are is_name = kept_after (mark 61) (λ _. kept_then kept_cons
 
 kept_param_turn : (gs : ParamGroups) → AreGroups gs → Kept (param_turn gs) AreGroups
 unfolding param_turn
-kept_param_turn gs are = kept_if _ _ _ (λ x n is h. kept_more_set gs n are (taken_name_is x.token n is h)) (kept_then kept_param_group (λ g is. kept_gives (with_group gs g) (group_added gs g are is)))
+kept_param_turn gs are = kept_if _ _ _ (λ x n is h. kept_more_set gs n are (taken_name_is x.token is n h)) (kept_then kept_param_group (λ g is. kept_gives (with_group gs g) (group_added gs g are is)))
 
 kept_param_groups : (gs : ParamGroups) → AreGroups gs → Kept (param_groups gs) (λ gs. AllByRecursion IsParamGroup gs)
 unfolding param_groups

@@ -1,172 +1,54 @@
 -- Each token of a text of bytes is one that a text can have.
-use Rattle.std.proofs.Common.{◌≡◌, refl, ℕ, zero, suc, ◌+◌, ◌-◌, ◌*◌, ◌<◌, ◌≤◌, ◌^◌, Bool, true, false, cond, ltb, leb, eqb, ◌||◌, ◌&&◌, List, [], ◌∷◌, ◌++◌, length, drop, Option, Some, None, Result, Ok, Err, arith, length-append, ℤ, pos, negsuc, neg_ℤ, nat_abs}
-use Rattle.std.specs.Prelude.{⊤, IfOk, IfSome, ◌≤ℤ◌, codes}
-use Rattle.std.specs.Char.{is_ascii_digit, is_ascii_alphabetic}
-use Rattle.std.proofs.lemmas.Bool.{ltb-true, ltb-false, leb-false}
+use Rattle.std.proofs.Common.{◌≡◌, refl, ℕ, zero, suc, ◌+◌, ◌-◌, ◌*◌, ◌<◌, ◌≤◌, Bool, true, false, cond, ltb, eqb, ◌||◌, ◌&&◌, List, [], ◌∷◌, ◌++◌, length, drop, Option, Some, None, Result, Ok, Err, arith, length-append}
+use Rattle.std.specs.Prelude.{⊤, IfOk, IfSome}
+use Rattle.std.proofs.lemmas.Bool.{ltb-false, leb-false}
 use Rattle.grammar.specs.Whole.{Terminal, proper, end, Finish, Done, Bad, Over}
-use Rattle.nl_base.specs.Case.{same_bytes}
 use Rattle.nl_base.specs.Place.{place_after}
 use Rattle.nl_base.specs.declared.place.Place.{Place}
-use Rattle.nl_base.specs.declared.number.Scaled.{Scaled}
 use Rattle.nl_base.specs.declared.fault.TextFault.{TextFault}
 use Rattle.nl_base.specs.declared.fault.Reason.TheVariants.{EndOfInput}
 use Rattle.nl_bytes.specs.Bytes.{first}
-use Rattle.nl_bytes.specs.Classes.{is_verilog_space, is_verilog_string_byte}
+use Rattle.nl_bytes.specs.Classes.{is_verilog_string_byte}
 use Rattle.nl_bytes.specs.declared.bytes.TheConstants.{LIMIT}
 use Rattle.nl_bytes.proofs.Uses.{AllByRecursion-push}
 use Rattle.readers.specs.Sources.{Ahead, follow, only_end, no_token}
-use Rattle.vlog_values.specs.declared.literal.Base.{Base}
-use Rattle.vlog_values.specs.declared.literal.Base.TheVariants.{Decimal}
-use Rattle.vlog_values.specs.Bits.{IsBased}
-use Rattle.vlog_values.specs.Values.{IsString, IsNumber, IsCount}
+use Rattle.vlog_values.specs.Values.{IsString}
 use Rattle.vlog_tokens.specs.declared.token.VFound.{VFound}
 use Rattle.vlog_tokens.specs.declared.token.VToken.TheVariants as token
 use Rattle.vlog_tokens.specs.declared.item.Item.{Item}
 use Rattle.vlog_tokens.specs.declared.item.Item.TheVariants.{Blank, Line, Token}
 use Rattle.vlog_tokens.specs.declared.phase.Phase.{Phase}
-use Rattle.vlog_tokens.specs.declared.phase.Phase.TheVariants as phases
 use Rattle.vlog_tokens.specs.declared.start.Start.{Start}
 use Rattle.vlog_tokens.specs.declared.start.Start.TheVariants as starts
 use Rattle.vlog_tokens.specs.declared.string.Escaped.{Escaped}
 use Rattle.vlog_tokens.specs.declared.string.Escaped.TheVariants.{Stands, Octal, NoEscape, NoByte}
 use Rattle.vlog_tokens.specs.Flaws.{Piece, Flaw, flaw, ◌>>=◌}
-use Rattle.vlog_tokens.specs.Keywords.{is_keyword}
-use Rattle.vlog_tokens.specs.Numbers.{decimal_value, digit_count, signed_number, lowered, number_of, real_of, exponent_of, scaled_by, before_mark, from_mark, after_point, is_negative}
-use Rattle.vlog_tokens.specs.Items.{item_of, number_item, real_item, based_item, directive_item, has_value, is_signed, digits_of, finish, finished}
+use Rattle.vlog_tokens.specs.Items.{item_of, finish, finished}
 use Rattle.vlog_tokens.specs.Scanning.{Lexeme, scan_at, kept}
 use Rattle.vlog_tokens.specs.Strings.{Within, Parts, Escape, Code, is_octal, escaped_by, is_full, part_by, escape_by, with_code, string_at}
-use Rattle.vlog_tokens.specs.Spelling.{lexeme_spelled, str_of, comment_at, pair_by, slash_by, is_mark, is_symbol, start_of, item_by, item_at}
+use Rattle.vlog_tokens.specs.Spelling.{lexeme_spelled, str_of, comment_at, pair_by, slash_by, start_of, item_by, item_at}
 use Rattle.vlog_tokens.specs.Language.{then_tokens, then_items, tokens_from, limited_finish, limited_from, limited, stream_from, with_line}
-use Rattle.vlog_tokens.specs.Proper.{AreBytes, IsPlainReal, IsProper, AreSound}
-use Rattle.vlog_kept.proofs.Lexemes.{IsSoFar, IsScanned, letter_bounds, name_of_one, scan_good, based_digits, based_open}
-
--- ---- numbers
-
--- a sign changes no absolute value
-pub neg_abs : (n : ℤ) → nat_abs (neg_ℤ n) ≡ nat_abs n
-neg_abs (pos zero) = refl
-neg_abs (pos (suc m)) = refl
-neg_abs (negsuc m) = refl
-
-not_negative : (m : ℕ) → pos 0 ≤ℤ pos m
-not_negative m = grind arith
-
-count_good : (m : ℕ) → IfSome (signed_number false m) IsCount
-count_good m = go (ltb m (2 ^ 63)) refl
-  where
-    go : (t : Bool) → ltb m (2 ^ 63) ≡ t → IfSome (cond t (Some (pos m)) None) IsCount
-    go true e = record { number = ltb-true m (2 ^ 63) e; sign = not_negative m }
-    go false e = tt
-
-signed_good : (negative : Bool) (m : ℕ) → IfSome (signed_number negative m) IsNumber
-signed_good negative m = go (ltb m (2 ^ 63)) refl
-  where
-    by : (s : Bool) → m < 2 ^ 63 → IsNumber (cond s (neg_ℤ (pos m)) (pos m))
-    by true lt = rw (neg_abs (pos m)) lt
-    by false lt = lt
-
-    go : (t : Bool) → ltb m (2 ^ 63) ≡ t → IfSome (cond t (Some (cond negative (neg_ℤ (pos m)) (pos m))) None) IsNumber
-    go true e = by negative (ltb-true m (2 ^ 63) e)
-    go false e = tt
-
-lowered_good : (negative : Bool) (m places : ℕ) → IfSome (lowered negative m places) IsNumber
-lowered_good true m places = signed_good true (m + places)
-lowered_good false m places = go (leb places m)
-  where
-    go : (t : Bool) → IfSome (cond t (signed_number false (m - places)) (signed_number true (places - m))) IsNumber
-    go true = signed_good false (m - places)
-    go false = signed_good true (places - m)
-
-scaled_good : (m e : Option ℤ) → IfSome m IsCount → IfSome e IsNumber → IfSome (scaled_by m e) IsPlainReal
-scaled_good (Some m) (Some e) h k = record { real = record { mantissa = h.number; exponent = k }; sign = h.sign }
-scaled_good (Some m) None h k = tt
-scaled_good None e h k = tt
-
-number_good : (text : List ℕ) → IfSome (number_of text) IsCount
-unfolding number_of
-number_good text = count_good (decimal_value text)
-
-exponent_good : (before exponent : List ℕ) → IfSome (exponent_of before exponent) IsNumber
-unfolding exponent_of
-exponent_good before exponent = lowered_good (is_negative exponent) (decimal_value exponent) (digit_count (after_point before))
-
-real_good : (text : List ℕ) → IfSome (real_of text) IsPlainReal
-unfolding real_of
-real_good text = scaled_good (number_of (before_mark text)) (exponent_of (before_mark text) (from_mark text)) (number_good (before_mark text)) (exponent_good (before_mark text) (from_mark text))
-
--- ---- what complete bytes are
-
--- an item is white space or a token that a text can have
-abbrev IsGood : Item → Type 0
-IsGood Blank = ⊤
-IsGood Line = ⊤
-IsGood (Token t) = IsProper t
-
-choose_good : (t : Bool) (x y : Item) → IsGood x → IsGood y → IsGood (cond t x y)
-choose_good true x y p q = p
-choose_good false x y p q = q
-
-number_item_good : (n : Option ℤ) → IfSome n IsCount → IfSome (number_item n) IsGood
-number_item_good (Some n) h = h
-number_item_good None h = tt
-
-real_item_good : (r : Option Scaled) → IfSome r IsPlainReal → IfSome (real_item r) IsGood
-real_item_good (Some r) h = h
-real_item_good None h = tt
-
-based_item_good : (base : Base) (text : List ℕ) → (has_value base (digits_of text) ≡ true → IsBased (record { signed = is_signed text; base = base; digits = digits_of text }))
-    → IfSome (based_item base text (digits_of text)) IsGood
-based_item_good base text h = go (has_value base (digits_of text)) h
-  where
-    go : (t : Bool) → (t ≡ true → IsBased (record { signed = is_signed text; base = base; digits = digits_of text }))
-        → IfSome (cond t (Some (Token (token.Based (record { signed = is_signed text; base = base; digits = digits_of text })))) None) IsGood
-    go true h = h refl
-    go false h = tt
-
-directive_good : (text : List ℕ) → IsGood (directive_item text)
-directive_good text =
-    choose_good (same_bytes text (codes "`timescale")) Line _ tt (choose_good (same_bytes text (codes "`celldefine") || same_bytes text (codes "`endcelldefine")) Blank (Token (token.Directive text)) tt tt)
-
-item_good : (phase : Phase) (text : List ℕ) → IsSoFar phase text → IfSome (item_of phase text) IsGood
-unfolding item_of
-item_good phases.Word text h = choose_good (is_keyword text) (Token (token.Keyword text)) (Token (token.Name text)) tt h
-item_good phases.Escape text h = tt
-item_good phases.Escaped text h = h
-item_good phases.Whole text h = number_item_good (number_of text) (number_good text)
-item_good phases.Point text h = tt
-item_good phases.Fraction text h = real_item_good (real_of text) (real_good text)
-item_good phases.Mark text h = tt
-item_good phases.Sign text h = tt
-item_good phases.Exponent text h = real_item_good (real_of text) (real_good text)
-item_good phases.Prefix text h = tt
-item_good phases.Signed text h = tt
-item_good (phases.Letter base) text h = tt
-item_good (phases.Digits base) text h = based_item_good base text (based_digits base text h)
-item_good phases.Unknown text h = based_item_good Decimal text (λ _. based_open text h)
-item_good phases.Grave text h = tt
-item_good phases.Directive text h = directive_good text
+use Rattle.vlog_tokens.specs.Proper.{AreBytes, IsProperItem, AreSound}
+use Rattle.vlog_tokens.proofs.Lexemes.{IsScanned, scan_good}
+use Rattle.vlog_tokens.proofs.Proper.{Begins, IsBegun, begun_good, item_good}
 
 -- ---- items of one kind
 
 -- an item that is spelled is good
 abbrev IsGoodPiece : Piece Item → Type 0
-IsGoodPiece piece = IsGood piece.value
+IsGoodPiece piece = IsProperItem piece.value
 
 by_test : (t : Bool) (x y : Result (Piece Item) Flaw) → IfOk x IsGoodPiece → IfOk y IsGoodPiece → IfOk (cond t x y) IsGoodPiece
 by_test true x y p q = p
 by_test false x y p q = q
 
-finished_good : (x : Piece Lexeme) (item : Option Item) → IfSome item IsGood → IfOk (finished x item) IsGoodPiece
+finished_good : (x : Piece Lexeme) (item : Option Item) → IfSome item IsProperItem → IfOk (finished x item) IsGoodPiece
 finished_good x (Some item) h = h
 finished_good x None h = tt
 
 finish_good : (r : Result (Piece Lexeme) Flaw) → IfOk r IsScanned → IfOk (r >>= finish) IsGoodPiece
 finish_good (Ok x) h = finished_good x (item_of x.value.phase x.value.text) (item_good x.value.phase x.value.text h)
 finish_good (Err f) h = tt
-
--- what is kept of a first byte is what the phase says
-abbrev Begins : Phase → ℕ → Type 0
-Begins phase b = IsSoFar phase (kept phase b)
 
 lexeme_good : (phase : Phase) (b : ℕ) (bs : List ℕ) → Begins phase b → IfOk (lexeme_spelled phase b bs) IsGoodPiece
 lexeme_good phase b bs h = finish_good (scan_at phase (kept phase b) 1 (drop 1 bs)) (scan_good phase (kept phase b) 1 (drop 1 bs) h)
@@ -178,7 +60,7 @@ comment_good star n (b ∷ bs) =
     by_test (eqb b 42) (comment_at true (n + 1) bs) _ (comment_good true (n + 1) bs)
     (by_test (star && eqb b 47) (Ok (record { value = Blank; count = n + 1; seen = n + 1 })) (comment_at false (n + 1) bs) tt (comment_good false (n + 1) bs))
 
-pair_good : (second : ℕ) (both single : Item) (next : Option ℕ) → IsGood both → IsGood single → IfOk (pair_by second both single next) IsGoodPiece
+pair_good : (second : ℕ) (both single : Item) (next : Option ℕ) → IsProperItem both → IsProperItem single → IfOk (pair_by second both single next) IsGoodPiece
 pair_good second both single None p q = q
 pair_good second both single (Some b) p q = by_test (eqb b second) (Ok (record { value = both; count = 2; seen = 2 })) (Ok (record { value = single; count = 1; seen = 2 })) p q
 
@@ -272,38 +154,6 @@ no_bytes = record { bytes = tt; short = omega arith }
 
 -- ---- all items
 
--- a token of several bytes is what its first byte says
-abbrev IsBegun : ℕ → Start → Type 0
-IsBegun b starts.White = ⊤
-IsBegun b (starts.Lexeme phase) = Begins phase b
-IsBegun b starts.Quote = ⊤
-IsBegun b starts.Open = ⊤
-IsBegun b starts.Star = ⊤
-IsBegun b starts.Slash = ⊤
-IsBegun b starts.Mark = ⊤
-IsBegun b starts.Sign = ⊤
-IsBegun b starts.Other = ⊤
-
-begun_test : (b : ℕ) (t : Bool) (x y : Start) → (t ≡ true → IsBegun b x) → IsBegun b y → IsBegun b (cond t x y)
-begun_test b true x y p q = p refl
-begun_test b false x y p q = q
-
-begun_good : (b : ℕ) → IsBegun b (start_of b)
-unfolding kept
-begun_good b =
-    begun_test b (is_verilog_space b) starts.White _ (λ _. tt)
-    (begun_test b (is_ascii_alphabetic b || eqb b 95) (starts.Lexeme phases.Word) _ (λ e. name_of_one b (letter_bounds b e))
-    (begun_test b (is_ascii_digit b) (starts.Lexeme phases.Whole) _ (λ _. tt)
-    (begun_test b (eqb b 92) (starts.Lexeme phases.Escape) _ (λ _. refl)
-    (begun_test b (eqb b 39) (starts.Lexeme phases.Prefix) _ (λ _. (b, refl))
-    (begun_test b (eqb b 96) (starts.Lexeme phases.Grave) _ (λ _. tt)
-    (begun_test b (eqb b 34) starts.Quote _ (λ _. tt)
-    (begun_test b (eqb b 40) starts.Open _ (λ _. tt)
-    (begun_test b (eqb b 42) starts.Star _ (λ _. tt)
-    (begun_test b (eqb b 47) starts.Slash _ (λ _. tt)
-    (begun_test b (is_mark b) starts.Mark _ (λ _. tt)
-    (begun_test b (is_symbol b) starts.Sign starts.Other (λ _. tt) tt)))))))))))
-
 by_good : (start : Start) (b : ℕ) (bs : List ℕ) → IsBegun b start → AreBytes bs → IfOk (item_by start b bs) IsGoodPiece
 by_good starts.White b bs h all = tt
 by_good (starts.Lexeme phase) b bs h all = lexeme_good phase b bs h
@@ -321,7 +171,7 @@ at_good b bs all = by_good (start_of b) b (b ∷ bs) (begun_good b) all
 
 -- ---- texts
 
-tokens_good : (item : Item) (p : Place) (bs : List ℕ) (count seen : ℕ) (after : ℕ → Ahead VFound) → IsGood item → ((n : ℕ) → AreSound (after n).tokens) → AreSound (then_tokens item p bs count seen after).tokens
+tokens_good : (item : Item) (p : Place) (bs : List ℕ) (count seen : ℕ) (after : ℕ → Ahead VFound) → IsProperItem item → ((n : ℕ) → AreSound (after n).tokens) → AreSound (then_tokens item p bs count seen after).tokens
 tokens_good Blank p bs count seen after h rest = rest count
 tokens_good Line p bs count seen after h rest = rest (with_line count bs)
 tokens_good (Token t) p bs count seen after h rest = (h, rest count)

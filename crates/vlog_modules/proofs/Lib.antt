@@ -8,3 +8,4 @@ pub mod Live
 pub mod Pieces
 pub mod Reading
 pub mod Words
+pub mod Sizes

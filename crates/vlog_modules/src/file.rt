@@ -1,10 +1,14 @@
 // Files.
-ghost use Rattle.std.specs.Prelude.{◌≡◌, IfOk, IsFalse};
-ghost use Rattle.readers.specs.Readers.{same, Reads, ReadsMaybe, ReadsWhole, LooksFor, TakesNext};
+ghost use Rattle.std.specs.Prelude.{◌≡◌, ◌+◌, ◌-◌, ◌<◌, ◌≤◌, IfOk, IsFalse};
+ghost use Rattle.readers.specs.Readers.{same, room, Reads, ReadsMaybe, ReadsWhole, LooksFor, TakesNext};
 ghost use Rattle.readers.specs.Texts.{ReadsText};
+ghost use Rattle.nl_bytes.specs.declared.bytes.TheConstants.{LIMIT};
+ghost use Rattle.vlog_values.specs.Values.{IsVlogValue};
+ghost use Rattle.vlog_values.specs.Sizes.{vlog_size};
 ghost use Rattle.vlog_tokens.specs.Language.{vlog};
 ghost use Rattle.vlog_exprs.specs.Calls.{kept};
 ghost use Rattle.vlog_exprs.specs.Reasons.{trailing};
+ghost use Rattle.vlog_modules.specs.States.{AreModules, modules_size};
 ghost use Rattle.vlog_modules.specs.Starts.{begins_piece, one_module, piece};
 ghost use Rattle.vlog_modules.specs.Grammar.{net_type, net_type_of, directive_of, at_directive, directive, file};
 
@@ -32,13 +36,16 @@ pub(crate) struct SoFar {
 }
 
 /// Reads a text to its end as a Verilog file. The text has at most 268,435,456 bytes. Whatever it answers, at
-/// most 4,096 bytes more than these are taken from the source.
+/// most 4,096 bytes more than these are taken from the source. Whether or not the source tells its bytes, the
+/// file is one that can be written, and it has at most 268,435,456 items in all its lists.
 ///
 /// # Errors
 /// `Text`: the first fault, with its place, where its stop lies within so many bytes. `TooLong`: the text is longer, and it has no such
 /// fault. `ReadFault`: the source failed. `NoMemory`: memory ran out. It never answers `Spent`.
 pub fn read_vlog<S: Source>(alloc: Global, source: &mut S) -> Result<VlogFile, ReadError>
-    ensures { ReadsText vlog trailing tt same file result (S.supply source.old) (S.supply source.new) }
+    ensures reads { ReadsText vlog trailing tt same file result (S.supply source.old) (S.supply source.new) }
+    ensures value { IfOk result IsVlogValue }
+    ensures size { IfOk result (λ file. vlog_size file ≤ LIMIT) }
 {
     let Ok(tokens) = VTokens::new(alloc) else {
         return Err(ReadError::NoMemory);
@@ -56,7 +63,9 @@ fn read_file<S: Source>(
     cursor: &mut VCursor,
     source: &mut S,
 ) -> Result<VlogFile, ReadError>
-    ensures { ReadsWhole vlog same file result cursor.old cursor.new (S.supply source.old) (S.supply source.new) }
+    ensures reads { ReadsWhole vlog same file result cursor.old cursor.new (S.supply source.old) (S.supply source.new) }
+    ensures value { IfOk result IsVlogValue }
+    ensures size { IfOk result (λ file. vlog_size file ≤ room cursor.old - 1) }
 {
     let implicit = true;
     let mut so_far = SoFar {
@@ -121,7 +130,10 @@ fn read_piece<S: Source>(
     so_far: SoFar,
     source: &mut S,
 ) -> Result<SoFar, ReadError>
-    ensures { Reads vlog same (piece so_far) result cursor.old cursor.new (S.supply source.old) (S.supply source.new) }
+    requires { AreModules so_far }
+    ensures reads { Reads vlog same (piece so_far) result cursor.old cursor.new (S.supply source.old) (S.supply source.new) }
+    ensures value { IfOk result AreModules }
+    ensures size { IfOk result (λ s. modules_size s + room cursor.new < room cursor.old + modules_size so_far) }
 {
     match takes_directive(alloc, cursor, source)? {
         Some(word) => {
@@ -172,8 +184,11 @@ fn read_directive<S: Source>(
     word: Directive,
     source: &mut S,
 ) -> Result<SoFar, ReadError>
-    requires { IsFalse cursor.old.spent }
-    ensures { ReadsMaybe vlog same (directive so_far word) result cursor.old cursor.new (S.supply source.old) (S.supply source.new) }
+    requires unspent { IsFalse cursor.old.spent }
+    requires modules { AreModules so_far }
+    ensures reads { ReadsMaybe vlog same (directive so_far word) result cursor.old cursor.new (S.supply source.old) (S.supply source.new) }
+    ensures value { IfOk result AreModules }
+    ensures size { IfOk result (λ s. modules_size s + room cursor.new ≤ room cursor.old + modules_size so_far) }
 {
     let SoFar { modules, .. } = so_far;
     match word {
@@ -233,7 +248,10 @@ fn read_one_module<S: Source>(
     so_far: SoFar,
     source: &mut S,
 ) -> Result<SoFar, ReadError>
-    ensures { Reads vlog same (one_module so_far) result cursor.old cursor.new (S.supply source.old) (S.supply source.new) }
+    requires { AreModules so_far }
+    ensures reads { Reads vlog same (one_module so_far) result cursor.old cursor.new (S.supply source.old) (S.supply source.new) }
+    ensures value { IfOk result AreModules }
+    ensures size { IfOk result (λ s. modules_size s + room cursor.new < room cursor.old + modules_size so_far) }
 {
     let attrs = read_attrs(alloc, cursor, source)?;
     let SoFar {

@@ -1,8 +1,11 @@
 // The ports of a module's header.
-ghost use Rattle.std.specs.Prelude.{◌≡◌, ◌∷◌, [], IsFalse};
-ghost use Rattle.readers.specs.Readers.{same, Reads, ReadsMaybe};
+ghost use Rattle.std.specs.Prelude.{◌≡◌, ◌+◌, ◌<◌, ◌≤◌, ◌∷◌, [], length, IfOk, IsFalse};
+ghost use Rattle.readers.specs.Readers.{same, room, Reads, ReadsMaybe};
+ghost use Rattle.vlog_values.specs.Values.{AreSome, IsName, AreAttrs, IsPortDecl, IsHeader};
+ghost use Rattle.vlog_values.specs.Sizes.{list_size, port_size, header_size};
 ghost use Rattle.vlog_tokens.specs.Language.{vlog};
 ghost use Rattle.vlog_exprs.specs.Grammar.{choice};
+ghost use Rattle.vlog_modules.specs.States.{ArePorts, ports_size};
 ghost use Rattle.vlog_modules.specs.Grammar.{dir_words, port_rest, port_decl, port_turn, port_decls, name_header, decl_header, some_header, header};
 
 use nl_base::{Dir, ReadError, Seq, Text};
@@ -48,7 +51,10 @@ fn read_port_rest<S: Source>(
     dir: Dir,
     source: &mut S,
 ) -> Result<PortDecl, ReadError>
-    ensures { Reads vlog same (port_rest attrs dir) result cursor.old cursor.new (S.supply source.old) (S.supply source.new) }
+    requires { AreAttrs attrs }
+    ensures reads { Reads vlog same (port_rest attrs dir) result cursor.old cursor.new (S.supply source.old) (S.supply source.new) }
+    ensures value { IfOk result IsPortDecl }
+    ensures size { IfOk result (λ d. port_size d + room cursor.new ≤ room cursor.old + length attrs) }
 {
     let kind = read_port_kind(alloc, cursor, source)?;
     let signed = read_signed(alloc, cursor, source)?;
@@ -73,7 +79,9 @@ fn read_port_decl<S: Source>(
     cursor: &mut VCursor,
     source: &mut S,
 ) -> Result<PortDecl, ReadError>
-    ensures { Reads vlog same port_decl result cursor.old cursor.new (S.supply source.old) (S.supply source.new) }
+    ensures reads { Reads vlog same port_decl result cursor.old cursor.new (S.supply source.old) (S.supply source.new) }
+    ensures value { IfOk result IsPortDecl }
+    ensures size { IfOk result (λ d. port_size d + room cursor.new < room cursor.old) }
 {
     let attrs = read_attrs(alloc, cursor, source)?;
     let dir = read_dir(alloc, cursor, source)?;
@@ -89,7 +97,10 @@ fn read_port_turn<S: Source>(
     decls: PortDecls,
     source: &mut S,
 ) -> Result<PortDecls, ReadError>
-    ensures { Reads vlog same (port_turn decls) result cursor.old cursor.new (S.supply source.old) (S.supply source.new) }
+    requires { ArePorts decls }
+    ensures reads { Reads vlog same (port_turn decls) result cursor.old cursor.new (S.supply source.old) (S.supply source.new) }
+    ensures value { IfOk result ArePorts }
+    ensures size { IfOk result (λ ds. ports_size ds + room cursor.new ≤ room cursor.old + ports_size decls) }
 {
     let PortDecls {
         mut before,
@@ -116,7 +127,10 @@ fn read_port_decls<S: Source>(
     first: PortDecls,
     source: &mut S,
 ) -> Result<Seq<PortDecl>, ReadError>
-    ensures { Reads vlog same (port_decls first) result cursor.old cursor.new (S.supply source.old) (S.supply source.new) }
+    requires { ArePorts first }
+    ensures reads { Reads vlog same (port_decls first) result cursor.old cursor.new (S.supply source.old) (S.supply source.new) }
+    ensures value { IfOk result (AreSome IsPortDecl) }
+    ensures size { IfOk result (λ ds. list_size port_size ds + room cursor.new < room cursor.old + ports_size first) }
 {
     let mut decls = first;
     while cursor.takes(alloc, b',', source)? {
@@ -136,8 +150,11 @@ fn read_name_header<S: Source>(
     first: Text,
     source: &mut S,
 ) -> Result<Header, ReadError>
-    requires { IsFalse cursor.old.spent }
-    ensures { Reads vlog same (name_header first) result cursor.old cursor.new (S.supply source.old) (S.supply source.new) }
+    requires unspent { IsFalse cursor.old.spent }
+    requires name { IsName first }
+    ensures reads { Reads vlog same (name_header first) result cursor.old cursor.new (S.supply source.old) (S.supply source.new) }
+    ensures value { IfOk result IsHeader }
+    ensures size { IfOk result (λ header. header_size header + room cursor.new ≤ room cursor.old) }
 {
     let mut names = Seq::empty(alloc);
     cursor.add(&mut names, first)?;
@@ -152,7 +169,9 @@ fn read_decl_header<S: Source>(
     cursor: &mut VCursor,
     source: &mut S,
 ) -> Result<Header, ReadError>
-    ensures { Reads vlog same decl_header result cursor.old cursor.new (S.supply source.old) (S.supply source.new) }
+    ensures reads { Reads vlog same decl_header result cursor.old cursor.new (S.supply source.old) (S.supply source.new) }
+    ensures value { IfOk result IsHeader }
+    ensures size { IfOk result (λ header. header_size header + room cursor.new ≤ room cursor.old) }
 {
     let last = read_port_decl(alloc, cursor, source)?;
     let first = PortDecls {
@@ -170,7 +189,9 @@ fn read_some_header<S: Source>(
     cursor: &mut VCursor,
     source: &mut S,
 ) -> Result<Header, ReadError>
-    ensures { Reads vlog same some_header result cursor.old cursor.new (S.supply source.old) (S.supply source.new) }
+    ensures reads { Reads vlog same some_header result cursor.old cursor.new (S.supply source.old) (S.supply source.new) }
+    ensures value { IfOk result IsHeader }
+    ensures size { IfOk result (λ header. header_size header + room cursor.new ≤ room cursor.old) }
 {
     match cursor.takes_name(alloc, source)? {
         Some(name) => {
@@ -191,7 +212,9 @@ pub(crate) fn read_header<S: Source>(
     cursor: &mut VCursor,
     source: &mut S,
 ) -> Result<Header, ReadError>
-    ensures { ReadsMaybe vlog same header result cursor.old cursor.new (S.supply source.old) (S.supply source.new) }
+    ensures reads { ReadsMaybe vlog same header result cursor.old cursor.new (S.supply source.old) (S.supply source.new) }
+    ensures value { IfOk result IsHeader }
+    ensures size { IfOk result (λ header. header_size header + room cursor.new ≤ room cursor.old) }
 {
     if !cursor.takes(alloc, b'(', source)? {
         return Ok(Header::Names(Seq::empty(alloc)));

@@ -1,11 +1,12 @@
 // Headers, modules and files of structural Verilog (IEEE 1364-2005, A.1.2, A.1.3 and 19).
 //
-// The public contract in plain words: `read_vlog` answers a file only where all the bytes of the source, up to its end, read as that file
-// by the grammar in `specs/Grammar.antt`; a text fault only where the bytes have that first fault, with its place and its reason; and
-// `TooLong` only where more bytes are given than are looked at and no first fault lies within those. A source that fails and want of
-// memory aside, it answers nothing else, and at a fault at most 4,096 bytes past its stop were taken. `laws` has it that these are three
-// cases: a text reads as at most one file, has at most one first fault, and never both; and that the grammar has the texts of the extended
-// BNF in `specs/Productions.antt`.
+// The public contract in plain words: `read_vlog` answers a file only where all the bytes of the source, up to its end, read as that
+// file by the grammar in `specs/Grammar.antt`; a text fault only where the bytes have that first fault, with its place and its reason;
+// and `TooLong` only where more bytes are given than are looked at and no first fault lies within those. A source that fails and want of
+// memory aside, it answers nothing else, and at a fault at most 4,096 bytes past its stop were taken. Also where the source tells no
+// bytes, the file is one that can be written, with at most 268,435,456 items in all its lists. `laws` has it that these are three cases:
+// a text reads as at most one file, has at most one first fault, and never both; and that the grammar has the texts of the extended BNF
+// in `specs/Productions.antt`.
 #![tactic(auto)]
 
 mod file;

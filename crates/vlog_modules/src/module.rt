@@ -1,9 +1,11 @@
 // Modules.
-ghost use Rattle.std.specs.Prelude.{◌≡◌, [], is_some};
-ghost use Rattle.std.specs.List.{list_any};
+ghost use Rattle.std.specs.Prelude.{◌≡◌, ◌+◌, ◌<◌, [], length, is_some, IfOk};
+ghost use Rattle.std.specs.List.{AllByRecursion, list_any};
 ghost use Rattle.grammar.specs.Part.{sequence};
 ghost use Rattle.nl_base.specs.Case.{same_bytes};
-ghost use Rattle.readers.specs.Readers.{same, Reads, LooksFor};
+ghost use Rattle.readers.specs.Readers.{same, room, Reads, LooksFor};
+ghost use Rattle.vlog_values.specs.Values.{AreAttrs, IsItem, IsModule};
+ghost use Rattle.vlog_values.specs.Sizes.{list_size, item_size, module_size};
 ghost use Rattle.vlog_tokens.specs.Language.{vlog};
 ghost use Rattle.vlog_exprs.specs.Reasons.{meant_by};
 ghost use Rattle.vlog_items.specs.Grammar.{item_words};
@@ -115,7 +117,9 @@ fn read_items<S: Source>(
     cursor: &mut VCursor,
     source: &mut S,
 ) -> Result<Seq<ItemV>, ReadError>
-    ensures { Reads vlog same (items []) result cursor.old cursor.new (S.supply source.old) (S.supply source.new) }
+    ensures reads { Reads vlog same (items []) result cursor.old cursor.new (S.supply source.old) (S.supply source.new) }
+    ensures value { IfOk result (AllByRecursion IsItem) }
+    ensures size { IfOk result (λ items. list_size item_size items + room cursor.new < room cursor.old) }
 {
     let mut items = Seq::empty(alloc);
     while at_item(alloc, cursor, source)? {
@@ -135,7 +139,10 @@ fn read_module_rest<S: Source>(
     attrs: Seq<Attr>,
     source: &mut S,
 ) -> Result<Module, ReadError>
-    ensures { Reads vlog same (module_rest implicit attrs) result cursor.old cursor.new (S.supply source.old) (S.supply source.new) }
+    requires { AreAttrs attrs }
+    ensures reads { Reads vlog same (module_rest implicit attrs) result cursor.old cursor.new (S.supply source.old) (S.supply source.new) }
+    ensures value { IfOk result IsModule }
+    ensures size { IfOk result (λ m. module_size m + room cursor.new < room cursor.old + length attrs) }
 {
     let name = cursor.name(alloc, source)?;
     let params = read_params(alloc, cursor, source)?;
@@ -161,7 +168,10 @@ pub(crate) fn read_module<S: Source>(
     attrs: Seq<Attr>,
     source: &mut S,
 ) -> Result<Module, ReadError>
-    ensures { Reads vlog same (module_of implicit attrs) result cursor.old cursor.new (S.supply source.old) (S.supply source.new) }
+    requires { AreAttrs attrs }
+    ensures reads { Reads vlog same (module_of implicit attrs) result cursor.old cursor.new (S.supply source.old) (S.supply source.new) }
+    ensures value { IfOk result IsModule }
+    ensures size { IfOk result (λ m. module_size m + 1 + room cursor.new < room cursor.old + length attrs) }
 {
     cursor.keyword(alloc, b"module", source)?;
     let parts = read_module_rest(alloc, cursor, implicit, attrs, source)?;

@@ -1,7 +1,11 @@
 // The parameters of a module's header.
-ghost use Rattle.std.specs.Prelude.{◌≡◌, ◌∷◌, []};
-ghost use Rattle.readers.specs.Readers.{same, Reads, ReadsMaybe};
+ghost use Rattle.std.specs.Prelude.{◌≡◌, ◌+◌, ◌<◌, ◌≤◌, ◌∷◌, [], IfOk};
+ghost use Rattle.std.specs.List.{AllByRecursion};
+ghost use Rattle.readers.specs.Readers.{same, room, Reads, ReadsMaybe};
+ghost use Rattle.vlog_values.specs.Values.{IsName, IsParamGroup};
+ghost use Rattle.vlog_values.specs.Sizes.{list_size, param_size};
 ghost use Rattle.vlog_tokens.specs.Language.{vlog};
+ghost use Rattle.vlog_modules.specs.States.{AreGroups, groups_size};
 ghost use Rattle.vlog_modules.specs.Grammar.{param_group, more_set, param_turn, param_groups, params_rest, params};
 
 use nl_base::{ReadError, Seq, Text};
@@ -25,7 +29,9 @@ fn read_param_group<S: Source>(
     cursor: &mut VCursor,
     source: &mut S,
 ) -> Result<ParamDecl, ReadError>
-    ensures { Reads vlog same param_group result cursor.old cursor.new (S.supply source.old) (S.supply source.new) }
+    ensures reads { Reads vlog same param_group result cursor.old cursor.new (S.supply source.old) (S.supply source.new) }
+    ensures value { IfOk result IsParamGroup }
+    ensures size { IfOk result (λ group. param_size group + room cursor.new < room cursor.old) }
 {
     cursor.keyword(alloc, b"parameter", source)?;
     let kind = read_param_type(alloc, cursor, source)?;
@@ -48,7 +54,11 @@ fn read_more_set<S: Source>(
     name: Text,
     source: &mut S,
 ) -> Result<ParamGroups, ReadError>
-    ensures { Reads vlog same (more_set groups name) result cursor.old cursor.new (S.supply source.old) (S.supply source.new) }
+    requires groups { AreGroups groups }
+    requires name { IsName name }
+    ensures reads { Reads vlog same (more_set groups name) result cursor.old cursor.new (S.supply source.old) (S.supply source.new) }
+    ensures value { IfOk result AreGroups }
+    ensures size { IfOk result (λ gs. groups_size gs + room cursor.new ≤ room cursor.old + groups_size groups) }
 {
     cursor.mark(alloc, b'=', source)?;
     let value = read_const(alloc, cursor, source)?;
@@ -65,7 +75,10 @@ fn read_param_turn<S: Source>(
     groups: ParamGroups,
     source: &mut S,
 ) -> Result<ParamGroups, ReadError>
-    ensures { Reads vlog same (param_turn groups) result cursor.old cursor.new (S.supply source.old) (S.supply source.new) }
+    requires { AreGroups groups }
+    ensures reads { Reads vlog same (param_turn groups) result cursor.old cursor.new (S.supply source.old) (S.supply source.new) }
+    ensures value { IfOk result AreGroups }
+    ensures size { IfOk result (λ gs. groups_size gs + room cursor.new ≤ room cursor.old + groups_size groups) }
 {
     match cursor.takes_name(alloc, source)? {
         Some(name) => {
@@ -89,7 +102,10 @@ fn read_param_groups<S: Source>(
     first: ParamGroups,
     source: &mut S,
 ) -> Result<Seq<ParamDecl>, ReadError>
-    ensures { Reads vlog same (param_groups first) result cursor.old cursor.new (S.supply source.old) (S.supply source.new) }
+    requires { AreGroups first }
+    ensures reads { Reads vlog same (param_groups first) result cursor.old cursor.new (S.supply source.old) (S.supply source.new) }
+    ensures value { IfOk result (AllByRecursion IsParamGroup) }
+    ensures size { IfOk result (λ gs. list_size param_size gs + room cursor.new < room cursor.old + groups_size first) }
 {
     let mut groups = first;
     while cursor.takes(alloc, b',', source)? {
@@ -108,7 +124,9 @@ fn read_params_rest<S: Source>(
     cursor: &mut VCursor,
     source: &mut S,
 ) -> Result<Seq<ParamDecl>, ReadError>
-    ensures { Reads vlog same params_rest result cursor.old cursor.new (S.supply source.old) (S.supply source.new) }
+    ensures reads { Reads vlog same params_rest result cursor.old cursor.new (S.supply source.old) (S.supply source.new) }
+    ensures value { IfOk result (AllByRecursion IsParamGroup) }
+    ensures size { IfOk result (λ gs. list_size param_size gs + room cursor.new ≤ room cursor.old) }
 {
     cursor.mark(alloc, b'(', source)?;
     let last = read_param_group(alloc, cursor, source)?;
@@ -127,7 +145,9 @@ pub(crate) fn read_params<S: Source>(
     cursor: &mut VCursor,
     source: &mut S,
 ) -> Result<Seq<ParamDecl>, ReadError>
-    ensures { ReadsMaybe vlog same params result cursor.old cursor.new (S.supply source.old) (S.supply source.new) }
+    ensures reads { ReadsMaybe vlog same params result cursor.old cursor.new (S.supply source.old) (S.supply source.new) }
+    ensures value { IfOk result (AllByRecursion IsParamGroup) }
+    ensures size { IfOk result (λ gs. list_size param_size gs + room cursor.new ≤ room cursor.old) }
 {
     if cursor.takes(alloc, b'#', source)? {
         let groups = read_params_rest(alloc, cursor, source)?;

@@ -10,6 +10,7 @@ use Rattle.nl_bytes.specs.Classes.{AreIn, is_verilog_space}
 use Rattle.nl_bytes.specs.Bytes.{Window, given}
 use Rattle.nl_io.specs.Sources.{Supply}
 use Rattle.readers.specs.Sources.{ReadsToken}
+use Rattle.vlog_values.specs.Values.{IsName}
 use Rattle.vlog_tokens.specs.declared.item.Item.TheVariants.{Token}
 use Rattle.vlog_tokens.specs.declared.token.VFound.{VFound}
 use Rattle.vlog_tokens.specs.declared.token.VToken.TheVariants.{Name, Keyword}
@@ -21,6 +22,7 @@ use Rattle.vlog_tokens.specs.Language.{vlog, State}
 use Rattle.vlog_tokens.specs.Held.{is_near, space_length, past, past_space, word_length, front_length, front_word, held_word, past_word}
 use Rattle.vlog_tokens.proofs.Readers.{reads_found}
 use Rattle.vlog_tokens.proofs.Held.{finds_after, held_within, word_named, word_found, name_begins}
+use Rattle.vlog_tokens.proofs.Lexemes.{name_bounds, name_of_held}
 use Rattle.vlog_tokens.proofs.HeldMarks.{either, space_passed, space_offset, window_is}
 
 -- ---- the word at the front of some bytes
@@ -77,6 +79,14 @@ word_next w n count some = go (is_near w) refl refl count
         let taken : n ≡ front_length rest = omega (arith, h, length-take (front_length rest) rest, word_enough rest) in
         record { near = d; is = is ∙ ap (λ (k : ℕ). take k rest) (sym taken); at = word_at rest n taken some }
     go false d is h = absurd (omega (arith, h, some))
+
+-- such a word is a name
+pub held_word_name : (w : Window) → 0 < length (held_word w) → IsName (held_word w)
+held_word_name w some =
+    let n = length (held_word w) in
+    let next = word_next w n refl some in
+    let named = word_named (past_space w).held n next.at.whole some in
+    rw next.is (name_of_held NameByte (past_space w).held n some named.more named.short named.each name_bounds)
 
 past_word_is : (w : Window) (n : ℕ) → n ≡ length (held_word w) → past_word w ≡ past n (past_space w)
 unfolding past_word

@@ -2,6 +2,9 @@ pub mod Keywords
 pub mod Numbers
 pub mod Parts
 pub mod Scanning
+pub mod Digits
+pub mod Lexemes
+pub mod Proper
 pub mod Reading
 pub mod Strings
 pub mod Marks

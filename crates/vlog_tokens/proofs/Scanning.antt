@@ -25,7 +25,7 @@ use Rattle.vlog_tokens.specs.Parts.{Reaches, refusal, Meaning, Part}
 use Rattle.vlog_tokens.proofs.Parts.{Refused, part_none, part_used, part_refused, part_then, part_to, part_halted, Steps, steps_use, offset_at}
 
 -- the bytes of the class keep the token in its phase
-stays_class : (phase : Phase) (class : Class) → class_of phase ≡ Some class → (b : ℕ) → IsTrue (in_class class b) → next_step phase b ≡ Keep phase
+pub stays_class : (phase : Phase) (class : Class) → class_of phase ≡ Some class → (b : ℕ) → IsTrue (in_class class b) → next_step phase b ≡ Keep phase
 unfolding class_of next_step
 stays_class Word class e b h = let k : class ≡ NameByte = cc in let t : in_class NameByte b ≡ true = subst (λ (c : Class). in_class c b ≡ true) k h in rw t refl
 stays_class Escaped class e b h = let k : class ≡ Graphic = cc in let t : in_class Graphic b ≡ true = subst (λ (c : Class). in_class c b ≡ true) k h in rw t refl

@@ -11,3 +11,4 @@ pub mod Language
 pub mod Finding
 pub mod Held
 pub mod Proper
+pub mod SoFar

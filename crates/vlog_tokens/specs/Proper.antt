@@ -7,6 +7,8 @@ use Rattle.nl_base.specs.declared.place.Place.{Place}
 use Rattle.vlog_tokens.specs.declared.token.VFound.{VFound}
 use Rattle.vlog_tokens.specs.declared.token.VToken.{VToken}
 use Rattle.vlog_tokens.specs.declared.token.VToken.TheVariants as token
+use Rattle.vlog_tokens.specs.declared.item.Item.{Item}
+use Rattle.vlog_tokens.specs.declared.item.Item.TheVariants.{Blank, Line, Token}
 use Rattle.vlog_values.specs.Bits.{IsBased}
 use Rattle.vlog_values.specs.Values.{IsName, IsString, IsCount, IsReal}
 
@@ -34,6 +36,12 @@ IsProper token.AttrStart = ⊤
 IsProper token.AttrStop = ⊤
 IsProper (token.Symbol b) = ⊤
 IsProper (token.Directive w) = ⊤
+
+-- white space or such a token
+abbrev pub IsProperItem : Item → Type 0
+IsProperItem Blank = ⊤
+IsProperItem Line = ⊤
+IsProperItem (Token t) = IsProper t
 
 -- such a token, or the end of the input
 abbrev pub IsSound : Terminal VFound Place → Type 0

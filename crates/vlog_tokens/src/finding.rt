@@ -1,7 +1,8 @@
-ghost use Rattle.std.specs.Prelude.{◌≡◌, ◌+◌, ◌<◌, ◌≤◌, ◌∷◌, ℕ, List, Option, IfOk, OnOk, IsErrOf};
+ghost use Rattle.std.specs.Prelude.{◌≡◌, ◌+◌, ◌<◌, ◌≤◌, ◌∷◌, ℕ, List, Option, IfOk, IfSome, OnOk, IsErrOf};
 ghost use Rattle.nl_io.specs.Causes.{Rose};
 ghost use Rattle.nl_base.specs.Faults.{OnText};
 ghost use Rattle.vlog_tokens.specs.Parts.{Reads};
+ghost use Rattle.vlog_tokens.specs.Proper.{IsProper, IsProperItem};
 ghost use Rattle.vlog_tokens.specs.Spelling.{item_by, start_of};
 ghost use Rattle.vlog_tokens.specs.Finding.{Finds, Passed, found_or_late};
 
@@ -32,6 +33,7 @@ fn item<S: Source>(
     requires ahead { (tail : List ℕ) × (bytes.old.held ≡ byte ∷ tail) }
     requires within { bytes.old.place.offset ≤ LIMIT }
     ensures reads { Reads (item_by (start_of byte) byte) bytes.old bytes.new (S.supply source.old).left (S.supply source.new).left result }
+    ensures proper { IfOk result (λ x. IsProperItem x.item) }
     ensures count { (S.supply source.old).faults ≤ (S.supply source.new).faults }
     ensures cause { IsErrOf result ReadError.ReadFault → Rose (S.supply source.old).faults (S.supply source.new).faults }
     ensures never_spent { IsErrOf result ReadError.Spent → ⊥ }
@@ -92,6 +94,7 @@ fn pieced<S: Source>(
     source: &mut S,
 ) -> Result<Option<VFound>, ReadError>
     ensures finds { Finds bytes.old bytes.new (S.supply source.old).left (S.supply source.new).left result }
+    ensures proper { IfOk result (λ x. IfSome x (λ x. IsProper x.token)) }
     ensures never_spent { IsErrOf result ReadError.Spent → ⊥ }
     ensures bounded { OnText result (λ t. bytes.new.place.offset ≤ t.stop) }
     ensures count { (S.supply source.old).faults ≤ (S.supply source.new).faults }
@@ -122,6 +125,7 @@ pub fn found<S: Source>(
     source: &mut S,
 ) -> Result<Option<VFound>, ReadError>
     ensures finds { Finds bytes.old bytes.new (S.supply source.old).left (S.supply source.new).left result }
+    ensures proper { IfOk result (λ x. IfSome x (λ x. IsProper x.token)) }
     ensures never_spent { IsErrOf result ReadError.Spent → ⊥ }
     ensures bounded { OnText result (λ t. bytes.new.place.offset ≤ t.stop) }
     ensures count { (S.supply source.old).faults ≤ (S.supply source.new).faults }

@@ -3,7 +3,9 @@ ghost use Rattle.nl_io.specs.Causes.{Rose};
 ghost use Rattle.nl_base.specs.Faults.{OnText};
 ghost use Rattle.nl_bytes.specs.Bytes.{Uses};
 ghost use Rattle.vlog_tokens.specs.Parts.{Part, Reads, spot_of};
-ghost use Rattle.vlog_tokens.specs.Scanning.{begun, scanned, StopsAt};
+ghost use Rattle.vlog_tokens.specs.Proper.{IsProperItem};
+ghost use Rattle.vlog_tokens.specs.Scanning.{begun, kept, scanned, StopsAt};
+ghost use Rattle.vlog_tokens.specs.SoFar.{IsSoFar};
 ghost use Rattle.vlog_tokens.specs.Spelling.{lexeme_spelled};
 
 use crate::item::{Item, Spot, item_of};
@@ -30,6 +32,7 @@ fn scan<S: Source>(
     requires within { bytes.old.place.offset ≤ LIMIT }
     ensures part { Part (begun begins byte) scanned bytes.old.place bytes.old bytes.new (S.supply source.old).left (S.supply source.new).left result }
     ensures stop { IfOk result (λ x. StopsAt bytes.new (S.supply source.new).left x.stop) }
+    ensures so_far { IsSoFar begins (kept begins byte) → IfOk result (λ x. IsSoFar x.phase x.text.items) }
     ensures some { OnOk result (bytes.old.place.offset < bytes.new.place.offset) }
     ensures count { (S.supply source.old).faults ≤ (S.supply source.new).faults }
     ensures cause { IsErrOf result ReadError.ReadFault → Rose (S.supply source.old).faults (S.supply source.new).faults }
@@ -65,6 +68,7 @@ pub fn lexeme<S: Source>(
     requires ahead { (tail : List ℕ) × (bytes.old.held ≡ byte ∷ tail) }
     requires within { bytes.old.place.offset ≤ LIMIT }
     ensures reads { Reads (lexeme_spelled begins byte) bytes.old bytes.new (S.supply source.old).left (S.supply source.new).left result }
+    ensures proper { IsSoFar begins (kept begins byte) → IfOk result (λ x. IsProperItem x.item) }
     ensures count { (S.supply source.old).faults ≤ (S.supply source.new).faults }
     ensures cause { IsErrOf result ReadError.ReadFault → Rose (S.supply source.old).faults (S.supply source.new).faults }
     ensures never_spent { IsErrOf result ReadError.Spent → ⊥ }

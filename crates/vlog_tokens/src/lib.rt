@@ -8,7 +8,8 @@
 // 268,435,456 bytes. It uses at most one byte past them, which tells that the input is longer, and holds at most 4,096 bytes
 // from its place on. It takes bytes only where all that it took before are used, and none for a token whose end those show. It
 // takes at most 4,096 bytes behind the stop of what it answers, and whatever it answers no more than 4,096 past the limit.
-// After any error it answers `Spent`.
+// After any error it answers `Spent`. Each token that it answers, from any source, is one that a text can have: its name, number,
+// real, based digits or string is within its limits.
 #![tactic(auto)]
 
 pub mod finding;

@@ -4,6 +4,7 @@ ghost use Rattle.nl_base.specs.Faults.{OnText};
 ghost use Rattle.nl_base.specs.declared.place.Place as specs;
 ghost use Rattle.nl_bytes.specs.Bytes.{first};
 ghost use Rattle.vlog_tokens.specs.Parts.{Part, Reads};
+ghost use Rattle.vlog_tokens.specs.Proper.{IsProperItem};
 ghost use Rattle.vlog_tokens.specs.Spelling.{alone, comment_at, blank_now, both_of, is_slash, pair_by, second_of, single_of, slash_by};
 
 use crate::item::{Item, Spot};
@@ -19,6 +20,7 @@ pub fn mark<S: Source>(bytes: &mut Bytes, item: Item, source: &S) -> Spot
     requires ahead { (byte : ℕ) × (tail : List ℕ) × (bytes.old.held ≡ byte ∷ tail) }
     requires within { bytes.old.place.offset ≤ LIMIT }
     ensures reads { Reads (λ _. alone item) bytes.old bytes.new (S.supply source.now).left (S.supply source.now).left (Ok result) }
+    ensures item { result.item ≡ item }
     ensures ended { bytes.new.place.offset ≤ result.stop }
 {
     let place = bytes.place();
@@ -75,6 +77,7 @@ pub fn pair<S: Source>(bytes: &mut Bytes, twin: Twin, source: &mut S) -> Result<
     requires ahead { (byte : ℕ) × (tail : List ℕ) × (bytes.old.held ≡ byte ∷ tail) }
     requires within { bytes.old.place.offset ≤ LIMIT }
     ensures reads { Reads (λ bs. pair_by (second_of twin) (both_of twin) (single_of twin) (first (drop 1 bs))) bytes.old bytes.new (S.supply source.old).left (S.supply source.new).left result }
+    ensures proper { IfOk result (λ x. IsProperItem x.item) }
     ensures count { (S.supply source.old).faults ≤ (S.supply source.new).faults }
     ensures cause { IsErrOf result ReadError.ReadFault → Rose (S.supply source.old).faults (S.supply source.new).faults }
     ensures never_spent { IsErrOf result ReadError.Spent → ⊥ }
@@ -140,6 +143,7 @@ pub fn slash<S: Source>(bytes: &mut Bytes, source: &mut S) -> Result<Spot, ReadE
     requires ahead { (byte : ℕ) × (tail : List ℕ) × (bytes.old.held ≡ byte ∷ tail) }
     requires within { bytes.old.place.offset ≤ LIMIT }
     ensures reads { Reads (λ bs. slash_by (first (drop 1 bs)) (drop 2 bs)) bytes.old bytes.new (S.supply source.old).left (S.supply source.new).left result }
+    ensures proper { IfOk result (λ x. IsProperItem x.item) }
     ensures count { (S.supply source.old).faults ≤ (S.supply source.new).faults }
     ensures cause { IsErrOf result ReadError.ReadFault → Rose (S.supply source.old).faults (S.supply source.new).faults }
     ensures never_spent { IsErrOf result ReadError.Spent → ⊥ }

@@ -4,6 +4,7 @@ ghost use Rattle.nl_base.specs.Faults.{OnText};
 ghost use Rattle.nl_bytes.specs.Bytes.{Uses, IsAhead};
 ghost use Rattle.vlog_tokens.specs.Parts.{refusal, Part};
 ghost use Rattle.vlog_tokens.specs.Scanning.{Stays, scan_at, after_byte, scanned, begun, kept, StopsAt};
+ghost use Rattle.vlog_tokens.specs.SoFar.{IsSoFar, IsThen};
 
 use crate::phase::{Phase, Step, class_of, is_complete, most_of, next_step};
 use nl_base::{Place, ReadError, Reason, TextFault};
@@ -44,6 +45,7 @@ fn stay<S: Source>(
     source: &mut S,
 ) -> Result<Option<u8>, Halt>
     ensures stays { Stays phase bytes.old bytes.new (S.supply source.old).left (S.supply source.new).left text.old.items text.new.items result }
+    ensures so_far { IsSoFar phase text.old.items → OnOk result (IsSoFar phase text.new.items) }
     ensures count { (S.supply source.old).faults ≤ (S.supply source.new).faults }
     ensures cause { IsErrOf result Halt.Failed → Rose (S.supply source.old).faults (S.supply source.new).faults }
 {
@@ -72,6 +74,7 @@ fn take_byte<S: Source>(
     requires ahead { IsAhead bytes.old (S.supply source.now).left next }
     requires within { bytes.old.place.offset ≤ LIMIT }
     ensures part { Part (scan_at phase text.old.items) (λ then. after_byte then phase text.new.items) place bytes.old bytes.new (S.supply source.now).left (S.supply source.now).left result }
+    ensures so_far { IsSoFar phase text.old.items → IfOk result (IsThen phase text.new.items) }
     ensures moves { IfOk result (λ then. (IsNone then → bytes.new ≡ bytes.old) × IfSome then (λ _. bytes.old.place.offset < bytes.new.place.offset)) }
     ensures never_spent { IsErrOf result ReadError.Spent → ⊥ }
     ensures never_failed { IsErrOf result ReadError.ReadFault → ⊥ }
@@ -126,6 +129,7 @@ pub fn rest<S: Source>(
 ) -> Result<Scanned, ReadError>
     ensures part { Part (scan_at begins text.items) scanned place bytes.old bytes.new (S.supply source.old).left (S.supply source.new).left result }
     ensures stop { IfOk result (λ x. StopsAt bytes.new (S.supply source.new).left x.stop) }
+    ensures so_far { IsSoFar begins text.items → IfOk result (λ x. IsSoFar x.phase x.text.items) }
     ensures count { (S.supply source.old).faults ≤ (S.supply source.new).faults }
     ensures cause { IsErrOf result ReadError.ReadFault → Rose (S.supply source.old).faults (S.supply source.new).faults }
     ensures never_spent { IsErrOf result ReadError.Spent → ⊥ }

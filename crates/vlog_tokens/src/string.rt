@@ -1,7 +1,8 @@
-ghost use Rattle.std.specs.Prelude.{◌≡◌, ◌⊎◌, ◌+◌, ◌<◌, ◌≤◌, ◌∷◌, ◌++◌, [], ℕ, List, length, Option, IfOk, IfErr, OnOk, IsErrOf};
+ghost use Rattle.std.specs.Prelude.{All, ◌≡◌, ◌⊎◌, ◌+◌, ◌<◌, ◌≤◌, ◌∷◌, ◌++◌, [], ℕ, List, length, Option, IfOk, IfErr, OnOk, IsErrOf};
 ghost use Rattle.nl_io.specs.Causes.{Rose};
 ghost use Rattle.nl_base.specs.Faults.{OnText};
 ghost use Rattle.vlog_tokens.specs.Parts.{Part, Reads, refusal};
+ghost use Rattle.vlog_tokens.specs.Proper.{IsProper, IsProperItem};
 ghost use Rattle.vlog_tokens.specs.Spelling.{string_spelled};
 ghost use Rattle.vlog_tokens.specs.Strings.{Codes, Parts, escaped_by, is_octal, string_at};
 
@@ -110,6 +111,7 @@ fn escape<S: Source>(
     requires ahead { (tail : List ℕ) × (bytes.old.held ≡ 92 ∷ tail) }
     requires within { bytes.old.place.offset ≤ LIMIT }
     ensures part { Part (string_at Parts value.old.items) (λ _. string_at Parts value.new.items) place bytes.old bytes.new (S.supply source.old).left (S.supply source.new).left result }
+    ensures short { length value.old.items ≤ 1048576 → OnOk result (length value.new.items ≤ 1048576) }
     ensures moved { OnOk result (bytes.old.place.offset < bytes.new.place.offset) }
     ensures count { (S.supply source.old).faults ≤ (S.supply source.new).faults }
     ensures cause { IsErrOf result ReadError.ReadFault → Rose (S.supply source.old).faults (S.supply source.new).faults }
@@ -152,6 +154,7 @@ fn parts<S: Source>(
     source: &mut S,
 ) -> Result<(), ReadError>
     ensures part { Part (string_at Parts value.old.items) (λ _. string_at Parts value.new.items) place bytes.old bytes.new (S.supply source.old).left (S.supply source.new).left result }
+    ensures short { length value.old.items ≤ 1048576 → OnOk result (length value.new.items ≤ 1048576) }
     ensures quote { OnOk result ((rest : List ℕ) × (bytes.new.held ≡ 34 ∷ rest)) }
     ensures within { OnOk result (bytes.new.place.offset ≤ LIMIT) }
     ensures count { (S.supply source.old).faults ≤ (S.supply source.new).faults }
@@ -179,6 +182,25 @@ fn parts<S: Source>(
     }
 }
 
+/// Each byte is below 256.
+#[inline(always)]
+fn each_is_byte(bytes: &[u8])
+    ensures { All (λ b. b < 256) bytes.now }
+{
+    let _first = bytes.first();
+}
+
+/// The string that a text is.
+#[inline(always)]
+pub(crate) fn str_token(text: Text) -> VToken
+    requires { length text ≤ 1048576 }
+    ensures token { result ≡ VToken.Str text }
+    ensures proper { IsProper result }
+{
+    each_is_byte(text.bytes());
+    VToken::Str(text)
+}
+
 /// Reads a string, whose first quote is ahead.
 pub fn string<S: Source>(
     bytes: &mut Bytes,
@@ -188,6 +210,7 @@ pub fn string<S: Source>(
     requires ahead { (quote : ℕ) × (tail : List ℕ) × (bytes.old.held ≡ quote ∷ tail) }
     requires within { bytes.old.place.offset ≤ LIMIT }
     ensures reads { Reads string_spelled bytes.old bytes.new (S.supply source.old).left (S.supply source.new).left result }
+    ensures proper { IfOk result (λ x. IsProperItem x.item) }
     ensures count { (S.supply source.old).faults ≤ (S.supply source.new).faults }
     ensures cause { IsErrOf result ReadError.ReadFault → Rose (S.supply source.old).faults (S.supply source.new).faults }
     ensures never_spent { IsErrOf result ReadError.Spent → ⊥ }
@@ -202,7 +225,7 @@ pub fn string<S: Source>(
     bytes.advance();
     let text = Text::of(alloc, value)?;
     Ok(Spot {
-        item: Item::Token(VToken::Str(text)),
+        item: Item::Token(str_token(text)),
         stop: here.offset + 1,
     })
 }

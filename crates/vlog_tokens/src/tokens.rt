@@ -1,4 +1,4 @@
-ghost use Rattle.std.specs.Prelude.{◌≡◌, ◌+◌, ◌<◌, ◌≤◌, ℕ, Some, length, IfOk, IsFalse};
+ghost use Rattle.std.specs.Prelude.{◌≡◌, ◌+◌, ◌<◌, ◌≤◌, ℕ, Some, length, IfOk, IfSome, IsFalse};
 ghost use Rattle.nl_bytes.specs.declared.bytes.TheConstants.{LIMIT};
 
 use crate::finding::found;
@@ -36,6 +36,7 @@ impl VTokens {
     ghost use Rattle.vlog_tokens.specs.Language.{vlog, fresh};
     ghost use Rattle.vlog_tokens.specs.Held.{held_mark, past_mark, held_word, past_word};
     ghost use Rattle.vlog_tokens.specs.Items.{word_token};
+    ghost use Rattle.vlog_tokens.specs.Proper.{IsProper};
 
     /// A reader at the start of a text.
     ///
@@ -129,6 +130,8 @@ impl VTokens {
     /// - `ReadFault` only where the source's count of faults rose in this call;
     /// - `Spent` exactly where the reader was spent.
     ///
+    /// A token is within its limits, also where the source does not tell its bytes.
+    ///
     /// Bytes are taken only where all that were taken before are used. None are taken for a token whose stop lies within those,
     /// nor for a fault whose stop lies before their end, and a read that fails was asked for with no byte at hand.
     ///
@@ -139,7 +142,8 @@ impl VTokens {
         alloc: Global,
         source: &mut S,
     ) -> Result<Option<VFound>, ReadError>
-        ensures { ReadsToken vlog result self.old.window self.old.spent self.new.window self.new.spent (S.supply source.old) (S.supply source.new) }
+        ensures reads { ReadsToken vlog result self.old.window self.old.spent self.new.window self.new.spent (S.supply source.old) (S.supply source.new) }
+        ensures proper { IfOk result (λ t. IfSome t (λ x. IsProper x.token)) }
     {
         if self.spent {
             return Err(ReadError::Spent);

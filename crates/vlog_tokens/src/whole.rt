@@ -1,10 +1,11 @@
 // Tokens that are held whole, with the byte that shows their end.
-ghost use Rattle.std.specs.Prelude.{◌≡◌, ◌+◌, ◌<◌, ◌≤◌, ◌∷◌, ℕ, true, List, length, drop, Some, Option, IfOk, IfErr, IsErrOf, IsTrue};
+ghost use Rattle.std.specs.Prelude.{◌≡◌, ◌+◌, ◌<◌, ◌≤◌, ◌∷◌, ℕ, true, List, length, drop, Some, Option, IfOk, IfErr, IfSome, IsErrOf, IsTrue};
 ghost use Rattle.nl_base.specs.Faults.{OnText};
 ghost use Rattle.nl_bytes.specs.Bytes.{given};
 ghost use Rattle.vlog_tokens.specs.Finding.{Finds};
 ghost use Rattle.vlog_tokens.specs.Held.{is_near, open_mark, front_mark, held_mark, past_space, past_mark, word_length, number_length, escaped_length, quoted_length, is_pair, pair_token, number_found};
 ghost use Rattle.vlog_tokens.specs.Items.{word_item};
+ghost use Rattle.vlog_tokens.specs.Proper.{IsProper};
 ghost use Rattle.vlog_tokens.specs.Spelling.{start_of};
 ghost use Rattle.vlog_tokens.specs.declared.start.Start.TheVariants.{Lexeme};
 ghost use Rattle.vlog_tokens.specs.declared.phase.Phase.TheVariants.{Word, Whole, Escape};
@@ -14,6 +15,7 @@ use crate::number::number_of;
 use crate::phase::is_mark as is_exponent_mark;
 use crate::scan::refuse;
 use crate::start::is_mark;
+use crate::string::str_token;
 use crate::token::{VFound, VToken};
 use nl_base::{Place, ReadError, Reason, Text};
 use nl_bytes::bytes::LIMIT;
@@ -188,6 +190,7 @@ pub fn held_word(
     requires some { 0 < count }
     requires whole { count ≡ word_length bytes.old.held }
     ensures finds { (left : Option (List ℕ)) → Finds bytes.old bytes.new left left result }
+    ensures proper { IfOk result (λ x. IfSome x (λ x. IsProper x.token)) }
     ensures error { IfErr result (λ e. e ≡ ReadError.NoMemory) }
 {
     let place = bytes.place();
@@ -225,6 +228,7 @@ pub fn held_number(bytes: &mut Bytes, byte: u8, count: usize) -> Result<Option<V
     requires some { 0 < count }
     requires whole { count ≡ number_length bytes.old.held }
     ensures finds { (left : Option (List ℕ)) → Finds bytes.old bytes.new left left result }
+    ensures proper { IfOk result (λ x. IfSome x (λ x. IsProper x.token)) }
     ensures never_fails { IsErrOf result ReadError.ReadFault → ⊥ }
     ensures never_spent { IsErrOf result ReadError.Spent → ⊥ }
     ensures bounded { OnText result (λ t. bytes.new.place.offset ≤ t.stop) }
@@ -248,6 +252,7 @@ pub fn held_escaped(
     requires some { 0 < count }
     requires whole { count ≡ escaped_length (drop 1 bytes.old.held) }
     ensures finds { (left : Option (List ℕ)) → Finds bytes.old bytes.new left left result }
+    ensures proper { IfOk result (λ x. IfSome x (λ x. IsProper x.token)) }
     ensures error { IfErr result (λ e. e ≡ ReadError.NoMemory) }
 {
     let place = bytes.place();
@@ -273,6 +278,7 @@ pub fn held_string(
     requires near { is_near bytes.old ≡ true }
     requires whole { quoted_length (drop 1 bytes.old.held) ≡ Some count }
     ensures finds { (left : Option (List ℕ)) → Finds bytes.old bytes.new left left result }
+    ensures proper { IfOk result (λ x. IfSome x (λ x. IsProper x.token)) }
     ensures error { IfErr result (λ e. e ≡ ReadError.NoMemory) }
 {
     let place = bytes.place();
@@ -283,7 +289,7 @@ pub fn held_string(
     Ok(Some(VFound {
         place,
         stop: place.offset + count as u64 + 2,
-        token: VToken::Str(text),
+        token: str_token(text),
     }))
 }
 
@@ -304,6 +310,7 @@ pub fn held_pair(bytes: &mut Bytes, byte: u8) -> Result<Option<VFound>, ReadErro
     requires near { is_near bytes.old ≡ true }
     requires pair { is_pair bytes.old.held ≡ true }
     ensures finds { (left : Option (List ℕ)) → Finds bytes.old bytes.new left left result }
+    ensures proper { IfOk result (λ x. IfSome x (λ x. IsProper x.token)) }
     ensures error { IfErr result (λ e. ⊥) }
 {
     let place = bytes.place();

@@ -1,12 +1,13 @@
-use Rattle.std.specs.Prelude.{[]}
+use Rattle.std.specs.Prelude.{[], length}
 use Rattle.readers.specs.Readers.{room}
-use Rattle.readers.proofs.Loops.{Goes}
+use Rattle.readers.proofs.Loops.{Collects}
 use Rattle.vlog_tokens.specs.Language.{vlog}
+use Rattle.vlog_values.specs.Values.{AreAttrs}
 use Rattle.vlog_exprs.specs.Grammar.{groups}
 use Rattle.vlog_exprs.proofs.attr.read_attrs.Given as goal
 
 abbrev pub invariant-loop-attrs : goal.invariant-loop-attrs
-invariant-loop-attrs g l = Goes vlog (groups []) (groups l.attrs) l.cursor l.fn.cursor (g.S.Source.supply l.source) (g.S.Source.supply l.fn.source)
+invariant-loop-attrs g l = Collects vlog (groups []) (groups l.attrs) (AreAttrs l.attrs) (length l.attrs) l.cursor l.fn.cursor (g.S.Source.supply l.source) (g.S.Source.supply l.fn.source)
 
 abbrev pub decreases-loop-attrs : goal.decreases-loop-attrs
 decreases-loop-attrs g l = room l.cursor

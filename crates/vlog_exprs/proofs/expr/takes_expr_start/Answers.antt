@@ -4,11 +4,11 @@ use Rattle.vlog_exprs.specs.Reasons.{at_expr}
 use Rattle.vlog_exprs.proofs.HeldWords.{name_some, name_fails_maybe, takes_still}
 use Rattle.vlog_exprs.proofs.expr.takes_expr_start.Goals as goal
 
-pub returns-in_err-held : goal.returns-in_err-held
-returns-in_err-held g c = name_fails_maybe _ _ _ (λ _ x. at_expr x.token) _ _ c.in_err-held.ensures c.from_residual.ensures.1
+pub returns-in_err-held-clause-reads : goal.returns-in_err-held-clause-reads
+returns-in_err-held-clause-reads g c = name_fails_maybe _ _ _ (λ _ x. at_expr x.token) _ _ c.in_err-held.ensures.held c.from_residual.ensures.1
 
-pub returns-in-Some : goal.returns-in-Some
-returns-in-Some g c = name_some _ _ _ at_expr c.in-Some.text (starts.Name c.in-Some.text) (rw c.in-Some.is at c.in_ok-held.ensures) refl
+pub returns-in-Some-clause-reads : goal.returns-in-Some-clause-reads
+returns-in-Some-clause-reads g c = name_some _ _ _ at_expr c.in-Some.text (starts.Name c.in-Some.text) (rw c.in-Some.is at c.in_ok-held.ensures.held) refl
 
-pub returns : goal.returns
-returns g c = takes_still (λ _ x. at_expr x.token) (rw c.in_default.is at c.in_ok-held.ensures) c.takes_expr_token.ensures
+pub returns-clause-reads : goal.returns-clause-reads
+returns-clause-reads g c = takes_still (λ _ x. at_expr x.token) (rw c.in_default.is at c.in_ok-held.ensures.held) c.takes_expr_token.ensures.reads

@@ -3,18 +3,18 @@ use Rattle.readers.proofs.Reading.{sequences}
 use Rattle.vlog_items.specs.Grammar.{assignment}
 use Rattle.vlog_items.proofs.assign.read_assignment.Goals as goal
 
-pub returns-in_err-left : goal.returns-in_err-left
+pub returns-in_err-left-clause-reads : goal.returns-in_err-left-clause-reads
 unfolding assignment
-returns-in_err-left g c = grind (arith, sequences)
+returns-in_err-left-clause-reads g c = grind (arith, sequences)
 
-pub returns-in_err-mark : goal.returns-in_err-mark
+pub returns-in_err-mark-clause-reads : goal.returns-in_err-mark-clause-reads
 unfolding assignment
-returns-in_err-mark g c = grind (arith, sequences)
+returns-in_err-mark-clause-reads g c = grind (arith, sequences)
 
-pub returns-in_err-right : goal.returns-in_err-right
+pub returns-in_err-right-clause-reads : goal.returns-in_err-right-clause-reads
 unfolding assignment
-returns-in_err-right g c = grind (arith, sequences)
+returns-in_err-right-clause-reads g c = grind (arith, sequences)
 
-pub returns : goal.returns
+pub returns-clause-reads : goal.returns-clause-reads
 unfolding assignment
-returns g c = grind (arith, sequences)
+returns-clause-reads g c = grind (arith, sequences)

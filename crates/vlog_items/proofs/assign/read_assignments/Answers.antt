@@ -1,27 +1,30 @@
 use Rattle.std.proofs.Common.{arith}
 use Rattle.readers.proofs.Choices.{loops}
+use Rattle.vlog_values.specs.Values.{IsAssignment}
+use Rattle.vlog_values.specs.Sizes.{assignment_size}
 use Rattle.vlog_exprs.specs.Grammar.{list, commas}
+use Rattle.vlog_items.proofs.Lists.{room_added, size_added, some_added, first_size, first_added, collects}
 use Rattle.vlog_items.proofs.assign.read_assignments.Goals as goal
 
-pub returns-in_err-set : goal.returns-in_err-set
+pub returns-in_err-set-clause-reads : goal.returns-in_err-set-clause-reads
 unfolding list commas
-returns-in_err-set g c = grind (arith, loops)
+returns-in_err-set-clause-reads g c = grind (arith, loops)
 
-pub returns-in_err-add : goal.returns-in_err-add
+pub returns-in_err-add-clause-reads : goal.returns-in_err-add-clause-reads
 unfolding list commas
-returns-in_err-add g c = grind (arith, loops)
+returns-in_err-add-clause-reads g c = grind (arith, loops)
 
 pub loop-sets-init : goal.loop-sets-init
 unfolding list commas
-loop-sets-init g c = grind (arith, loops)
+loop-sets-init g c = collects (grind (arith, loops)) (first_added c.in_ok-add.ensures c.empty-sets.ensures IsAssignment c.in_ok-set.ensures.value) (omega (arith, first_size c.in_ok-add.ensures c.empty-sets.ensures assignment_size, room_added c.in_ok-add.ensures, c.in_ok-set.ensures.size))
 
-pub returns-in_err-takes : goal.returns-in_err-takes
+pub returns-in_err-takes-clause-reads : goal.returns-in_err-takes-clause-reads
 unfolding list commas
-returns-in_err-takes g c = grind (arith, loops)
+returns-in_err-takes-clause-reads g c = grind (arith, loops)
 
-pub returns-in_err-set-2 : goal.returns-in_err-set-2
+pub returns-in_err-set-2-clause-reads : goal.returns-in_err-set-2-clause-reads
 unfolding list commas
-returns-in_err-set-2 g c = grind (arith, loops)
+returns-in_err-set-2-clause-reads g c = grind (arith, loops)
 
 pub loop-sets-smaller : goal.loop-sets-smaller
 unfolding list commas
@@ -29,16 +32,16 @@ loop-sets-smaller g c = grind (arith, loops)
 
 pub loop-sets-preserved : goal.loop-sets-preserved
 unfolding list commas
-loop-sets-preserved g c = grind (arith, loops)
+loop-sets-preserved g c = collects (grind (arith, loops)) (some_added c.in_ok-add-2.ensures IsAssignment c.loop-sets.invariant.good.all c.in_ok-set-2.ensures.value) (omega (arith, size_added c.in_ok-add-2.ensures assignment_size, room_added c.in_ok-add-2.ensures, c.in_ok-takes.ensures.value.2, c.in_ok-set-2.ensures.size))
 
-pub returns-in_err-add-2 : goal.returns-in_err-add-2
+pub returns-in_err-add-2-clause-reads : goal.returns-in_err-add-2-clause-reads
 unfolding list commas
-returns-in_err-add-2 g c = grind (arith, loops)
+returns-in_err-add-2-clause-reads g c = grind (arith, loops)
 
-pub returns-in_err-mark : goal.returns-in_err-mark
+pub returns-in_err-mark-clause-reads : goal.returns-in_err-mark-clause-reads
 unfolding list commas
-returns-in_err-mark g c = grind (arith, loops)
+returns-in_err-mark-clause-reads g c = grind (arith, loops)
 
-pub returns : goal.returns
+pub returns-clause-reads : goal.returns-clause-reads
 unfolding list commas
-returns g c = grind (arith, loops)
+returns-clause-reads g c = grind (arith, loops)

@@ -3,14 +3,14 @@ use Rattle.readers.proofs.Reading.{sequences}
 use Rattle.vlog_items.specs.Grammar.{named}
 use Rattle.vlog_items.proofs.connection.read_named.Goals as goal
 
-pub returns-in_err-mark : goal.returns-in_err-mark
+pub returns-in_err-mark-clause-reads : goal.returns-in_err-mark-clause-reads
 unfolding named
-returns-in_err-mark g c = grind (arith, sequences)
+returns-in_err-mark-clause-reads g c = grind (arith, sequences)
 
-pub returns-in_err-conn : goal.returns-in_err-conn
+pub returns-in_err-conn-clause-reads : goal.returns-in_err-conn-clause-reads
 unfolding named
-returns-in_err-conn g c = grind (arith, sequences)
+returns-in_err-conn-clause-reads g c = grind (arith, sequences)
 
-pub returns : goal.returns
+pub returns-clause-reads : goal.returns-clause-reads
 unfolding named
-returns g c = grind (arith, sequences)
+returns-clause-reads g c = grind (arith, sequences)

@@ -1,20 +1,29 @@
 use Rattle.std.proofs.Common.{arith}
 use Rattle.readers.proofs.Reading.{sequences}
 use Rattle.vlog_items.specs.Grammar.{named_conns}
+use Rattle.vlog_values.specs.Values.{IsNamedConn}
+use Rattle.vlog_values.specs.Sizes.{conn_size}
+use Rattle.vlog_items.proofs.Lists.{room_added, first_size, first_added}
 use Rattle.vlog_items.proofs.connection.read_named_conns.Goals as goal
 
-pub returns-in_err-first : goal.returns-in_err-first
+pub returns-in_err-first-clause-reads : goal.returns-in_err-first-clause-reads
 unfolding named_conns
-returns-in_err-first g c = grind (arith, sequences)
+returns-in_err-first-clause-reads g c = grind (arith, sequences)
 
-pub returns-in_err-add : goal.returns-in_err-add
+pub returns-in_err-add-clause-reads : goal.returns-in_err-add-clause-reads
 unfolding named_conns
-returns-in_err-add g c = grind (arith, sequences)
+returns-in_err-add-clause-reads g c = grind (arith, sequences)
 
-pub returns-in_err-conns : goal.returns-in_err-conns
+pub returns-in_err-conns-clause-reads : goal.returns-in_err-conns-clause-reads
 unfolding named_conns
-returns-in_err-conns g c = grind (arith, sequences)
+returns-in_err-conns-clause-reads g c = grind (arith, sequences)
 
-pub returns : goal.returns
+pub returns-clause-reads : goal.returns-clause-reads
 unfolding named_conns
-returns g c = grind (arith, sequences)
+returns-clause-reads g c = grind (arith, sequences)
+
+pub read_more_named-requires : goal.read_more_named-requires
+read_more_named-requires g c = first_added c.in_ok-add.ensures c.empty-conns.ensures IsNamedConn c.in_ok-first.ensures.value
+
+pub returns-clause-size : goal.returns-clause-size
+returns-clause-size g c = omega (arith, first_size c.in_ok-add.ensures c.empty-conns.ensures conn_size, room_added c.in_ok-add.ensures, c.in_ok-first.ensures.size, c.in_ok-conns.ensures.size)

@@ -1,20 +1,28 @@
 use Rattle.std.proofs.Common.{arith}
 use Rattle.readers.proofs.Reading.{sequences}
 use Rattle.vlog_exprs.specs.Grammar.{list}
+use Rattle.vlog_values.specs.Values.{IsName}
+use Rattle.vlog_items.proofs.Lists.{room_added, first_length, first_added}
 use Rattle.vlog_items.proofs.declaration.read_names.Goals as goal
 
-pub returns-in_err-first : goal.returns-in_err-first
+pub returns-in_err-first-clause-reads : goal.returns-in_err-first-clause-reads
 unfolding list
-returns-in_err-first g c = grind (arith, sequences)
+returns-in_err-first-clause-reads g c = grind (arith, sequences)
 
-pub returns-in_err-add : goal.returns-in_err-add
+pub returns-in_err-add-clause-reads : goal.returns-in_err-add-clause-reads
 unfolding list
-returns-in_err-add g c = grind (arith, sequences)
+returns-in_err-add-clause-reads g c = grind (arith, sequences)
 
-pub returns-in_err-names : goal.returns-in_err-names
+pub returns-in_err-names-clause-reads : goal.returns-in_err-names-clause-reads
 unfolding list
-returns-in_err-names g c = grind (arith, sequences)
+returns-in_err-names-clause-reads g c = grind (arith, sequences)
 
-pub returns : goal.returns
+pub returns-clause-reads : goal.returns-clause-reads
 unfolding list
-returns g c = grind (arith, sequences)
+returns-clause-reads g c = grind (arith, sequences)
+
+pub returns-clause-value : goal.returns-clause-value
+returns-clause-value g c = c.in_ok-names.ensures.value (first_added c.in_ok-add.ensures c.empty-names.ensures IsName c.in_ok-first.ensures.value)
+
+pub returns-clause-size : goal.returns-clause-size
+returns-clause-size g c = omega (arith, first_length c.in_ok-add.ensures c.empty-names.ensures, room_added c.in_ok-add.ensures, c.in_ok-first.ensures.reads.value.2, c.in_ok-names.ensures.size)

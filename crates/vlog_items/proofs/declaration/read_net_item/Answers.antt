@@ -3,18 +3,18 @@ use Rattle.readers.proofs.Reading.{sequences}
 use Rattle.vlog_items.specs.Grammar.{net_item}
 use Rattle.vlog_items.proofs.declaration.read_net_item.Goals as goal
 
-pub returns-in_err-signed : goal.returns-in_err-signed
+pub returns-in_err-signed-clause-reads : goal.returns-in_err-signed-clause-reads
 unfolding net_item
-returns-in_err-signed g c = grind (arith, sequences)
+returns-in_err-signed-clause-reads g c = grind (arith, sequences)
 
-pub returns-in_err-range : goal.returns-in_err-range
+pub returns-in_err-range-clause-reads : goal.returns-in_err-range-clause-reads
 unfolding net_item
-returns-in_err-range g c = grind (arith, sequences)
+returns-in_err-range-clause-reads g c = grind (arith, sequences)
 
-pub returns-in_err-names : goal.returns-in_err-names
+pub returns-in_err-names-clause-reads : goal.returns-in_err-names-clause-reads
 unfolding net_item
-returns-in_err-names g c = grind (arith, sequences)
+returns-in_err-names-clause-reads g c = grind (arith, sequences)
 
-pub returns : goal.returns
+pub returns-clause-reads : goal.returns-clause-reads
 unfolding net_item
-returns g c = grind (arith, sequences)
+returns-clause-reads g c = grind (arith, sequences)

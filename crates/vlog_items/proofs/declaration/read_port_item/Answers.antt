@@ -3,22 +3,22 @@ use Rattle.readers.proofs.Reading.{sequences}
 use Rattle.vlog_items.specs.Grammar.{port_item}
 use Rattle.vlog_items.proofs.declaration.read_port_item.Goals as goal
 
-pub returns-in_err-kind : goal.returns-in_err-kind
+pub returns-in_err-kind-clause-reads : goal.returns-in_err-kind-clause-reads
 unfolding port_item
-returns-in_err-kind g c = grind (arith, sequences)
+returns-in_err-kind-clause-reads g c = grind (arith, sequences)
 
-pub returns-in_err-signed : goal.returns-in_err-signed
+pub returns-in_err-signed-clause-reads : goal.returns-in_err-signed-clause-reads
 unfolding port_item
-returns-in_err-signed g c = grind (arith, sequences)
+returns-in_err-signed-clause-reads g c = grind (arith, sequences)
 
-pub returns-in_err-range : goal.returns-in_err-range
+pub returns-in_err-range-clause-reads : goal.returns-in_err-range-clause-reads
 unfolding port_item
-returns-in_err-range g c = grind (arith, sequences)
+returns-in_err-range-clause-reads g c = grind (arith, sequences)
 
-pub returns-in_err-names : goal.returns-in_err-names
+pub returns-in_err-names-clause-reads : goal.returns-in_err-names-clause-reads
 unfolding port_item
-returns-in_err-names g c = grind (arith, sequences)
+returns-in_err-names-clause-reads g c = grind (arith, sequences)
 
-pub returns : goal.returns
+pub returns-clause-reads : goal.returns-clause-reads
 unfolding port_item
-returns g c = grind (arith, sequences)
+returns-clause-reads g c = grind (arith, sequences)

@@ -3,18 +3,18 @@ use Rattle.readers.proofs.Reading.{sequences}
 use Rattle.vlog_items.specs.Grammar.{def_value}
 use Rattle.vlog_items.proofs.defparam.read_def_value.Goals as goal
 
-pub returns-in_err-name : goal.returns-in_err-name
+pub returns-in_err-name-clause-reads : goal.returns-in_err-name-clause-reads
 unfolding def_value
-returns-in_err-name g c = grind (arith, sequences)
+returns-in_err-name-clause-reads g c = grind (arith, sequences)
 
-pub returns-in_err-mark : goal.returns-in_err-mark
+pub returns-in_err-mark-clause-reads : goal.returns-in_err-mark-clause-reads
 unfolding def_value
-returns-in_err-mark g c = grind (arith, sequences)
+returns-in_err-mark-clause-reads g c = grind (arith, sequences)
 
-pub returns-in_err-value : goal.returns-in_err-value
+pub returns-in_err-value-clause-reads : goal.returns-in_err-value-clause-reads
 unfolding def_value
-returns-in_err-value g c = grind (arith, sequences)
+returns-in_err-value-clause-reads g c = grind (arith, sequences)
 
-pub returns : goal.returns
+pub returns-clause-reads : goal.returns-clause-reads
 unfolding def_value
-returns g c = grind (arith, sequences)
+returns-clause-reads g c = grind (arith, sequences)

@@ -3,18 +3,18 @@ use Rattle.readers.proofs.Reading.{sequences}
 use Rattle.vlog_items.specs.Grammar.{instance}
 use Rattle.vlog_items.proofs.instance.read_instance.Goals as goal
 
-pub returns-in_err-name : goal.returns-in_err-name
+pub returns-in_err-name-clause-reads : goal.returns-in_err-name-clause-reads
 unfolding instance
-returns-in_err-name g c = grind (arith, sequences)
+returns-in_err-name-clause-reads g c = grind (arith, sequences)
 
-pub returns-in_err-mark : goal.returns-in_err-mark
+pub returns-in_err-mark-clause-reads : goal.returns-in_err-mark-clause-reads
 unfolding instance
-returns-in_err-mark g c = grind (arith, sequences)
+returns-in_err-mark-clause-reads g c = grind (arith, sequences)
 
-pub returns-in_err-conns : goal.returns-in_err-conns
+pub returns-in_err-conns-clause-reads : goal.returns-in_err-conns-clause-reads
 unfolding instance
-returns-in_err-conns g c = grind (arith, sequences)
+returns-in_err-conns-clause-reads g c = grind (arith, sequences)
 
-pub returns : goal.returns
+pub returns-clause-reads : goal.returns-clause-reads
 unfolding instance
-returns g c = grind (arith, sequences)
+returns-clause-reads g c = grind (arith, sequences)

@@ -1,27 +1,30 @@
 use Rattle.std.proofs.Common.{arith}
 use Rattle.readers.proofs.Choices.{loops}
+use Rattle.vlog_values.specs.Values.{IsInstance}
+use Rattle.vlog_values.specs.Sizes.{instance_size}
 use Rattle.vlog_exprs.specs.Grammar.{list, commas}
+use Rattle.vlog_items.proofs.Lists.{room_added, size_added, some_added, first_size, first_added, collects}
 use Rattle.vlog_items.proofs.instance.read_insts.Goals as goal
 
-pub returns-in_err-inst : goal.returns-in_err-inst
+pub returns-in_err-inst-clause-reads : goal.returns-in_err-inst-clause-reads
 unfolding list commas
-returns-in_err-inst g c = grind (arith, loops)
+returns-in_err-inst-clause-reads g c = grind (arith, loops)
 
-pub returns-in_err-add : goal.returns-in_err-add
+pub returns-in_err-add-clause-reads : goal.returns-in_err-add-clause-reads
 unfolding list commas
-returns-in_err-add g c = grind (arith, loops)
+returns-in_err-add-clause-reads g c = grind (arith, loops)
 
 pub loop-insts-init : goal.loop-insts-init
 unfolding list commas
-loop-insts-init g c = grind (arith, loops)
+loop-insts-init g c = collects (grind (arith, loops)) (first_added c.in_ok-add.ensures c.empty-insts.ensures IsInstance c.in_ok-inst.ensures.value) (omega (arith, first_size c.in_ok-add.ensures c.empty-insts.ensures instance_size, room_added c.in_ok-add.ensures, c.in_ok-inst.ensures.size))
 
-pub returns-in_err-takes : goal.returns-in_err-takes
+pub returns-in_err-takes-clause-reads : goal.returns-in_err-takes-clause-reads
 unfolding list commas
-returns-in_err-takes g c = grind (arith, loops)
+returns-in_err-takes-clause-reads g c = grind (arith, loops)
 
-pub returns-in_err-inst-2 : goal.returns-in_err-inst-2
+pub returns-in_err-inst-2-clause-reads : goal.returns-in_err-inst-2-clause-reads
 unfolding list commas
-returns-in_err-inst-2 g c = grind (arith, loops)
+returns-in_err-inst-2-clause-reads g c = grind (arith, loops)
 
 pub loop-insts-smaller : goal.loop-insts-smaller
 unfolding list commas
@@ -29,16 +32,16 @@ loop-insts-smaller g c = grind (arith, loops)
 
 pub loop-insts-preserved : goal.loop-insts-preserved
 unfolding list commas
-loop-insts-preserved g c = grind (arith, loops)
+loop-insts-preserved g c = collects (grind (arith, loops)) (some_added c.in_ok-add-2.ensures IsInstance c.loop-insts.invariant.good.all c.in_ok-inst-2.ensures.value) (omega (arith, size_added c.in_ok-add-2.ensures instance_size, room_added c.in_ok-add-2.ensures, c.in_ok-takes.ensures.value.2, c.in_ok-inst-2.ensures.size))
 
-pub returns-in_err-add-2 : goal.returns-in_err-add-2
+pub returns-in_err-add-2-clause-reads : goal.returns-in_err-add-2-clause-reads
 unfolding list commas
-returns-in_err-add-2 g c = grind (arith, loops)
+returns-in_err-add-2-clause-reads g c = grind (arith, loops)
 
-pub returns-in_err-mark : goal.returns-in_err-mark
+pub returns-in_err-mark-clause-reads : goal.returns-in_err-mark-clause-reads
 unfolding list commas
-returns-in_err-mark g c = grind (arith, loops)
+returns-in_err-mark-clause-reads g c = grind (arith, loops)
 
-pub returns : goal.returns
+pub returns-clause-reads : goal.returns-clause-reads
 unfolding list commas
-returns g c = grind (arith, loops)
+returns-clause-reads g c = grind (arith, loops)

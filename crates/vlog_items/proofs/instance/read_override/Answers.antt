@@ -3,14 +3,14 @@ use Rattle.readers.proofs.Reading.{sequences}
 use Rattle.vlog_items.specs.Grammar.{override_set}
 use Rattle.vlog_items.proofs.instance.read_override.Goals as goal
 
-pub returns-in_err-mark : goal.returns-in_err-mark
+pub returns-in_err-mark-clause-reads : goal.returns-in_err-mark-clause-reads
 unfolding override_set
-returns-in_err-mark g c = grind (arith, sequences)
+returns-in_err-mark-clause-reads g c = grind (arith, sequences)
 
-pub returns-in_err-set : goal.returns-in_err-set
+pub returns-in_err-set-clause-reads : goal.returns-in_err-set-clause-reads
 unfolding override_set
-returns-in_err-set g c = grind (arith, sequences)
+returns-in_err-set-clause-reads g c = grind (arith, sequences)
 
-pub returns : goal.returns
+pub returns-clause-reads : goal.returns-clause-reads
 unfolding override_set
-returns g c = grind (arith, sequences)
+returns-clause-reads g c = grind (arith, sequences)

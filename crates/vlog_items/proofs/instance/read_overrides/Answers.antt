@@ -4,22 +4,22 @@ use Rattle.vlog_items.specs.Grammar.{overrides}
 use Rattle.vlog_exprs.specs.Grammar.{after}
 use Rattle.vlog_items.proofs.instance.read_overrides.Goals as goal
 
-pub returns-in_err-takes : goal.returns-in_err-takes
+pub returns-in_err-takes-clause-reads : goal.returns-in_err-takes-clause-reads
 unfolding overrides after
-returns-in_err-takes g c = grind (arith, choices)
+returns-in_err-takes-clause-reads g c = grind (arith, choices)
 
-pub returns-in_err-mark : goal.returns-in_err-mark
+pub returns-in_err-mark-clause-reads : goal.returns-in_err-mark-clause-reads
 unfolding overrides after
-returns-in_err-mark g c = grind (arith, choices)
+returns-in_err-mark-clause-reads g c = grind (arith, choices)
 
-pub returns-in_err-sets : goal.returns-in_err-sets
+pub returns-in_err-sets-clause-reads : goal.returns-in_err-sets-clause-reads
 unfolding overrides after
-returns-in_err-sets g c = grind (arith, choices)
+returns-in_err-sets-clause-reads g c = grind (arith, choices)
 
-pub returns-then-branch : goal.returns-then-branch
+pub returns-then-branch-clause-reads : goal.returns-then-branch-clause-reads
 unfolding overrides after
-returns-then-branch g c = grind (arith, choices)
+returns-then-branch-clause-reads g c = grind (arith, choices)
 
-pub returns : goal.returns
+pub returns-clause-reads : goal.returns-clause-reads
 unfolding overrides after
-returns g c = grind (arith, choices)
+returns-clause-reads g c = grind (arith, choices)

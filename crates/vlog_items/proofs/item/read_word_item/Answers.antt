@@ -3,42 +3,42 @@ use Rattle.readers.proofs.Reading.{sequences}
 use Rattle.vlog_items.specs.Grammar.{word_item}
 use Rattle.vlog_items.proofs.item.read_word_item.Goals as goal
 
-pub returns-in_err-decl-in-Port : goal.returns-in_err-decl-in-Port
+pub returns-in_err-decl-in-Port-clause-reads : goal.returns-in_err-decl-in-Port-clause-reads
 unfolding word_item
-returns-in_err-decl-in-Port g c = grind (arith, sequences)
+returns-in_err-decl-in-Port-clause-reads g c = grind (arith, sequences)
 
-pub returns-in_err-decl-in-Net : goal.returns-in_err-decl-in-Net
+pub returns-in_err-decl-in-Net-clause-reads : goal.returns-in_err-decl-in-Net-clause-reads
 unfolding word_item
-returns-in_err-decl-in-Net g c = grind (arith, sequences)
+returns-in_err-decl-in-Net-clause-reads g c = grind (arith, sequences)
 
-pub returns-in_err-decl-in-Param : goal.returns-in_err-decl-in-Param
+pub returns-in_err-decl-in-Param-clause-reads : goal.returns-in_err-decl-in-Param-clause-reads
 unfolding word_item
-returns-in_err-decl-in-Param g c = grind (arith, sequences)
+returns-in_err-decl-in-Param-clause-reads g c = grind (arith, sequences)
 
-pub returns-in_err-assigns-in-Assign : goal.returns-in_err-assigns-in-Assign
+pub returns-in_err-assigns-in-Assign-clause-reads : goal.returns-in_err-assigns-in-Assign-clause-reads
 unfolding word_item
-returns-in_err-assigns-in-Assign g c = grind (arith, sequences)
+returns-in_err-assigns-in-Assign-clause-reads g c = grind (arith, sequences)
 
-pub returns-in_err-defparams-in-Defparam : goal.returns-in_err-defparams-in-Defparam
+pub returns-in_err-defparams-in-Defparam-clause-reads : goal.returns-in_err-defparams-in-Defparam-clause-reads
 unfolding word_item
-returns-in_err-defparams-in-Defparam g c = grind (arith, sequences)
+returns-in_err-defparams-in-Defparam-clause-reads g c = grind (arith, sequences)
 
-pub returns-in_ok-decl-in-Port : goal.returns-in_ok-decl-in-Port
+pub returns-in_ok-decl-in-Port-clause-reads : goal.returns-in_ok-decl-in-Port-clause-reads
 unfolding word_item
-returns-in_ok-decl-in-Port g c = grind (arith, sequences)
+returns-in_ok-decl-in-Port-clause-reads g c = grind (arith, sequences)
 
-pub returns-in_ok-decl-in-Net : goal.returns-in_ok-decl-in-Net
+pub returns-in_ok-decl-in-Net-clause-reads : goal.returns-in_ok-decl-in-Net-clause-reads
 unfolding word_item
-returns-in_ok-decl-in-Net g c = grind (arith, sequences)
+returns-in_ok-decl-in-Net-clause-reads g c = grind (arith, sequences)
 
-pub returns-in_ok-decl-in-Param : goal.returns-in_ok-decl-in-Param
+pub returns-in_ok-decl-in-Param-clause-reads : goal.returns-in_ok-decl-in-Param-clause-reads
 unfolding word_item
-returns-in_ok-decl-in-Param g c = grind (arith, sequences)
+returns-in_ok-decl-in-Param-clause-reads g c = grind (arith, sequences)
 
-pub returns-in_ok-assigns-in-Assign : goal.returns-in_ok-assigns-in-Assign
+pub returns-in_ok-assigns-in-Assign-clause-reads : goal.returns-in_ok-assigns-in-Assign-clause-reads
 unfolding word_item
-returns-in_ok-assigns-in-Assign g c = grind (arith, sequences)
+returns-in_ok-assigns-in-Assign-clause-reads g c = grind (arith, sequences)
 
-pub returns-in_ok-defparams-in-Defparam : goal.returns-in_ok-defparams-in-Defparam
+pub returns-in_ok-defparams-in-Defparam-clause-reads : goal.returns-in_ok-defparams-in-Defparam-clause-reads
 unfolding word_item
-returns-in_ok-defparams-in-Defparam g c = grind (arith, sequences)
+returns-in_ok-defparams-in-Defparam-clause-reads g c = grind (arith, sequences)

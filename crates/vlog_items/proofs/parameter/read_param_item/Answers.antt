@@ -3,14 +3,14 @@ use Rattle.readers.proofs.Reading.{sequences}
 use Rattle.vlog_items.specs.Grammar.{param_item}
 use Rattle.vlog_items.proofs.parameter.read_param_item.Goals as goal
 
-pub returns-in_err-kind : goal.returns-in_err-kind
+pub returns-in_err-kind-clause-reads : goal.returns-in_err-kind-clause-reads
 unfolding param_item
-returns-in_err-kind g c = grind (arith, sequences)
+returns-in_err-kind-clause-reads g c = grind (arith, sequences)
 
-pub returns-in_err-sets : goal.returns-in_err-sets
+pub returns-in_err-sets-clause-reads : goal.returns-in_err-sets-clause-reads
 unfolding param_item
-returns-in_err-sets g c = grind (arith, sequences)
+returns-in_err-sets-clause-reads g c = grind (arith, sequences)
 
-pub returns : goal.returns
+pub returns-clause-reads : goal.returns-clause-reads
 unfolding param_item
-returns g c = grind (arith, sequences)
+returns-clause-reads g c = grind (arith, sequences)

@@ -3,18 +3,18 @@ use Rattle.readers.proofs.Choices.{choices}
 use Rattle.vlog_items.specs.Grammar.{param_type}
 use Rattle.vlog_items.proofs.parameter.read_param_type.Goals as goal
 
-pub returns-in_err-kind : goal.returns-in_err-kind
+pub returns-in_err-kind-clause-reads : goal.returns-in_err-kind-clause-reads
 unfolding param_type
-returns-in_err-kind g c = grind (arith, choices)
+returns-in_err-kind-clause-reads g c = grind (arith, choices)
 
-pub returns-in_err-kind-in-None : goal.returns-in_err-kind-in-None
+pub returns-in_err-kind-in-None-clause-reads : goal.returns-in_err-kind-in-None-clause-reads
 unfolding param_type
-returns-in_err-kind-in-None g c = grind (arith, choices)
+returns-in_err-kind-in-None-clause-reads g c = grind (arith, choices)
 
-pub returns-in-Some : goal.returns-in-Some
+pub returns-in-Some-clause-reads : goal.returns-in-Some-clause-reads
 unfolding param_type
-returns-in-Some g c = grind (arith, choices)
+returns-in-Some-clause-reads g c = grind (arith, choices)
 
-pub returns-in_ok-kind-in-None : goal.returns-in_ok-kind-in-None
+pub returns-in_ok-kind-in-None-clause-reads : goal.returns-in_ok-kind-in-None-clause-reads
 unfolding param_type
-returns-in_ok-kind-in-None g c = grind (arith, choices)
+returns-in_ok-kind-in-None-clause-reads g c = grind (arith, choices)

@@ -22,11 +22,11 @@ module _ {K X U Y V Z : Type 0} (L : Language X) (u : U → Y) (v : V → Z) (p 
   maybe_then {x} (Ok y) {a} {b} {c} {i} {j} {m} h n = after_ok x y a b c i j m h n
   maybe_then {x} (Err e) {a} {b} {c} {i} {j} {m} h n = after_err x e a b c i j m h n
 
-pub returns-in_err-items : goal.returns-in_err-items
+pub returns-in_err-items-clause-reads : goal.returns-in_err-items-clause-reads
 unfolding Rattle.vlog_modules.specs.Grammar.module_rest
-returns-in_err-items g c =
-    reads_then vlog same same _ _ _ c.in_ok-name.ensures
-    (maybe_then vlog same same _ _ _ c.in_ok-params.ensures
-    (maybe_then vlog same same _ _ _ c.in_ok-header.ensures
+returns-in_err-items-clause-reads g c =
+    reads_then vlog same same _ _ _ c.in_ok-name.ensures.reads
+    (maybe_then vlog same same _ _ _ c.in_ok-params.ensures.reads
+    (maybe_then vlog same same _ _ _ c.in_ok-header.ensures.reads
     (maybe_reads vlog same _ _ _ _ _ _ (reads_then vlog same same _ _ _ c.in_ok-mark.ensures
-    (maybe_reads vlog same _ _ _ _ _ _ (reads_failed vlog same same _ _ _ c.in_err-items.ensures c.from_residual-in_err-items.ensures.1))))))
+    (maybe_reads vlog same _ _ _ _ _ _ (reads_failed vlog same same _ _ _ c.in_err-items.ensures.reads c.from_residual-in_err-items.ensures.1))))))

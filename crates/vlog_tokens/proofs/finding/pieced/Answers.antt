@@ -2,6 +2,7 @@ use Rattle.std.proofs.Common.{arith}
 use Rattle.std.proofs.lemmas.Result.{err_from_is_err_and}
 use Rattle.vlog_tokens.proofs.Parts.{offset_grows}
 use Rattle.vlog_tokens.proofs.Streams.{passes_none, passes_then, passes_space, passes_blank, blank_moves, finds_err, finds_end, finds_halted, finds_line_halted, finds_token}
+use Rattle.vlog_tokens.proofs.Proper.{passed_proper, found_proper}
 use Rattle.vlog_tokens.proofs.finding.pieced.Goals as goal
 
 pub items-init : goal.items-init
@@ -50,3 +51,7 @@ pub items-smaller : goal.items-smaller
 items-smaller g c =
     let skips = rw c.in-Some.is at c.in_ok-next.ensures.skips in
     omega (arith, offset_grows skips.uses, blank_moves c.in_ok-spot.ensures.reads _ _ (rw c.in_default-token.is at c.in_ok-token.ensures.passed), skips.within)
+
+pub returns-in-Some-token-clause-proper : goal.returns-in-Some-token-clause-proper
+returns-in-Some-token-clause-proper g c =
+    found_proper _ _ _ _ c.in_ok-found.ensures (passed_proper _ _ _ _ _ _ (rw c.in-Some-token.is at c.in_ok-token.ensures.passed) c.in_ok-spot.ensures.proper)

@@ -3,6 +3,7 @@ use Rattle.std.proofs.lemmas.Result.{err_from_is_err_and}
 use Rattle.vlog_tokens.specs.Spelling.{lexeme_spelled}
 use Rattle.vlog_tokens.specs.Items.{finish}
 use Rattle.vlog_tokens.proofs.Reading.{lexeme_read, reads_err, finish_on}
+use Rattle.vlog_tokens.proofs.Proper.{item_good, spot_proper}
 use Rattle.vlog_tokens.proofs.lexeme.lexeme.Goals as goal
 
 pub returns-in_err-phase-clause-reads : goal.returns-in_err-phase-clause-reads
@@ -13,3 +14,6 @@ returns-in_err-phase-clause-reads g c =
 pub returns-clause-reads : goal.returns-clause-reads
 returns-clause-reads g c =
     rw c.spot_of.ensures (lexeme_read c.args.begins c.args.byte c.in_ok-phase.ensures.part c.in_ok-phase.ensures.some c.in_ok-phase.ensures.stop c.in_ok-item.item c.in_ok-item.ensures _ c.place-place.ensures.place)
+
+pub returns-clause-proper : goal.returns-clause-proper
+returns-clause-proper g c = λ h. rw (c.spot_of.ensures, c.in_ok-item.ensures) (spot_proper _ _ _ (item_good _ _ (c.in_ok-phase.ensures.so_far h)))

@@ -1,7 +1,8 @@
-use Rattle.std.proofs.Common.{◌≡◌, List, ℕ, ◌++◌, arith, ap, ◌∙◌}
+use Rattle.std.proofs.Common.{◌≡◌, List, ℕ, ◌++◌, arith, ap, sym, subst, ◌∙◌}
 use Rattle.std.proofs.lemmas.Result.{err_from_is_err_and}
 use Rattle.nl_base.specs.declared.place.Place.{Place}
 use Rattle.vlog_tokens.specs.Scanning.{kept}
+use Rattle.vlog_tokens.specs.SoFar.{IsSoFar}
 use Rattle.vlog_tokens.proofs.Parts.{part_then, part_err, offset_grows}
 use Rattle.vlog_tokens.proofs.Reading.{begun_part}
 use Rattle.vlog_tokens.proofs.lexeme.scan.Goals as goal
@@ -21,3 +22,8 @@ returns-clause-part g c =
 
 pub returns-clause-some : goal.returns-clause-some
 returns-clause-some g c = omega (arith, ap (λ (q : Place). q.offset) c.advance.ensures.place, offset_grows c.in_ok-scanned.ensures.part.uses)
+
+pub returns-clause-so_far : goal.returns-clause-so_far
+returns-clause-so_far g c =
+    let text : c.keep_first.new.text.items ≡ kept c.args.begins c.args.byte = c.in_ok-keep_first.ensures ∙ ap (λ (xs : List ℕ). xs ++ kept c.args.begins c.args.byte) c.in_ok-text.ensures.items in
+    λ h. c.in_ok-scanned.ensures.so_far (subst (λ (xs : List ℕ). IsSoFar c.args.begins xs) (sym text) h)

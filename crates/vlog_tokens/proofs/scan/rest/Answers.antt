@@ -26,4 +26,8 @@ pub loop-text-preserved : goal.loop-text-preserved
 loop-text-preserved g c = record {
   part = part_goes_on _ (part_then (part_then c.loop-text.invariant.part (stays_part c.in_ok-next.ensures.stays _)) (rw c.in-Some.is at c.in_ok-then.ensures.part));
   count = omega (arith, c.stay.ensures.count);
+  so_far = λ h. (rw c.in-Some.is at c.in_ok-then.ensures.so_far) (c.in_ok-next.ensures.so_far (c.loop-text.invariant.so_far h));
 }
+
+pub returns-in_default-clause-so_far : goal.returns-in_default-clause-so_far
+returns-in_default-clause-so_far g c = λ h. (rw c.in_default.is at c.in_ok-then.ensures.so_far) (c.in_ok-next.ensures.so_far (c.loop-text.invariant.so_far h))

@@ -1,5 +1,7 @@
-use Rattle.std.proofs.Common.{arith, refl, sym, ◌∙◌}
+use Rattle.std.proofs.Common.{arith, refl, sym, ◌∙◌, subst, List, ℕ}
+use Rattle.vlog_tokens.specs.SoFar.{IsSoFar}
 use Rattle.vlog_tokens.proofs.Scanning.{ends_complete, ends_early, byte_full, byte_kept, byte_passed, byte_ends, byte_bad}
+use Rattle.vlog_tokens.proofs.Lexemes.{byte_so_far, pass_so_far}
 use Rattle.vlog_tokens.proofs.scan.take_byte.Goals as goal
 
 pub returns-then-is_complete-clause-part : goal.returns-then-is_complete-clause-part
@@ -31,3 +33,11 @@ returns-in-Ends-clause-part g c = byte_ends _ _ _ _ _ c.in-Some.byte (rw c.in-So
 pub returns-in-Bad-clause-part : goal.returns-in-Bad-clause-part
 returns-in-Bad-clause-part g c =
     rw (c.refuse-in-Bad.ensures, c.place-here.ensures.place) (byte_bad _ _ _ _ _ _ c.in-Some.byte (rw c.in-Some.is at c.requires.ahead) (sym c.next_step.ensures ∙ c.in-Bad.is))
+
+pub returns-in_ok-push-in-Keep-clause-so_far : goal.returns-in_ok-push-in-Keep-clause-so_far
+returns-in_ok-push-in-Keep-clause-so_far g c = λ h.
+    subst (λ (xs : List ℕ). IsSoFar c.in-Keep.then xs) (sym c.in_ok-push-in-Keep.ensures.items)
+    (byte_so_far _ c.in-Keep.then _ c.in-Some.byte (sym c.next_step.ensures ∙ c.in-Keep.is) h (omega (arith, c.len.ensures, c.most_of.ensures, c.if-len-most_of.false)))
+
+pub returns-in-Pass-clause-so_far : goal.returns-in-Pass-clause-so_far
+returns-in-Pass-clause-so_far g c = λ h. pass_so_far _ c.in-Pass.then _ c.in-Some.byte (sym c.next_step.ensures ∙ c.in-Pass.is) h

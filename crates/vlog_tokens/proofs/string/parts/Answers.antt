@@ -55,9 +55,17 @@ pub parts-preserved : goal.parts-preserved
 parts-preserved g c = record {
   part = part_then (part_then c.parts.invariant.part (plain_part c.in_ok-next.ensures.runs (omega (arith, c.len.ensures, c.saturating_sub-most.ensures)) _)) c.in_ok-escape.ensures.part;
   count = omega (arith, c.run.ensures.count, c.escape.ensures.count);
+  short = λ h.
+      let runs = c.in_ok-next.ensures.runs in
+      c.in_ok-escape.ensures.short (omega (arith, c.parts.invariant.short h, runs.bounded, c.len.ensures, c.saturating_sub-most.ensures, ap length runs.added, length-append c.parts.value.items runs.used));
 }
 
 pub returns-in_err-escape-clause-part : goal.returns-in_err-escape-clause-part
 returns-in_err-escape-clause-part g c =
     let p = err_from_is_err_and c.from_residual-in_err-escape.result c.from_residual-in_err-escape.ensures.1 in
     rw (p.1, p.2) (part_then (part_then c.parts.invariant.part (plain_part c.in_ok-next.ensures.runs (omega (arith, c.len.ensures, c.saturating_sub-most.ensures)) _)) c.in_err-escape.ensures.part)
+
+pub returns-then-b-eq34-clause-short : goal.returns-then-b-eq34-clause-short
+returns-then-b-eq34-clause-short g c = λ h.
+    let runs = c.in_ok-next.ensures.runs in
+    omega (arith, c.parts.invariant.short h, runs.bounded, c.len.ensures, c.saturating_sub-most.ensures, ap length runs.added, length-append c.parts.value.items runs.used)

@@ -21,4 +21,4 @@ pub returns-clause-reads : goal.returns-clause-reads
 returns-clause-reads g c =
     let quote : Steps c.args.bytes.now c.advance.new.self c.requires.ahead.0 = record { tail = c.requires.ahead.1; ahead = c.requires.ahead.2; held = c.advance.ensures.held; place = c.advance.ensures.place } in
     let closing : Steps c.parts.new.bytes c.advance-2.new.self 34 = record { tail = c.in_ok-parts.ensures.quote.0; ahead = c.in_ok-parts.ensures.quote.1; held = c.advance-2.ensures.held; place = c.advance-2.ensures.place } in
-    string_given _ quote c.new-value.ensures.items c.place-place.ensures.place c.in_ok-parts.ensures.part closing _ (rw (c.place-here.ensures.place, c.in_ok-text.ensures) refl)
+    string_given _ quote c.new-value.ensures.items c.place-place.ensures.place c.in_ok-parts.ensures.part closing _ (rw (c.str_token.ensures.token, c.place-here.ensures.place, c.in_ok-text.ensures) refl)

@@ -2,6 +2,8 @@ use Rattle.std.proofs.Common.{◌≡◌, List, ℕ, ◌∙◌, ap, drop, take, l
 use Rattle.std.proofs.lemmas.Result.{err_from_is_err_and}
 use Rattle.vlog_tokens.specs.Held.{escaped_length}
 use Rattle.vlog_tokens.proofs.Held.{escaped_named, escaped_each, escaped_found, found_nothing}
+use Rattle.nl_bytes.specs.declared.class.Class.TheVariants.{Graphic}
+use Rattle.vlog_tokens.proofs.Lexemes.{graphic_bounds, name_of_held}
 use Rattle.vlog_tokens.proofs.whole.held_escaped.Goals as goal
 
 pub split_at-requires-2 : goal.split_at-requires-2
@@ -26,3 +28,10 @@ returns-clause-finds c =
     let name : c.split_at.result.1.now ≡ c.requires.ahead.0 = c.split_at.ensures.back ∙ ap (λ (xs : List ℕ). drop 1 xs) c.held.ensures ∙ tail in
     let text : c.in_ok-text.text ≡ take c.args.count c.requires.ahead.0 = c.in_ok-text.ensures ∙ c.split_at-2.ensures.front ∙ ap (λ (xs : List ℕ). take c.args.count xs) name in
     λ left. escaped_found left _ c.requires.ahead.1 c.requires.near c.requires.some (c.requires.whole ∙ ap escaped_length tail) c.pass.ensures.held c.pass.ensures.place _ text _ c.place-place.ensures.place
+
+pub returns-clause-proper : goal.returns-clause-proper
+returns-clause-proper c =
+    let w = (escaped_named _ _ c.requires.whole c.requires.some).0 in
+    let name : c.split_at.result.1.now ≡ drop 1 c.args.bytes.now.held = c.split_at.ensures.back ∙ ap (λ (xs : List ℕ). drop 1 xs) c.held.ensures in
+    let text : c.in_ok-text.text ≡ take c.args.count (drop 1 c.args.bytes.now.held) = c.in_ok-text.ensures ∙ c.split_at-2.ensures.front ∙ ap (λ (xs : List ℕ). take c.args.count xs) name in
+    rw text (name_of_held Graphic _ _ c.requires.some w.more w.short w.each graphic_bounds)

@@ -1,6 +1,7 @@
 use Rattle.std.proofs.Common.{◌≡◌, List, ℕ, ◌∙◌, ap, take, length, arith}
 use Rattle.vlog_tokens.specs.Numbers.{number_of}
 use Rattle.vlog_tokens.proofs.Held.{numbered, number_finds, number_bounded}
+use Rattle.vlog_tokens.proofs.Proper.{number_proper}
 use Rattle.vlog_tokens.proofs.whole.held_number.Goals as goal
 
 pub split_at-requires : goal.split_at-requires
@@ -18,3 +19,6 @@ pub returns-clause-bounded : goal.returns-clause-bounded
 returns-clause-bounded c =
     let w = numbered _ _ c.requires.whole c.requires.some in
     rw c.number_found-found.ensures (number_bounded c.args.bytes.now c.pass.new.self {n = c.args.count} (omega (arith, w.more)) c.pass.ensures.place _ c.place-place.ensures.place (number_of c.split_at.result.0.now))
+
+pub returns-clause-proper : goal.returns-clause-proper
+returns-clause-proper c = rw c.number_found-found.ensures (number_proper _ _ c.split_at.result.0.now)

@@ -1,4 +1,4 @@
-use Rattle.std.proofs.Common.{◌≡◌, List, ℕ, ◌∙◌, ap, sym, drop, take, length, arith}
+use Rattle.std.proofs.Common.{◌≡◌, List, ℕ, ◌∙◌, ap, sym, drop, take, length, length-drop, arith}
 use Rattle.std.proofs.lemmas.Result.{err_from_is_err_and}
 use Rattle.vlog_tokens.specs.Held.{quoted_length}
 use Rattle.vlog_tokens.proofs.Held.{found_nothing}
@@ -31,4 +31,10 @@ returns-clause-finds c =
     let tail = ap (λ (xs : List ℕ). drop 1 xs) c.requires.ahead.1 in
     let rest : c.split_at.result.1.now ≡ c.requires.ahead.0 = c.split_at.ensures.back ∙ ap (λ (xs : List ℕ). drop 1 xs) c.held.ensures ∙ tail in
     let text : c.in_ok-text.text ≡ take c.args.count c.requires.ahead.0 = c.in_ok-text.ensures ∙ c.split_at-2.ensures.front ∙ ap (λ (xs : List ℕ). take c.args.count xs) rest in
-    λ left. string_found left _ c.requires.ahead.1 c.requires.near c.place-place.ensures.held (sym (ap quoted_length tail) ∙ c.requires.whole) c.pass.ensures.held c.pass.ensures.place _ text _ c.place-place.ensures.place
+    rw c.str_token.ensures.token (λ left. string_found left _ c.requires.ahead.1 c.requires.near c.place-place.ensures.held (sym (ap quoted_length tail) ∙ c.requires.whole) c.pass.ensures.held c.pass.ensures.place _ text _ c.place-place.ensures.place)
+
+pub str_token-requires : goal.str_token-requires
+str_token-requires c =
+    let q = quoted _ _ c.requires.whole in
+    let text : c.in_ok-text.text ≡ c.split_at-2.result.0.now = c.in_ok-text.ensures in
+    omega (arith, ap (λ (xs : List ℕ). length xs) text, c.split_at-2.ensures.front_len, q.more, c.place-place.ensures.held, length-drop 1 c.args.bytes.now.held)

@@ -4,11 +4,11 @@ use Rattle.vlog_exprs.specs.Reasons.{name_of}
 use Rattle.vlog_exprs.proofs.HeldWords.{name_says, name_fails, reads_still}
 use Rattle.vlog_exprs.proofs.cursor.VCursor.name.Goals as goal
 
-pub returns-in_err-held : goal.returns-in_err-held
-returns-in_err-held g c = name_fails _ _ _ (λ _ x. name_of x.token) _ _ c.in_err-held.ensures c.from_residual.ensures.1
+pub returns-in_err-held-clause-reads : goal.returns-in_err-held-clause-reads
+returns-in_err-held-clause-reads g c = name_fails _ _ _ (λ _ x. name_of x.token) _ _ c.in_err-held.ensures.held c.from_residual.ensures.1
 
-pub returns-in-Some : goal.returns-in-Some
-returns-in-Some g c = name_says _ _ _ name_of c.in-Some.text _ (rw c.in-Some.is at c.in_ok-held.ensures) refl
+pub returns-in-Some-clause-reads : goal.returns-in-Some-clause-reads
+returns-in-Some-clause-reads g c = name_says _ _ _ name_of c.in-Some.text _ (rw c.in-Some.is at c.in_ok-held.ensures.held) refl
 
-pub returns : goal.returns
-returns g c = reads_still name (rw c.in_default.is at c.in_ok-held.ensures) c.name_token.ensures
+pub returns-clause-reads : goal.returns-clause-reads
+returns-clause-reads g c = reads_still name (rw c.in_default.is at c.in_ok-held.ensures.held) c.name_token.ensures.reads

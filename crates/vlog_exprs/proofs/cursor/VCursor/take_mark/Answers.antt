@@ -9,4 +9,4 @@ take_mark-requires c = let l = inside_mark _ _ _ _ _ c.self.view_is _ c.requires
 pub invariant_of-self : goal.invariant_of-self
 invariant_of-self c =
     let l = inside_mark _ _ _ _ _ c.self.view_is _ c.requires.1 in
-    (λ s. c.self.invariant.0 (sym (ap (λ (t : State). t.spent) c.take_mark.ensures.left) ∙ s), c.self.invariant.1, rw l.1 tt)
+    (λ s. c.self.invariant.0 (sym (ap (λ (t : State). t.spent) c.take_mark.ensures.left) ∙ s), c.self.invariant.1, rw l.1 tt, rw l.1 tt)

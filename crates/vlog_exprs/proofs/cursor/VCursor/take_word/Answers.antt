@@ -9,4 +9,4 @@ take_word-requires-clause-word c = let l = inside_word _ _ _ _ _ c.self.view_is 
 pub invariant_of-self : goal.invariant_of-self
 invariant_of-self c =
     let l = inside_word _ _ _ _ _ c.self.view_is _ c.requires.some c.requires.word in
-    (λ s. c.self.invariant.0 (sym (ap (λ (t : State). t.spent) c.take_word.ensures.left) ∙ s), c.self.invariant.1, rw l.1 tt)
+    (λ s. c.self.invariant.0 (sym (ap (λ (t : State). t.spent) c.take_word.ensures.left) ∙ s), c.self.invariant.1, rw l.1 tt, rw l.1 tt)

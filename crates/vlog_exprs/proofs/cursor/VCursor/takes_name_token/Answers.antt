@@ -6,21 +6,28 @@ use Rattle.vlog_exprs.proofs.HeldMarks.{mark_none}
 use Rattle.vlog_tokens.specs.Keywords.{is_keyword}
 use Rattle.vlog_exprs.specs.Calls.{held_word}
 use Rattle.vlog_exprs.proofs.HeldWords.{word_none, keyword_some, name_leaves_keyword}
+use Rattle.vlog_exprs.proofs.Known.{value_seen, leaves_proper, taken_name_is}
 use Rattle.vlog_exprs.proofs.cursor.VCursor.takes_name_token.Goals as goal
 
-pub returns-in_err-next : goal.returns-in_err-next
-returns-in_err-next g c = seen_fails (λ _ x. at_name x.token) _ _ _ _ same _ _ c.in_err-next.ensures c.from_residual.ensures.1
+pub returns-in_err-next-clause-reads : goal.returns-in_err-next-clause-reads
+returns-in_err-next-clause-reads g c = seen_fails (λ _ x. at_name x.token) _ _ _ _ same _ _ c.in_err-next.ensures.reads c.from_residual.ensures.1
 
-pub returns-in_default-next : goal.returns-in_default-next
-returns-in_default-next g c = seen_none (λ _ x. at_name x.token) _ _ _ _ same None refl (rw c.in_default-next.is at c.in_ok-next.ensures)
+pub returns-in_default-next-clause-reads : goal.returns-in_default-next-clause-reads
+returns-in_default-next-clause-reads g c = seen_none (λ _ x. at_name x.token) _ _ _ _ same None refl (rw c.in_default-next.is at c.in_ok-next.ensures.reads)
 
-pub returns : goal.returns
-returns g c = seen_says (λ _ x. at_name x.token) _ _ _ _ _ (rw c.in-Some-next.is at c.in_ok-next.ensures) _ _ _ c.at_name.ensures c.settled.ensures.answer c.settled.ensures.left
+pub returns-clause-reads : goal.returns-clause-reads
+returns-clause-reads g c = seen_says (λ _ x. at_name x.token) _ _ _ _ _ (rw c.in-Some-next.is at c.in_ok-next.ensures.reads) _ _ _ c.at_name.ensures c.settled.ensures.answer c.settled.ensures.left
 
-pub returns-in-Some : goal.returns-in-Some
-returns-in-Some g c = mark_none same at_name c.args.self.now c.args.self.now c.in-Some._mark (sym c.in-Some.ensures.mark) c.held_mark.ensures.held _ None refl refl
+pub returns-in-Some-clause-reads : goal.returns-in-Some-clause-reads
+returns-in-Some-clause-reads g c = mark_none same at_name c.args.self.now c.args.self.now c.in-Some._mark (sym c.in-Some.ensures.mark) c.held_mark.ensures.held _ None refl refl
 
-pub returns-then-at_held_keyword : goal.returns-then-at_held_keyword
-returns-then-at_held_keyword g c =
+pub returns-then-at_held_keyword-clause-reads : goal.returns-then-at_held_keyword-clause-reads
+returns-then-at_held_keyword-clause-reads g c =
     let word : is_keyword (held_word c.args.self.now) ≡ true = sym c.at_held_keyword.ensures.keyword ∙ c.if-at_held_keyword.true in
     word_none same at_name c.args.self.now c.args.self.now (keyword_some _ word) c.at_held_keyword.ensures.held _ None refl (name_leaves_keyword _ word)
+
+pub settled-requires-clause-proper : goal.settled-requires-clause-proper
+settled-requires-clause-proper g c = leaves_proper _ _ _ c.at_name.ensures (rw c.in-Some-next.is at c.in_ok-next.ensures.proper)
+
+pub returns-clause-value : goal.returns-clause-value
+returns-clause-value g c = value_seen at_name _ _ (taken_name_is _ (rw c.in-Some-next.is at c.in_ok-next.ensures.proper)) _ _ _ _ c.at_name.ensures c.settled.ensures.answer

@@ -3,20 +3,20 @@ use Rattle.std.proofs.lemmas.Result.{err_from_is_err_and}
 use Rattle.vlog_tokens.proofs.Readers.{reads_found, reads_spent, state}
 use Rattle.vlog_tokens.proofs.tokens.VTokens.next.Goals as goal
 
-pub returns-then-self : goal.returns-then-self
-returns-then-self g c =
+pub returns-then-self-clause-reads : goal.returns-then-self-clause-reads
+returns-then-self-clause-reads g c =
     let old : c.args.self.now ≡ state c.self.inside.bytes true = sym c.self.view_is ∙ ap (λ (b : Bool). state c.self.inside.bytes b) c.if-self.true in
     rw old (reads_spent c.self.inside.bytes _ _)
 
-pub returns : goal.returns
-returns g c =
+pub returns-clause-reads : goal.returns-clause-reads
+returns-clause-reads g c =
     let found = c.found-result.ensures in
     let all = reads_found found.finds found.never_spent found.bounded found.count found.cause c.place-here.ensures.held c.place-here.ensures.taken in
     let old : c.args.self.now ≡ state c.self.inside.bytes false = sym c.self.view_is ∙ ap (λ (b : Bool). state c.self.inside.bytes b) c.if-self.false in
     rw old (rw c.in_ok-found.was at all)
 
-pub returns-in_err-found : goal.returns-in_err-found
-returns-in_err-found g c =
+pub returns-in_err-found-clause-reads : goal.returns-in_err-found-clause-reads
+returns-in_err-found-clause-reads g c =
     let found = c.found-result.ensures in
     let all = reads_found found.finds found.never_spent found.bounded found.count found.cause c.place-here.ensures.held c.place-here.ensures.taken in
     let old : c.args.self.now ≡ state c.self.inside.bytes false = sym c.self.view_is ∙ ap (λ (b : Bool). state c.self.inside.bytes b) c.if-self.false in

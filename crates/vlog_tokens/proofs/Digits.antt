@@ -12,6 +12,7 @@ use Rattle.vlog_values.specs.Bits as bits
 use Rattle.vlog_tokens.specs.Numbers.{next_decimal, decimal_value}
 use Rattle.vlog_tokens.specs.Phases.{is_digit, is_open}
 use Rattle.vlog_tokens.specs.Items.{is_kept, has_value}
+use Rattle.vlog_tokens.specs.SoFar.{may_stand, begins_kept, is_left_out}
 
 -- ---- one digit
 
@@ -47,15 +48,6 @@ pub open_kept : (b : ℕ) → is_open b ≡ true → is_kept b ≡ true
 open_kept b e = grind (arith, nat_tests)
 
 -- ---- digits with `_` among them
-
--- a digit of a base, or `_`
-abbrev pub may_stand : Base → ℕ → Bool
-may_stand base b = is_digit base b || eqb b 95
-
--- the first of some bytes is no `_`
-abbrev pub begins_kept : List ℕ → Bool
-begins_kept [] = false
-begins_kept (b ∷ bs) = is_kept b
 
 pub first_kept : (base : Base) (b : ℕ) → is_digit base b ≡ true → begins_kept (b ∷ []) ≡ true
 first_kept base b e = digit_kept base b e
@@ -143,10 +135,6 @@ pub digits_kept : (base : Base) (bs : List ℕ) → begins_kept bs ≡ true → 
 digits_kept base bs begins all value = are_digits base (filter is_kept bs) (some_kept bs begins) (all_kept base bs all) value
 
 -- ---- the one `x`, `z` or `?` of a decimal
-
--- a `_`
-abbrev pub is_left_out : ℕ → Bool
-is_left_out b = eqb b 95
 
 none_kept : (bs : List ℕ) → list_all is_left_out bs ≡ true → filter is_kept bs ≡ []
 none_kept [] all = refl

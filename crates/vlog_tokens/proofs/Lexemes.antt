@@ -1,12 +1,15 @@
 -- What names, numbers, reals, based literals and directives keep of the bytes that they are scanned from.
-use Rattle.std.proofs.Common.{◌≡◌, ◌∙◌, sym, ap, subst, refl, ℕ, ◌+◌, ◌<◌, ◌≤◌, Bool, true, false, cond, leb, eqb, ◌||◌, List, [], ◌∷◌, ◌++◌, length, Option, Some, None, Result, arith, length-append, append_assoc, append-nil}
+use Rattle.std.proofs.Common.{◌≡◌, ◌∙◌, sym, ap, subst, refl, ℕ, ◌+◌, ◌-◌, ◌<◌, ◌≤◌, Bool, true, false, cond, leb, eqb, ◌||◌, List, [], ◌∷◌, ◌++◌, length, take, Option, Some, None, Result, arith, length-append, length-take, append_assoc, append-nil}
 use Rattle.std.specs.Prelude.{⊤, IfOk}
 use Rattle.std.specs.Char.{is_ascii_digit, is_ascii_alphabetic}
-use Rattle.std.specs.List.{list_all, filter}
+use Rattle.std.specs.List.{AllByRecursion, filter}
 use Rattle.std.proofs.lemmas.Bool.{leb-false}
 use Rattle.std.proofs.lemmas.Bool.Decides.{nat_tests}
 use Rattle.nl_base.specs.declared.fault.Reason.TheVariants.{EndOfInput, TokenTooLong}
-use Rattle.nl_bytes.specs.Classes.{is_verilog_space, is_name_byte, is_graphic, is_number_byte, is_based_byte, is_word_byte}
+use Rattle.nl_bytes.specs.Bytes.{Window, Runs}
+use Rattle.nl_bytes.specs.declared.class.Class.{Class}
+use Rattle.nl_bytes.specs.declared.halt.Halt.{Halt}
+use Rattle.nl_bytes.specs.Classes.{AreIn, in_class, is_verilog_space, is_name_byte, is_graphic, is_number_byte, is_based_byte, is_word_byte}
 use Rattle.nl_bytes.proofs.Uses.{AllByRecursion-push}
 use Rattle.vlog_values.specs.declared.literal.Base.{Base}
 use Rattle.vlog_values.specs.declared.literal.Base.TheVariants.{Binary, Octal, Decimal, Hex}
@@ -17,17 +20,14 @@ use Rattle.vlog_tokens.specs.declared.phase.Phase.TheVariants as phases
 use Rattle.vlog_tokens.specs.declared.phase.Step.{Step}
 use Rattle.vlog_tokens.specs.declared.phase.Step.TheVariants.{Keep, Pass, Ends, Bad}
 use Rattle.vlog_tokens.specs.Flaws.{Piece, Flaw, flaw}
-use Rattle.vlog_tokens.specs.Phases.{next_step, based_step, letter_step, first_digit, base_of, is_digit, is_open, is_mark, is_sign, is_complete, most_of}
+use Rattle.vlog_tokens.specs.Phases.{next_step, based_step, letter_step, first_digit, base_of, is_digit, is_open, is_mark, is_sign, is_complete, most_of, class_of}
 use Rattle.vlog_tokens.specs.Scanning.{Lexeme, scan_at, stepped, ended}
 use Rattle.vlog_tokens.specs.Items.{is_signed, is_kept, digits_of, has_value}
-use Rattle.vlog_kept.proofs.Digits.{may_stand, begins_kept, first_kept, begins_push, all_push, is_left_out, few_kept, digits_kept, open_digits}
+use Rattle.vlog_tokens.specs.SoFar.{IsFront, IsBehind, may_stand, AreScanned, is_left_out, IsScannedOpen, IsSoFar}
+use Rattle.vlog_tokens.proofs.Digits.{first_kept, begins_push, all_push, few_kept, digits_kept, open_digits}
+use Rattle.vlog_tokens.proofs.Scanning.{stays_class}
 
 -- ---- the front of a based literal
-
--- `'` and the letter of a base, or `'`, `s` and such a letter
-abbrev pub IsFront : Bool → List ℕ → Type 0
-IsFront false front = (q : ℕ) × (l : ℕ) × (front ≡ q ∷ l ∷ []) × ((eqb l 115 || eqb l 83) ≡ false)
-IsFront true front = (q : ℕ) × (s : ℕ) × (l : ℕ) × (front ≡ q ∷ s ∷ l ∷ []) × ((eqb s 115 || eqb s 83) ≡ true)
 
 front_signed : (signed : Bool) (front tail : List ℕ) → IsFront signed front → is_signed (front ++ tail) ≡ signed
 front_signed false front tail (q, l, e, t) = rw e t
@@ -40,29 +40,6 @@ front_length true front (q, s, l, e, t) = ap length e
 front_digits : (signed : Bool) (front tail : List ℕ) → IsFront signed front → digits_of (front ++ tail) ≡ filter is_kept tail
 front_digits false front tail (q, l, e, t) = rw (e, t) refl
 front_digits true front tail (q, s, l, e, t) = rw (e, t) refl
-
--- a based literal as far as it is scanned: its front, and what stands behind that
-pub record IsBehind (Tail : List ℕ → Type 0) (text : List ℕ) : Type 0 where
-  pub signed : Bool
-  pub front : List ℕ
-  pub tail : List ℕ
-  pub parts : text ≡ front ++ tail
-  pub is_front : IsFront signed front
-  pub is_tail : Tail tail
-  pub short : length text ≤ 131072
-
--- digits of a base and `_`, of which a digit is the first
-pub record AreScanned (base : Base) (tail : List ℕ) : Type 0 where
-  pub begins : begins_kept tail ≡ true
-  pub each : list_all (may_stand base) tail ≡ true
-
--- one `x`, `z` or `?` and then `_`
-pub record IsScannedOpen (tail : List ℕ) : Type 0 where
-  pub first : ℕ
-  pub rest : List ℕ
-  pub parts : tail ≡ first ∷ rest
-  pub is_first : is_open first ≡ true
-  pub each : list_all is_left_out rest ≡ true
 
 push_tail : {Tail Next : List ℕ → Type 0} {text : List ℕ} (b : ℕ) → ((tail : List ℕ) → Tail tail → Next (tail ++ b ∷ [])) → length text < 131072 → IsBehind Tail text → IsBehind Next (text ++ b ∷ [])
 push_tail {text = text} b next room h = record {
@@ -77,25 +54,6 @@ push_tail {text = text} b next room h = record {
 
 -- ---- what the bytes of a token are so far
 
--- what is kept of them in each phase
-abbrev pub IsSoFar : Phase → List ℕ → Type 0
-IsSoFar phases.Word text = IsName text
-IsSoFar phases.Escape text = text ≡ []
-IsSoFar phases.Escaped text = IsName text
-IsSoFar phases.Whole text = ⊤
-IsSoFar phases.Point text = ⊤
-IsSoFar phases.Fraction text = ⊤
-IsSoFar phases.Mark text = ⊤
-IsSoFar phases.Sign text = ⊤
-IsSoFar phases.Exponent text = ⊤
-IsSoFar phases.Prefix text = (q : ℕ) × (text ≡ q ∷ [])
-IsSoFar phases.Signed text = (q : ℕ) × (s : ℕ) × (text ≡ q ∷ s ∷ []) × ((eqb s 115 || eqb s 83) ≡ true)
-IsSoFar (phases.Letter base) text = IsBehind (λ tail. tail ≡ []) text
-IsSoFar (phases.Digits base) text = IsBehind (AreScanned base) text
-IsSoFar phases.Unknown text = IsBehind IsScannedOpen text
-IsSoFar phases.Grave text = ⊤
-IsSoFar phases.Directive text = ⊤
-
 -- what the next byte makes of them
 abbrev IsStep : Phase → List ℕ → ℕ → Step → Type 0
 IsStep phase text b (Keep next) = length text < most_of phase → IsSoFar next (text ++ b ∷ [])
@@ -109,10 +67,10 @@ by_test phase text b false x y p q = q refl
 
 -- ---- names
 
-graphic_bounds : (b : ℕ) → is_graphic b ≡ true → (33 ≤ b) × (b ≤ 126)
+pub graphic_bounds : (b : ℕ) → is_graphic b ≡ true → (33 ≤ b) × (b ≤ 126)
 graphic_bounds b e = (grind (arith, nat_tests), grind (arith, nat_tests))
 
-name_bounds : (b : ℕ) → is_name_byte b ≡ true → (33 ≤ b) × (b ≤ 126)
+pub name_bounds : (b : ℕ) → is_name_byte b ≡ true → (33 ≤ b) × (b ≤ 126)
 name_bounds b e = (grind (arith, nat_tests), grind (arith, nat_tests))
 
 pub letter_bounds : (b : ℕ) → (is_ascii_alphabetic b || eqb b 95) ≡ true → (33 ≤ b) × (b ≤ 126)
@@ -130,6 +88,15 @@ name_push text b h bounds room = record {
 
 name_first : (text : List ℕ) (b : ℕ) → text ≡ [] → (33 ≤ b) × (b ≤ 126) → IsName (text ++ b ∷ [])
 name_first text b e bounds = let is = name_of_one b bounds in subst (λ (xs : List ℕ). IsName (xs ++ b ∷ [])) (sym e) is
+
+all_in : (class : Class) (bs : List ℕ) → ((b : ℕ) → in_class class b ≡ true → (33 ≤ b) × (b ≤ 126)) → AreIn class bs → AllByRecursion (λ b. (33 ≤ b) × (b ≤ 126)) bs
+all_in class [] bounds each = tt
+all_in class (b ∷ bs) bounds each = (bounds b each.0, all_in class bs bounds each.1)
+
+-- so many bytes of a class of printed bytes are a name
+pub name_of_held : (class : Class) (bs : List ℕ) (n : ℕ) → 0 < n → n < length bs → n ≤ 1024 → AreIn class (take n bs) → ((b : ℕ) → in_class class b ≡ true → (33 ≤ b) × (b ≤ 126)) → IsName (take n bs)
+name_of_held class bs n some more short each bounds =
+    record { some = omega (arith, some, more, length-take n bs); short = omega (arith, short, length-take n bs); graphic = all_in class (take n bs) bounds each }
 
 -- ---- based literals
 
@@ -218,6 +185,24 @@ step_good (phases.Digits base) text b h = digits_good base text b h
 step_good phases.Unknown text b h = open_good text b h
 step_good phases.Grave text b h = by_test phases.Grave text b (is_ascii_alphabetic b || eqb b 95) _ _ (λ t room. tt) (λ _. tt)
 step_good phases.Directive text b h = by_test phases.Directive text b (is_word_byte b) _ _ (λ t room. tt) (λ _. tt)
+
+-- one more byte that is kept, and one that is not
+pub byte_so_far : (phase next : Phase) (text : List ℕ) (b : ℕ) → next_step phase b ≡ Keep next → IsSoFar phase text → length text < most_of phase → IsSoFar next (text ++ b ∷ [])
+byte_so_far phase next text b e h room = let step : IsStep phase text b (Keep next) = subst (IsStep phase text b) e (step_good phase text b h) in step room
+
+pub pass_so_far : (phase next : Phase) (text : List ℕ) (b : ℕ) → next_step phase b ≡ Pass next → IsSoFar phase text → IsSoFar next text
+pass_so_far phase next text b e h = subst (IsStep phase text b) e (step_good phase text b h)
+
+-- as many bytes of its class as there is room for
+pub class_so_far : (phase : Phase) (class : Class) → class_of phase ≡ Some class → (text used : List ℕ) → AreIn class used → length used ≤ most_of phase - length text → IsSoFar phase text → IsSoFar phase (text ++ used)
+class_so_far phase class is text [] all most h = subst (λ (xs : List ℕ). IsSoFar phase xs) (sym (append-nil text)) h
+class_so_far phase class is text (b ∷ bs) all most h =
+    let next = byte_so_far phase phase text b (stays_class phase class is b all.0) h (omega arith) in
+    subst (λ (xs : List ℕ). IsSoFar phase xs) (append_assoc text (b ∷ []) bs) (class_so_far phase class is (text ++ b ∷ []) bs all.1 (omega (arith, length-append text (b ∷ []))) next)
+
+pub run_so_far : (phase : Phase) {class : Class} {m : ℕ} {old new : Window} {l l' : Option (List ℕ)} {before after : List ℕ} {r : Result (Option ℕ) Halt}
+    → Runs class m old new l l' before after r → class_of phase ≡ Some class → m ≡ most_of phase - length before → IsSoFar phase before → IsSoFar phase after
+run_so_far phase {class} {before = before} k is most h = subst (λ (xs : List ℕ). IsSoFar phase xs) (sym k.added) (class_so_far phase class is before k.used k.each (omega (arith, k.bounded, most)) h)
 
 -- a token that was scanned is what its phase says
 abbrev pub IsScanned : Piece Lexeme → Type 0
