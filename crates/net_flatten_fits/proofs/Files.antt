@@ -57,7 +57,8 @@ module _ (file : EdifFile) (good : values.IsEdifValue file) where
   cells_named = all_places IsCellByBytes (edif_cells file) (λ number cell there.
       let from : ComesFrom file number cell = design_from file number cell there in subst IsCellByBytes from.value (place_named from.old from.place from.stands))
 
-  design_named : (design : Design) → IsDesignOf file design → IsNamedByBytes design
+  -- the names of the design that is answered for a file that can be written are made of bytes
+  pub design_named : (design : Design) → IsDesignOf file design → IsNamedByBytes design
   design_named design is = record { cells = subst (AllByRecursion IsCellByBytes) (sym is.same_cells) cells_named; props = subst HaveByteNames (sym is.same_props) (design_props file good) }
 
   flat_fits : (names : ConstantNames) (design flat : Design) → IsDesignOf file design → IsFlattening names design flat → CanBeWritten flat
@@ -71,7 +72,8 @@ edif_fits bytes file names design flat all reads is flattening = flat_fits file 
 props_named : (props : List HProp) → HaveShortNames props → HaveByteNames props
 props_named props h = all_such (λ (prop : HProp). IsShort prop.name) (λ (prop : HProp). AreBytes prop.name) (λ prop k. k.bytes) props h
 
-short_named : (design : Design) → HasShortNames design → IsNamedByBytes design
+-- short names are made of bytes
+pub short_named : (design : Design) → HasShortNames design → IsNamedByBytes design
 short_named design h = record {
   cells = all_such IsShortCell IsCellByBytes (λ cell k. record {
     name = k.name.bytes;

@@ -32,7 +32,7 @@ pub record IsNamedByBytes (design : Design) : Type 0 where
   pub cells : AllByRecursion IsCellByBytes design.cells
   pub props : HaveByteNames design.props
 
--- A design passes both tests that are made before it is written.
+-- A design can be written in either language: its names are short, and its values are within the limits of the texts.
 pub record CanBeWritten (design : Design) : Type 0 where
   pub short : HasShortNames design
   pub sound : IsSound design

@@ -7,6 +7,7 @@ use Rattle.nl_io.specs.declared.source.Failed.{Failed}
 use Rattle.nl_output.specs.Writing.{Writes}
 use Rattle.nl_io.specs.Sources.{Supply}
 use Rattle.edif_copies.specs.Answers.{IsEdifFor}
+use Rattle.edif_design_laws.proofs.Designs.{answered_sound}
 use Rattle.edif_library.specs.Text.{EdifReads}
 use Rattle.edif_values.specs.declared.file.EdifFile.{EdifFile}
 use Rattle.edif_plans.specs.Sound.{IsSoundDesign}
@@ -20,6 +21,7 @@ use Rattle.flat_report.specs.Reports.{HasReported}
 use Rattle.net_lint.specs.Lint.{IsLint}
 use Rattle.net_lint.specs.Lints.{HasLinted}
 use Rattle.net_bits.specs.Names.{NameSet}
+use Rattle.net_flatten_fits.proofs.Files.{design_named, short_named}
 use Rattle.net_flatten_over.proofs.Copied.{goes_over_copied}
 use Rattle.net_hier.specs.Constants.{AreConstantNames, ConstantNames}
 use Rattle.net_hier.specs.Design.{Design}
@@ -40,7 +42,7 @@ use Rattle.vlog_values.specs.declared.module.VlogFile.{VlogFile}
 use Rattle.vlog_writer.specs.Forms.{vlog_text}
 use Rattle.netlist_cli.specs.declared.failure.Failure.{Failure}
 use Rattle.netlist_cli.specs.declared.failure.Failure.TheVariants as failures
-use Rattle.netlist_cli.specs.Designs.{AreFlatModules, AreModulesFor, HasDesign, IsDesignRead, IsFlatFile, IsNoDesign, Makes, MakesOf, PutsMade, ReadsDesign, first_question}
+use Rattle.netlist_cli.specs.Designs.{AreFlatModules, AreModulesFor, HasDesign, IsDesignRead, IsFlatFile, IsNoDesign, IsWithinLimits, Makes, MakesOf, PutsMade, ReadsDesign, first_question}
 use Rattle.netlist_cli.specs.Meanings.{IsEdifOf, IsFlatEdifOf, IsFlatVerilogOf, IsMadeOfDesign, IsSpiceOf, IsVerilogOf, Judgement, SaysOfEdif, SaysOfVerilog, any_design, edif, edif_first, few_flat, flat_rules, meaning, of_design, plain_target, spice_rules, target_rules, verilog, verilog_first}
 use Rattle.netlist_cli.specs.Outcomes.{FileLanguage, Verdict, fine, or_refused}
 use Rattle.netlist_cli.specs.Runs.{Does, IsFailureOf}
@@ -74,6 +76,19 @@ design_under_is_sound top file value (Ok design) h =
     let said : IsVlogDesign file top design = record { same_cells = h.same_cells; same_top = h.same_top; same_props = h.same_props } in
     sound_design design (short_names file top value design said) (sound file top value design said)
 design_under_is_sound top file value (Err f) h = tt
+
+-- the design of a file that can be written is within limits
+pub edif_design_within : (file : EdifFile) → IsEdifValue file → (found : Result Design Failure)
+    → MatchResult found (edif_answers.IsDesignOf file) (IsFailureOf (λ verdict. edif_first file ≡ Some verdict)) → IfOk found IsWithinLimits
+edif_design_within file value (Ok design) h = record { sound = answered_sound file design value h; named = design_named file value design h }
+edif_design_within file value (Err f) h = tt
+
+pub design_under_within : (top : Name) (file : VlogFile) → IsVlogValue file → (found : Result Design Failure)
+    → MatchResult found (verilog_answers.IsDesignOf file top) (IsFailureOf (λ verdict. verilog_first top file ≡ Some verdict)) → IfOk found IsWithinLimits
+design_under_within top file value (Ok design) h =
+    let said : IsVlogDesign file top design = record { same_cells = h.same_cells; same_top = h.same_top; same_props = h.same_props } in
+    record { sound = sound file top value design said; named = short_named design (short_names file top value design said) }
+design_under_within top file value (Err f) h = tt
 
 -- whether an EDIF file that was read has a design
 pub file_is_judged : (i j : Supply) (file : EdifFile) → IfSome i.left (λ bytes. EdifReads bytes file) → IsAtEnd j.left → (judged : Result (Unit {0}) Failure)

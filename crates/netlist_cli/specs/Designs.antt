@@ -13,10 +13,12 @@ use Rattle.edif_resolve.specs.Answers as edif_answers
 use Rattle.flat_classes.specs.FlatSums.{IsFewFlat, flat_count, flat_limit}
 use Rattle.net_bits.specs.Names.{NameSet}
 use Rattle.net_flatten.specs.Flattening.{IsFlattening}
+use Rattle.net_flatten_fits.specs.Named.{IsNamedByBytes}
 use Rattle.net_flatten_rules.specs.SameFlat.{SameFlat}
 use Rattle.net_hier.specs.Constants.{ConstantNames}
 use Rattle.net_hier.specs.Design.{Design}
 use Rattle.net_hier.specs.Valid.{IsValid}
+use Rattle.net_values.specs.Sound.{IsSound}
 use Rattle.to_verilog.specs.Answers.{IsTranslated}
 use Rattle.vlog_design.specs.Names.{Name}
 use Rattle.vlog_elab.specs.Answers as verilog_answers
@@ -44,6 +46,11 @@ pub record HasDesign {File : Type 0} (reads : List ℕ → File → Type 0) (IsD
 abbrev pub IsDesignRead : Option Name → Supply → Supply → Design → Type 0
 IsDesignRead None i j design = HasDesign EdifReads edif_answers.IsDesignOf i j design
 IsDesignRead (Some top) i j design = HasDesign VlogReads (λ file read. verilog_answers.IsDesignOf file top read) i j design
+
+-- The values of a design that was read are within the limits of both languages, and its names are made of bytes.
+pub record IsWithinLimits (design : Design) : Type 0 where
+  pub sound : IsSound design
+  pub named : IsNamedByBytes design
 
 -- there is such a design
 pub record ReadsDesign (top : Option Name) (i j : Supply) : Type 0 where

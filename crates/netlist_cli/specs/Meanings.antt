@@ -19,7 +19,8 @@ use Rattle.net_hier.specs.declared.cells.HCell.{HCell}
 use Rattle.net_hier.specs.declared.cells.HProp.{HProp}
 use Rattle.edif_design.specs.Design.{edif_design}
 use Rattle.edif_design.specs.FileRules.{first_E}
-use Rattle.edif_library.specs.AnyLength.{EdifSpells, VlogSpells}
+use Rattle.edif_library.specs.AnyLength.{EdifSpells}
+use Rattle.vlog_modules.specs.AnyLength.{VlogSpells}
 use Rattle.edif_resolve.specs.Answers as edif_answers
 use Rattle.spice_text.specs.Texts.{spice_text}
 use Rattle.spice_text.specs.declared.file.SpiceFile.{SpiceFile}

@@ -7,20 +7,19 @@ ghost use Rattle.edif_resolve.specs.Answers.{IsDesignOf as IsEdifDesign};
 ghost use Rattle.vlog_elab.specs.Answers.{IsDesignOf as IsVlogDesign};
 ghost use Rattle.vlog_values.specs.Sizes.{vlog_size};
 ghost use Rattle.vlog_values.specs.Values.{IsVlogValue};
-ghost use Rattle.netlist_cli.specs.Designs.{IsDesignRead, IsNoDesign};
+ghost use Rattle.netlist_cli.specs.Designs.{IsDesignRead, IsNoDesign, IsWithinLimits};
 ghost use Rattle.netlist_cli.specs.Meanings.{edif_first, verilog_first};
 ghost use Rattle.netlist_cli.specs.Runs.{IsFailureOf, TakesFrom};
 
 use crate::failure::Failure;
-use edif_library::EdifFile;
+use edif_library::{EdifFile, read_edif};
 use edif_resolve::{ResolveError as EdifError, resolve};
-use edif_sizes::read_sized_edif;
 use net_hier::Hier;
 use nl_base::Text;
 use nl_io::Source;
 use std::alloc::Global;
 use vlog_elab::{ResolveError as VlogError, elaborate};
-use vlog_sound::read_sound_vlog;
+use vlog_modules::read_vlog;
 use vlog_values::VlogFile;
 
 /// The design of an EDIF file, or why it has none.
@@ -61,10 +60,11 @@ pub fn read_edif_design<S: Source>(alloc: Global, input: &mut S) -> Result<Hier,
     ensures reads { MatchResult result
         (IsDesignRead None (S.supply input.old) (S.supply input.new))
         (IsNoDesign None (S.supply input.old) (S.supply input.new)) }
+    ensures within { IfOk result IsWithinLimits }
     ensures taken { TakesFrom
         (S.supply input.old) (S.supply input.new) }
 {
-    match read_sized_edif(alloc, input) {
+    match read_edif(alloc, input) {
         Ok(file) => {
             let found = design_of(alloc, &file);
             found
@@ -85,10 +85,11 @@ pub fn read_design_under<S: Source>(
         (IsNoDesign (Some top.now)
         (S.supply input.old) (S.supply input.new)) }
     ensures sound { IfOk result IsSoundDesign }
+    ensures within { IfOk result IsWithinLimits }
     ensures taken { TakesFrom
         (S.supply input.old) (S.supply input.new) }
 {
-    match read_sound_vlog(alloc, input) {
+    match read_vlog(alloc, input) {
         Ok(file) => {
             let found = design_under(alloc, &file, top);
             found

@@ -1,6 +1,7 @@
 ghost use Rattle.std.specs.Prelude.{◌≡◌, IfOk, MatchResult, None, Some};
+ghost use Rattle.net_flatten_fits.specs.Named.{CanBeWritten};
 ghost use Rattle.netlist_words.specs.declared.command.Command.TheVariants as commands;
-ghost use Rattle.netlist_cli.specs.Designs.{AreFlatModules, IsFileFor, IsFlatFile, IsFlatOf, IsNotFlattened, MakesOf};
+ghost use Rattle.netlist_cli.specs.Designs.{AreFlatModules, IsFileFor, IsFlatFile, IsFlatOf, IsNotFlattened, IsWithinLimits, MakesOf};
 ghost use Rattle.netlist_cli.specs.Meanings.{IsFlatEdifOf, IsFlatVerilogOf, any_design, flat_rules, meaning_of, plain_target};
 ghost use Rattle.netlist_cli.specs.Runs.{Does, IsFailureOf, TakesFrom};
 
@@ -12,8 +13,6 @@ use edif_library::EdifFile;
 use edif_writer::write_edif;
 use net_flatten::{FlattenError, flatten};
 use net_hier::{Constants, Hier};
-use net_names::names_fit;
-use net_values::sound::values_fit;
 use nl_base::{NoMemory, Seq, Text};
 use nl_io::{Sink, Source};
 use std::alloc::Global;
@@ -23,8 +22,10 @@ use vlog_writer::write_vlog;
 
 /// The flattened design of a design, where these cells stand for the constants, or why there is none.
 fn flat_design(alloc: Global, hier: &Hier, constants: &Constants) -> Result<Hier, Failure>
-    ensures { MatchResult result (IsFlatOf constants.now hier.now)
+    requires { IsWithinLimits hier.now }
+    ensures flat { MatchResult result (IsFlatOf constants.now hier.now)
         (IsNotFlattened constants.now hier.now) }
+    ensures fits { IfOk result CanBeWritten }
 {
     let _cells = hier.cells();
     match flatten(alloc, hier, constants) {
@@ -44,24 +45,18 @@ fn flat_design(alloc: Global, hier: &Hier, constants: &Constants) -> Result<Hier
 }
 
 /// The EDIF file of a flattened design.
-///
-/// # Errors
-/// Want of memory is also answered where names or values of the design are not within their limits, which is asked for sources that do not
-/// tell their bytes: no flattened design is such of a design whose file bytes below 256 read as (`flattened_files_fit` of the crate
-/// `net_flatten_fits`).
 fn edif_of(alloc: Global, flat: &Hier, constants: &Constants) -> Result<EdifFile, NoMemory>
+    requires { CanBeWritten flat.now }
     ensures { IfOk result (IsFileFor constants.now flat.now) }
 {
     let _cells = flat.cells();
-    if !names_fit(flat) || !values_fit(flat) {
-        return Err(NoMemory);
-    }
     let file = to_edif(alloc, flat, constants)?;
     Ok(file)
 }
 
 /// The EDIF file of the flattened design of a design.
 fn flat_file(alloc: Global, hier: &Hier, constants: &Constants) -> Result<EdifFile, Failure>
+    requires { IsWithinLimits hier.now }
     ensures { MatchResult result (IsFlatFile constants.now hier.now)
         (IsFailureOf (flat_rules constants.now any_design
         hier.now.cells hier.now.top hier.now.props)) }
@@ -82,6 +77,7 @@ fn put_flat_edif<O: Sink>(
     constants: &Constants,
     output: &mut O,
 ) -> Result<(), Failure>
+    requires { IsWithinLimits hier.now }
     ensures { MakesOf O.receipt (flat_rules constants.now any_design)
         (IsFlatEdifOf constants.now) hier.now output.old output.new result }
 {
@@ -97,6 +93,7 @@ fn put_flat_edif<O: Sink>(
 
 /// The modules of the flattened design of a design, without names of parameters.
 fn flat_modules(alloc: Global, hier: &Hier, constants: &Constants) -> Result<VlogFile, Failure>
+    requires { IsWithinLimits hier.now }
     ensures { MatchResult result (AreFlatModules constants.now hier.now)
         (IsFailureOf (flat_rules constants.now plain_target
         hier.now.cells hier.now.top hier.now.props)) }
@@ -119,6 +116,7 @@ fn put_flat_verilog<O: Sink>(
     constants: &Constants,
     output: &mut O,
 ) -> Result<(), Failure>
+    requires { IsWithinLimits hier.now }
     ensures { MakesOf O.receipt (flat_rules constants.now plain_target)
         (IsFlatVerilogOf constants.now) hier.now output.old output.new result }
 {
@@ -184,8 +182,7 @@ fn flatten_verilog<S: Source, O: Sink>(
 ///
 /// # Errors
 /// Those of reading; the first object of the lowest broken rule of the language, of flattened designs, or, for Verilog, of the target; a
-/// design of too many units; one whose flat count is above 2,000,000; and a put that failed. Want of memory is also answered as `edif_of`
-/// and `modules_of` say.
+/// design of too many units; one whose flat count is above 2,000,000; and a put that failed.
 pub fn write_flattened<S: Source, O: Sink>(
     alloc: Global,
     top: &Option<Text>,

@@ -12,14 +12,13 @@ ghost use Rattle.netlist_cli.specs.Meanings.{edif_first, verilog_first};
 ghost use Rattle.netlist_cli.specs.Runs.{IsFailureOf, TakesFrom};
 
 use crate::failure::Failure;
-use edif_library::EdifFile;
+use edif_library::{EdifFile, read_edif};
 use edif_resolve::ResolveError as EdifError;
-use edif_sizes::read_sized_edif;
 use nl_base::Text;
 use nl_io::Source;
 use std::alloc::Global;
 use vlog_elab::ResolveError as VlogError;
-use vlog_sound::read_sound_vlog;
+use vlog_modules::read_vlog;
 use vlog_values::VlogFile;
 
 /// Whether an EDIF file has a design, or why it has none.
@@ -65,7 +64,7 @@ fn judge_text_under<S: Source>(alloc: Global, top: &Text, input: &mut S) -> Resu
     ensures taken { TakesFrom
         (S.supply input.old) (S.supply input.new) }
 {
-    match read_sound_vlog(alloc, input) {
+    match read_vlog(alloc, input) {
         Ok(file) => {
             let judged = judge_under(alloc, &file, top);
             judged
@@ -83,7 +82,7 @@ fn judge_edif_text<S: Source>(alloc: Global, input: &mut S) -> Result<(), Failur
     ensures taken { TakesFrom
         (S.supply input.old) (S.supply input.new) }
 {
-    match read_sized_edif(alloc, input) {
+    match read_edif(alloc, input) {
         Ok(file) => {
             let judged = judge_edif(alloc, &file);
             judged

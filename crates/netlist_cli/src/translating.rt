@@ -1,4 +1,5 @@
 ghost use Rattle.std.specs.Prelude.{◌≡◌, IfOk, MatchResult};
+ghost use Rattle.net_values.specs.Sound.{IsSound};
 ghost use Rattle.netlist_words.specs.declared.command.Command.TheVariants as commands;
 ghost use Rattle.netlist_cli.specs.Designs.{AreModulesFor, MakesOf};
 ghost use Rattle.netlist_cli.specs.Meanings.{IsVerilogOf, meaning_of, params_of, target_rules};
@@ -8,7 +9,6 @@ use crate::designs::read_edif_design;
 use crate::failure::{Failure, after_writing};
 use net_bits::Names;
 use net_hier::Hier;
-use net_values::sound::values_fit;
 use nl_base::{NoMemory, Seq, Text};
 use nl_io::{Sink, Source};
 use std::alloc::Global;
@@ -32,16 +32,12 @@ fn params_of(alloc: Global, names: &Seq<Text>) -> Result<Names, NoMemory>
 /// The modules of a design, or why there are none.
 ///
 /// # Errors
-/// The first object of the lowest rule of the target that the design breaks. Want of memory is also answered where the values of the design are
-/// not within their limits, which is asked for sources that do not tell their bytes: no design is such whose file bytes below 256 read as
-/// (`designs_are_sound` of the crate `edif_design_laws`).
+/// The first object of the lowest rule of the target that the design breaks.
 fn modules_of(alloc: Global, hier: &Hier, params: &Names) -> Result<VlogFile, Failure>
+    requires { IsSound hier.now }
     ensures { MatchResult result (AreModulesFor hier.now params.now) (IsFailureOf
         (target_rules params.now hier.now.cells hier.now.top hier.now.props)) }
 {
-    if !values_fit(hier) {
-        return Err(Failure::NoMemory);
-    }
     match to_verilog(alloc, hier, params) {
         Ok(modules) => Ok(modules),
         Err(error) => match error {
@@ -53,6 +49,7 @@ fn modules_of(alloc: Global, hier: &Hier, params: &Names) -> Result<VlogFile, Fa
 
 /// The same, where these are the names of parameters.
 pub fn modules_under(alloc: Global, hier: &Hier, names: &Seq<Text>) -> Result<VlogFile, Failure>
+    requires { IsSound hier.now }
     ensures { MatchResult result (AreModulesFor hier.now (params_of names.now)) (IsFailureOf
         (target_rules (params_of names.now) hier.now.cells hier.now.top hier.now.props)) }
 {
@@ -72,6 +69,7 @@ fn put_verilog<O: Sink>(
     names: &Seq<Text>,
     output: &mut O,
 ) -> Result<(), Failure>
+    requires { IsSound hier.now }
     ensures { MakesOf O.receipt (target_rules (params_of names.now)) IsVerilogOf
         hier.now output.old output.new result }
 {
@@ -88,7 +86,7 @@ fn put_verilog<O: Sink>(
 ///
 /// # Errors
 /// Those of reading; the first object of the lowest rule of EDIF, or else of Verilog as a target, that is broken; a design of too many units;
-/// and a put that failed. Want of memory is also answered as `modules_of` says.
+/// and a put that failed.
 pub fn translate<S: Source, O: Sink>(
     alloc: Global,
     names: &Seq<Text>,

@@ -1,7 +1,7 @@
 // Worked rows: the design of an EDIF text, and the modules that are written for it or the rule that it breaks.
 use crate::texts::{BLINKER, BLINKER_MODULES, BLINKER_PARAMETERS};
+use edif_library::read_edif;
 use edif_resolve::resolve;
-use edif_sizes::read_sized_edif;
 use net_bits::Names;
 use net_hier::Hier;
 use nl_base::{Refusal, Rule, Text};
@@ -38,7 +38,7 @@ fn source_of(alloc: Global, pieces: &[&[u8]]) -> Result<MemSource, Fail> {
 
 /// The design of a text.
 fn design_of(alloc: Global, source: &mut MemSource) -> Option<Hier> {
-    match read_sized_edif(alloc, source) {
+    match read_edif(alloc, source) {
         Ok(file) => match resolve(alloc, &file) {
             Ok(hier) => Some(hier),
             Err(_) => None,

@@ -4,8 +4,8 @@ ghost use Rattle.edif_values.specs.declared.file.EdifFile.{EdifFile};
 ghost use Rattle.edif_resolve.specs.Answers.{IsDesignOf};
 ghost use Rattle.to_verilog.specs.Answers.{IsVerilogFor};
 
+use edif_library::read_edif;
 use edif_resolve::resolve;
-use edif_sizes::read_sized_edif;
 use net_bits::Names;
 use net_hier::Hier;
 use nl_io::Source;
@@ -18,7 +18,7 @@ pub fn design_of<S: Source>(alloc: Global, source: &mut S) -> Option<Hier>
     ensures { IfSome result (λ design. (file : EdifFile)
         × IfSome (S.supply source.old).left (λ bytes. EdifReads bytes file) × IsDesignOf file design) }
 {
-    let file = read_sized_edif(alloc, source).ok()?;
+    let file = read_edif(alloc, source).ok()?;
     resolve(alloc, &file).ok()
 }
 

@@ -11,8 +11,7 @@ ghost use Rattle.vectors_line.specs.Lines.{saturated};
 ghost use Rattle.vlog_writer.specs.Forms.{vlog_text};
 
 use crate::source::TextSource;
-use edif_library::EdifFile;
-use edif_sizes::read_sized_edif;
+use edif_library::{EdifFile, read_edif};
 use edif_writer::write_edif;
 use nl_base::{NoMemory, ReadError};
 use nl_io::{CountSink, MemSink};
@@ -76,7 +75,7 @@ pub(crate) fn file_of(alloc: Global, text: Vec<u8>) -> Result<EdifFile, NoMemory
     ensures small { IfOk result (λ file. edif_size file ≤ count_limit) }
 {
     let mut source = TextSource::new(alloc, text)?;
-    match read_sized_edif(alloc, &mut source) {
+    match read_edif(alloc, &mut source) {
         Ok(file) => Ok(file),
         Err(error) => Err(want_of_memory(error)),
     }

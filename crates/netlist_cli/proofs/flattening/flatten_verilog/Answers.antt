@@ -5,8 +5,8 @@ use Rattle.netlist_cli.proofs.flattening.flatten_verilog.Goals as goal
 
 pub returns-in-Ok-clause-does : goal.returns-in-Ok-clause-does
 returns-in-Ok-clause-does g c =
-    design_is_used _ _ _ _ _ _ _ (Some c.args.top.now) (flat_rules c.args.constants.now plain_target) (IsFlatVerilogOf c.args.constants.now) c.in-Ok.design (rw c.in-Ok.is at c.read_design_under.ensures.reads) c.put_flat_verilog-done.result c.put_flat_verilog-done.ensures
+    design_is_used _ _ _ _ _ (Some c.args.top.now) (flat_rules c.args.constants.now plain_target) (IsFlatVerilogOf c.args.constants.now) c.in-Ok.design (rw c.in-Ok.is at c.read_design_under.ensures.reads) c.put_flat_verilog-done.result c.put_flat_verilog-done.ensures
 
 pub returns-in-Err-clause-does : goal.returns-in-Err-clause-does
 returns-in-Err-clause-does g c =
-    no_design_is_told _ _ _ _ _ _ _ (Some c.args.top.now) (flat_rules c.args.constants.now plain_target) (IsFlatVerilogOf c.args.constants.now) c.in-Err.failure (rw c.in-Err.is at c.read_design_under.ensures.reads) refl
+    no_design_is_told _ _ _ _ _ (Some c.args.top.now) (flat_rules c.args.constants.now plain_target) (IsFlatVerilogOf c.args.constants.now) c.in-Err.failure (rw c.in-Err.is at c.read_design_under.ensures.reads) refl

@@ -1,2 +1,0 @@
-pub mod NameCheck
-pub mod NamesDecided

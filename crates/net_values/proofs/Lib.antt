@@ -1,2 +1,0 @@
-pub mod StringCheck
-pub mod SoundDecided

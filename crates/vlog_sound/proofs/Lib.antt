@@ -1,4 +1,0 @@
-pub mod Bytes
-pub mod Expressions
-pub mod Decided
-pub mod Limited
