@@ -14,8 +14,8 @@ use Rattle.nl_base.specs.declared.value.PropValue.{PropValue}
 use Rattle.nl_base.specs.declared.value.PropValue.TheVariants.{Str as StrValue, Int as IntValue, Flag, Scaled as ScaledValue}
 use Rattle.vlog_design.specs.Design.{attr_props, attr_value, param_props, param_value}
 use Rattle.vlog_design.specs.Names.{clashing}
-use Rattle.vlog_literals.specs.Spelled.{spelled_literal}
-use Rattle.vlog_literals.proofs.SpelledLaws.{spelled_is}
+use Rattle.vlog_values.specs.Spelled.{spelled_literal}
+use Rattle.vlog_values.proofs.SpelledLaws.{spelled_is}
 use Rattle.vlog_values.specs.Spelling.{based_spelling, literal_spelling}
 use Rattle.vlog_values.specs.declared.declaration.ParamSet.{ParamSet}
 use Rattle.vlog_values.specs.declared.literal.Literal.{Literal}

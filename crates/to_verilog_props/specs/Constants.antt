@@ -2,7 +2,7 @@
 use Rattle.std.specs.Prelude.{ℕ, List, Option, Some, None}
 use Rattle.nl_base.specs.declared.value.PropValue.{PropValue}
 use Rattle.nl_base.specs.declared.value.PropValue.TheVariants.{Str as StrValue, Int as IntValue, Flag, Scaled as ScaledValue}
-use Rattle.vlog_literals.specs.Spelled.{spelled_literal}
+use Rattle.vlog_values.specs.Spelled.{spelled_literal}
 use Rattle.vlog_values.specs.declared.expression.Const.{Const}
 use Rattle.vlog_values.specs.declared.expression.Const.TheVariants.{Str, Number, Real, Lit}
 use Rattle.vlog_values.specs.declared.literal.Literal.{Literal}

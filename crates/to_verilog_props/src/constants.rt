@@ -5,8 +5,7 @@ ghost use Rattle.to_verilog_props.specs.Constants.{attr_const, param_const, text
 
 use nl_base::{NoMemory, PropValue, Text};
 use std::alloc::Global;
-use vlog_literals::literal_of;
-use vlog_values::{Base, Based, Const, Literal};
+use vlog_values::{Base, Based, Const, Literal, literal_of};
 
 /// The literal `1'b0` or `1'b1`.
 pub fn bit_literal(alloc: Global, one: bool) -> Result<Literal, NoMemory>

@@ -13,8 +13,8 @@ use Rattle.to_verilog_props.specs.Constants.{attr_const, lit_or, param_const}
 use Rattle.to_verilog_props.specs.Written.{attr_of, attrs_of, given_attrs, given_params, is_param, param_of}
 use Rattle.to_verilog_rules.specs.Rules.{is_graphic, is_name}
 use Rattle.to_verilog_values.specs.Kept.{HaveGoodNames}
-use Rattle.vlog_literals.specs.Spelled.{are_digits, spelled_literal}
-use Rattle.vlog_literals.proofs.SpelledLaws.{digits_are, spelled_is}
+use Rattle.vlog_values.specs.Spelled.{are_digits, spelled_literal}
+use Rattle.vlog_values.proofs.SpelledLaws.{digits_are, spelled_is}
 use Rattle.vlog_values.specs.Values.{AreAttrs, IsConst, IsLiteral, IsName, IsParamSet}
 use Rattle.vlog_values.specs.declared.literal.Base.TheVariants.{Binary}
 use Rattle.vlog_values.specs.declared.literal.Literal.{Literal}

@@ -13,8 +13,7 @@ use crate::widths::{position, times};
 use net_hier::Node;
 use nl_base::{NoMemory, Range};
 use std::alloc::Global;
-use vlog_literals::{FilledBits, filled_bits_of};
-use vlog_values::{Bit, Expr, Select};
+use vlog_values::{Bit, Expr, FilledBits, Select, filled_bits_of};
 
 /// The positions that a select means.
 #[tactic(auto, unfolding(crate::specs::Ranges::selected))]

@@ -2,8 +2,7 @@
 use nl_base::Text;
 use std::alloc::Global;
 use std::test::Fail;
-use vlog_literals::{bits_of, literal_of};
-use vlog_values::Bit;
+use vlog_values::{Bit, bits_of, literal_of};
 
 fn letter(bit: Bit) -> u8 {
     match bit {

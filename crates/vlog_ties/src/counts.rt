@@ -15,9 +15,8 @@ use std::alloc::Global;
 use vlog_design::names::Names;
 use vlog_design::table::Table;
 use vlog_design::widths::{expr_width, range_width, selected_width, times};
-use vlog_literals::filled_bits_of;
 use vlog_rules::passes::ModuleScope;
-use vlog_values::{Bit, Expr};
+use vlog_values::{Bit, Expr, filled_bits_of};
 
 fn is_live(bit: Bit) -> bool
     ensures { result ≡ is_live bit }
