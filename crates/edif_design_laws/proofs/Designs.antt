@@ -2,11 +2,9 @@
 use Rattle.std.proofs.Common.{◌≡◌, ℕ, true, false, List, [], ◌∷◌, None, Some, IfSome, map, sym, subst}
 use Rattle.std.specs.Prelude.{slice_get}
 use Rattle.std.specs.List.{AllByRecursion}
-use Rattle.edif_values.specs.Proper.{AreBytes}
 use Rattle.edif_values.specs.Names.{original}
 use Rattle.edif_values.specs.Values.{IsInstance, IsNet, IsPort}
 use Rattle.edif_values.specs.declared.port.Port.{Port}
-use Rattle.edif_library.specs.Text.{EdifReads}
 use Rattle.edif_values.specs.declared.file.EdifFile.{EdifFile}
 use Rattle.edif_design.specs.CellRules.{is_bad_size, size_of}
 use Rattle.edif_design.specs.Design.{cell_value, edif_cells, edif_design, instance_value, net_value, numbers_in_design, port_value}
@@ -15,7 +13,6 @@ use Rattle.edif_design.specs.Parts.{instances, nets, numbered, ports}
 use Rattle.edif_design.specs.Reach.{is_reached}
 use Rattle.edif_design.specs.References.{CellPlace, LinkedCell, all_cells, linked_cell}
 use Rattle.edif_values.specs.Values as values
-use Rattle.edif_rereading.proofs.Kept.{read_values}
 use Rattle.edif_resolve.specs.Answers.{IsDesignOf}
 use Rattle.edif_resolve.proofs.Clean.{ports_clean, reached_clean}
 use Rattle.edif_resolve.proofs.Renumbering.{ComesFrom, design_from}
@@ -71,6 +68,3 @@ said_sound file design good none cells props =
 
 pub answered_sound : (file : EdifFile) (design : Design) → values.IsEdifValue file → IsDesignOf file design → IsSound design
 answered_sound file design good is = said_sound file design good is.no_refusal is.same_cells is.same_props
-
-pub read_sound : (bytes : List ℕ) (file : EdifFile) (design : Design) → AreBytes bytes → EdifReads bytes file → IsDesignOf file design → IsSound design
-read_sound bytes file design all reads is = answered_sound file design (read_values bytes file all reads) is

@@ -29,7 +29,7 @@ use Rattle.edif_values.specs.declared.file.EdifFile.{EdifFile}
 use Rattle.edif_library.specs.Grammar.{file}
 use Rattle.edif_library.specs.Text.{EdifReads, EdifFault, EdifCut}
 use Rattle.edif_library.proofs.Live.{live_file, closed_file}
-use Rattle.edif_sizes.proofs.Tokens.{read_within}
+use Rattle.edif_limits.proofs.Tokens.{read_within}
 use Rattle.edif_library.specs.AnyLength.{EdifSpells, EdifFails}
 use Rattle.grammar_laws.proofs.Ending.{whole_ends}
 use Rattle.grammar_laws.proofs.Existing.{fault_exists}

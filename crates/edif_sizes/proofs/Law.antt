@@ -16,7 +16,8 @@ use Rattle.edif_library.specs.Grammar.{file}
 use Rattle.edif_values.specs.Sizes.{edif_size}
 use Rattle.edif_library.specs.Text.{EdifReads}
 use Rattle.edif_sizes.proofs.Library.{bounded_file}
-use Rattle.edif_sizes.proofs.Tokens.{few_tokens, read_within}
+use Rattle.edif_limits.proofs.Law.{reads}
+use Rattle.edif_limits.proofs.Tokens.{few_tokens}
 
 -- the end of the input is no token of a file
 whole_size : (ts : List (Terminal Found Place)) (v : EdifFile) → Spells [] (whole trailing (file [])) ts v → suc (edif_size v) ≤ length ts
@@ -53,7 +54,7 @@ tokens_within bs = few_tokens place_at_start bs
 
 -- Bytes that read as a file are within the limit of an input.
 pub input_within : (bs : List ℕ) (v : EdifFile) → EdifReads bs v → length bs ≤ LIMIT
-input_within bs v reads = let h = read_within place_at_start bs reads.1 in omega (arith, h)
+input_within bs v h = ((reads bs v).0 h).1
 
 -- So the size of the file is.
 pub file_within : (bs : List ℕ) (v : EdifFile) → EdifReads bs v → edif_size v ≤ LIMIT

@@ -2,5 +2,4 @@ pub mod Bounds
 pub mod Status
 pub mod Nets
 pub mod Library
-pub mod Tokens
 pub mod Law

@@ -4,8 +4,8 @@ use Rattle.nl_io.specs.Sinks.{Receipt}
 use Rattle.nl_io.specs.declared.source.Failed.{Failed}
 use Rattle.nl_output.specs.Writing.{Writes}
 use Rattle.nl_io.specs.Sources.{Supply}
-use Rattle.vectors_line.specs.Lines.{IsGeneratedLine}
 use Rattle.netlist_words.specs.declared.command.Command.TheVariants as commands
+use Rattle.netlist_cli.specs.Generated.{IsGeneratedLine}
 use Rattle.netlist_cli.specs.Meanings.{meaning_of}
 use Rattle.netlist_cli.specs.Outcomes.{IsTextFrom}
 use Rattle.netlist_cli.specs.Runs.{Does, EndsUnread}

@@ -28,7 +28,6 @@ use Rattle.to_spice.specs.Answers.{IsSpiceFor}
 use Rattle.to_spice_rules.specs.Answers.{KeepsRules}
 use Rattle.to_verilog.specs.Answers.{IsVerilogFor}
 use Rattle.to_verilog_rules.specs.Rules.{first_V}
-use Rattle.vectors_line.specs.Lines.{IsGeneratedLine}
 use Rattle.vlog_design.specs.Design.{vlog_design}
 use Rattle.vlog_design.specs.Names.{Name}
 use Rattle.vlog_design.specs.Rules.{first_G}
@@ -37,6 +36,7 @@ use Rattle.vlog_elab.specs.Answers as verilog_answers
 use Rattle.vlog_modules.specs.Text.{VlogReads, VlogFault, VlogCut}
 use Rattle.vlog_values.specs.declared.module.VlogFile.{VlogFile}
 use Rattle.vlog_writer.specs.Forms.{vlog_text}
+use Rattle.netlist_cli.specs.Generated.{IsGeneratedLine}
 use Rattle.netlist_words.specs.declared.command.Command.{Command}
 use Rattle.netlist_words.specs.declared.command.Command.TheVariants as commands
 use Rattle.netlist_cli.specs.Outcomes.{FileLanguage, Meaning, SaidThen, Verdict, fine, breaks, breaks_of_tool, exceeds, exceeds_flat, or_refused, or_too_flat, said_first, said_of_count}

@@ -19,7 +19,8 @@
 // of these and of the top, and connects the same of them.
 //
 // `generate SEED CELLS` reads nothing, and ends with its work done, by a failure of the output or for want of memory. What is written is the
-// line of the file that is generated of these numbers (crate `vectors_line`).
+// line of the file that is generated of these numbers (crates `vectors` and `vectors_line`): the file's own text is read again, and the design
+// that it says is translated.
 //
 // `run` does what the words ask for: it reads the input to its end or to its first fault, and writes nothing before all is known. Its contract
 // says for each status when it comes and what was written then:

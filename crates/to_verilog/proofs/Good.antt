@@ -40,9 +40,9 @@ use Rattle.to_verilog_items.specs.Assigns.{assign_of, assigned, assigns_among, a
 use Rattle.to_verilog_items.specs.Exprs.{bit_of, hub_expr, port_expr}
 use Rattle.to_verilog_items.specs.Header.{plain_port}
 use Rattle.to_verilog_items.specs.Instances.{below_ports, conn_of, connected, instance_of}
-use Rattle.to_verilog_cells.specs.Modules.{IsWritable, plain_of}
-use Rattle.to_verilog_cells.proofs.Listed.{mapped_at, there_at, there_below}
-use Rattle.to_verilog_cells.proofs.Partner.{pin_of}
+use Rattle.to_verilog.specs.Modules.{IsWritable, plain_of}
+use Rattle.to_verilog.proofs.Listed.{mapped_at, there_at, there_below}
+use Rattle.to_verilog.proofs.Partner.{pin_of}
 use Rattle.to_verilog_values.specs.Kept.{HaveGoodNames, IsNamedCell, IsNamedObject}
 use Rattle.to_verilog_values.specs.Writable.{IsGoodInstance, IsGoodModule, IsGoodPort, IsGoodWire}
 use Rattle.to_verilog_values.proofs.Plain.{cat_is, constant_is, port_is, port_is_left, wire_is, wire_is_left}

@@ -9,7 +9,7 @@ use Rattle.net_hier.specs.declared.cells.HCell.{HCell}
 use Rattle.net_hier.specs.declared.cells.HInst.{HInst}
 use Rattle.net_hier.specs.declared.cells.HProp.{HProp}
 use Rattle.to_verilog_props.specs.Written.{HaveNoFlags}
-use Rattle.to_verilog_cells.specs.Modules.{IsWritable}
+use Rattle.to_verilog.specs.Modules.{IsWritable}
 use Rattle.to_verilog_rules.specs.Rules.{first_V}
 use Rattle.to_verilog_values.proofs.Broken.{named_cell, own_cells as no_cell_twice}
 use Rattle.vlog_design.specs.Names.{clashing}

@@ -7,8 +7,8 @@ use Rattle.net_values.specs.Sound.{IsSound}
 use Rattle.net_hier.specs.Design.{Design, below_of, cells_below}
 use Rattle.net_hier.specs.Valid.{IsHier, IsValid}
 use Rattle.to_verilog_rules.specs.Rules.{first_V}
-use Rattle.to_verilog_cells.specs.Modules.{IsModuleOf, plain_of}
-use Rattle.to_verilog_cells.proofs.Listed.{there_below}
+use Rattle.to_verilog.specs.Modules.{IsModuleOf, plain_of}
+use Rattle.to_verilog.proofs.Listed.{there_below}
 use Rattle.to_verilog_values.proofs.Broken.{good_design, named_cell}
 use Rattle.to_verilog_values.proofs.Plain.{module_is}
 use Rattle.vlog_partners.specs.Partners.{AreWritten, IsWritten}

@@ -10,7 +10,7 @@ use Rattle.vlog_design_laws.specs.Designs.{IsVlogDesign}
 use Rattle.vlog_partners.specs.Partners.{IsWritten}
 use Rattle.vlog_values.specs.declared.module.Module.{Module}
 use Rattle.vlog_values.specs.declared.module.VlogFile.{VlogFile}
-use Rattle.to_verilog_cells.specs.Modules.{IsModuleOf}
+use Rattle.to_verilog.specs.Modules.{IsModuleOf}
 use Rattle.to_verilog_rules.specs.Rules.{first_V}
 use Rattle.to_verilog.specs.declared.translate.TargetError.{TargetError}
 use Rattle.to_verilog.specs.declared.translate.TargetError.TheVariants.{Refused, NoMemory}

@@ -6,11 +6,11 @@ ghost use Rattle.to_verilog_rules.specs.Rules.{first_V};
 ghost use Rattle.to_verilog.specs.Answers.{IsTargetFault, IsTranslated};
 ghost use Rattle.vlog_values.specs.Values.{IsVlogValue};
 
+use crate::modules::module_of;
 use net_bits::Names;
 use net_hier::Hier;
 use nl_base::{NoMemory, Refusal, Seq};
 use std::alloc::Global;
-use to_verilog_cells::module_of;
 use to_verilog_rules::first_refusal;
 use vlog_values::VlogFile;
 

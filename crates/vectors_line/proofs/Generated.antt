@@ -18,7 +18,7 @@ use Rattle.vectors.specs.Files.{generated}
 use Rattle.vectors_laws.proofs.Values.{file_is}
 use Rattle.vectors_laws.proofs.Whole.{design_fits, no_target_rule, none_broken}
 use Rattle.vectors_line.specs.Lines.{no_params}
-use Rattle.vectors_texts.proofs.Whole.{text_reads_back}
+use Rattle.vectors_line.proofs.Whole.{text_reads_back}
 
 pub file_reads : (seed cells : ℕ) (file : EdifFile) → file ≡ generated seed cells → cells ≤ 100000 → EdifReads (edif_text file) file
 file_reads seed cells file same few = subst (λ (f : EdifFile). EdifReads (edif_text f) f) (sym same) (text_reads_back seed cells few)

@@ -1,13 +1,8 @@
 -- The line of a generated file.
-use Rattle.std.specs.Prelude.{◌≡◌, ℕ, ◌-◌, ◌^◌, false, min, List, [], ◌++◌, length, codes}
+use Rattle.std.specs.Prelude.{ℕ, ◌-◌, ◌^◌, false, min, List, [], ◌++◌, length, codes}
 use Rattle.std.specs.Fmt.{decimal}
-use Rattle.edif_resolve.specs.Answers.{IsDesignOf}
 use Rattle.net_bits.specs.Names.{NameSet}
-use Rattle.net_hier.specs.Design.{Design}
-use Rattle.to_verilog.specs.Answers.{IsTranslated}
-use Rattle.vectors.specs.Files.{generated}
 use Rattle.vectors.specs.Numbers.{swapped_count}
-use Rattle.vlog_values.specs.Values.{IsVlogValue}
 use Rattle.vlog_values.specs.declared.module.VlogFile.{VlogFile}
 use Rattle.vlog_writer.specs.Forms.{vlog_text}
 
@@ -28,12 +23,6 @@ numbers_line cells swapped leaves bytes =
 abbrev pub no_params : NameSet
 no_params = record { up_to_case = false; names = [] }
 
--- the line of the generated file of a seed and so many cells. Its last number is the length of the text of modules that can be written and are the same as the design of
--- that file: cell by cell, and so as a whole, whichever cells stand for the constants
-pub record IsGeneratedLine (seed cells : ℕ) (line : List ℕ) : Type 0 where
-  pub design : Design
-  pub is_design : IsDesignOf (generated seed cells) design
-  pub modules : VlogFile
-  pub translated : IsTranslated design no_params modules
-  pub value : IsVlogValue modules
-  pub is_line : line ≡ numbers_line cells (swapped_count seed cells) (leaf_count cells) (saturated (length (vlog_text modules)))
+-- the line of the generated file of a seed and so many cells, of which these are the modules: its last number is the length of their text
+abbrev pub generated_line : ℕ → ℕ → VlogFile → List ℕ
+generated_line seed cells modules = numbers_line cells (swapped_count seed cells) (leaf_count cells) (saturated (length (vlog_text modules)))

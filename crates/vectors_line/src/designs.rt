@@ -1,4 +1,4 @@
-// The design of a generated file, and its modules.
+// The design of a generated file.
 ghost use Rattle.std.specs.Prelude.{◌≡◌, ◌<◌, ◌≤◌, ◌^◌, None, IfOk};
 ghost use Rattle.edif_design.specs.Design.{edif_design};
 ghost use Rattle.edif_design.specs.FileRules.{first_E};
@@ -6,26 +6,17 @@ ghost use Rattle.edif_values.specs.Sizes.{edif_size};
 ghost use Rattle.edif_library.specs.Text.{EdifReads};
 ghost use Rattle.edif_resolve.specs.Answers.{IsDesignOf};
 ghost use Rattle.edif_writer.specs.Forms.{edif_text};
-ghost use Rattle.net_bits.specs.Names.{has_name};
 ghost use Rattle.net_hier.specs.Units.{units};
 ghost use Rattle.net_hier.specs.Valid.{count_limit, unit_limit};
-ghost use Rattle.net_values.specs.Sound.{IsSound};
-ghost use Rattle.to_verilog.specs.Answers.{IsTranslated};
-ghost use Rattle.to_verilog_rules.specs.Rules.{first_V};
 ghost use Rattle.vectors.specs.Files.{generated};
-ghost use Rattle.vectors_line.specs.Lines.{no_params};
-ghost use Rattle.vlog_values.specs.Values.{IsVlogValue};
 
 use crate::texts::{file_of, text_of};
 use edif_library::EdifFile;
 use edif_resolve::{ResolveError, resolve};
-use net_bits::Names;
 use net_hier::Hier;
 use nl_base::NoMemory;
 use std::alloc::Global;
-use to_verilog::{TargetError, to_verilog};
 use vectors::generate;
-use vlog_values::VlogFile;
 
 /// The file that the text of a file reads as, which is the file itself.
 #[tactic(auto, using(crate::proofs::Again::same_file, crate::proofs::Again::text_short, crate::proofs::Again::text_is_one))]
@@ -56,24 +47,6 @@ fn design_of(alloc: Global, file: &EdifFile) -> Result<Hier, NoMemory>
     }
 }
 
-/// The modules of a design that breaks no rule of Verilog as a target.
-fn modules_of(alloc: Global, design: &Hier) -> Result<VlogFile, NoMemory>
-    requires rules { first_V design.now.cells design.now.top design.now.props (has_name no_params)
-        ≡ None }
-    requires sound { IsSound design.now }
-    ensures translated { IfOk result (IsTranslated design.now no_params) }
-    ensures value { IfOk result IsVlogValue }
-{
-    let params = Names::new(alloc, false);
-    match to_verilog(alloc, design, &params) {
-        Ok(modules) => Ok(modules),
-        Err(error) => match error {
-            TargetError::Refused(_) => unreachable!(),
-            TargetError::NoMemory => Err(NoMemory),
-        },
-    }
-}
-
 /// The generated file, as its text reads.
 #[tactic(auto, using(crate::proofs::Generated::file_reads))]
 fn generated_again(alloc: Global, seed: u64, cells: u32) -> Result<EdifFile, NoMemory>
@@ -87,9 +60,13 @@ fn generated_again(alloc: Global, seed: u64, cells: u32) -> Result<EdifFile, NoM
     Ok(read)
 }
 
-/// The design of the generated file.
+/// The design of the generated file: the file is written to memory, read again and resolved.
+///
+/// # Errors
+/// `NoMemory`: memory ran out. Nothing else is answered: that the text of the file is within the limit of an input and reads as the file, that
+/// the file breaks no rule, and that its design is within its limit is proved.
 #[tactic(auto, using(crate::proofs::Generated::file_clean, crate::proofs::Generated::file_fits, crate::proofs::Generated::design_of_same))]
-pub(crate) fn generated_design(alloc: Global, seed: u64, cells: u32) -> Result<Hier, NoMemory>
+pub fn generated_design(alloc: Global, seed: u64, cells: u32) -> Result<Hier, NoMemory>
     requires some { 0 < cells }
     requires few { cells ≤ 100000 }
     ensures { IfOk result (IsDesignOf (generated seed cells)) }
@@ -97,21 +74,4 @@ pub(crate) fn generated_design(alloc: Global, seed: u64, cells: u32) -> Result<H
     let file = generated_again(alloc, seed, cells)?;
     let design = design_of(alloc, &file)?;
     Ok(design)
-}
-
-/// The modules of the design of the generated file.
-#[tactic(auto, using(crate::proofs::Generated::target_clean, crate::proofs::Generated::design_sound))]
-pub(crate) fn generated_modules(
-    alloc: Global,
-    seed: u64,
-    cells: u32,
-    design: &Hier,
-) -> Result<VlogFile, NoMemory>
-    requires some { 0 < cells }
-    requires design { IsDesignOf (generated seed cells) design.now }
-    ensures translated { IfOk result (IsTranslated design.now no_params) }
-    ensures value { IfOk result IsVlogValue }
-{
-    let modules = modules_of(alloc, design)?;
-    Ok(modules)
 }

@@ -1,13 +1,13 @@
 // The line of a generated file.
-ghost use Rattle.std.specs.Prelude.{◌≡◌, ◌<◌, ◌≤◌, ◌++◌, IfOk, OnOk};
+ghost use Rattle.std.specs.Prelude.{◌≡◌, ◌++◌, IfOk, OnOk};
 ghost use Rattle.std.specs.Fmt.{decimal};
-ghost use Rattle.vectors_line.specs.Lines.{IsGeneratedLine, leaf_count as leaf_count_of, numbers_line};
+ghost use Rattle.vectors_line.specs.Lines.{generated_line as line_said, leaf_count as leaf_count_of, numbers_line};
 
-use crate::designs::{generated_design, generated_modules};
 use crate::texts::vlog_length;
 use nl_base::{NoMemory, Text, spell_u64};
 use std::alloc::Global;
 use vectors::swapped;
+use vlog_values::VlogFile;
 
 /// How many leaves the design of so many generated cells has, or the greatest `u64` where there are more.
 fn leaf_count(cells: u32) -> u64
@@ -53,19 +53,16 @@ fn line_of(
     Ok(text)
 }
 
-/// The line of the generated file of a seed and so many cells: the file is written to memory, read again, resolved and translated.
-///
-/// # Errors
-/// `NoMemory`: memory ran out. Nothing else is answered: that the text of the file is within the limit of an input and reads as the file, that
-/// the file and its design break no rule, and that the design is within its limit is proved.
-pub fn generated_line(alloc: Global, seed: u64, cells: u32) -> Result<Text, NoMemory>
-    requires some { 0 < cells }
-    requires few { cells ≤ 100000 }
-    ensures { IfOk result (IsGeneratedLine seed cells) }
+/// The line of the generated file of a seed and so many cells, of which these are the modules.
+pub fn generated_line(
+    alloc: Global,
+    seed: u64,
+    cells: u32,
+    modules: &VlogFile,
+) -> Result<Text, NoMemory>
+    ensures { IfOk result (λ line. line ≡ line_said seed cells modules.now) }
 {
-    let design = generated_design(alloc, seed, cells)?;
-    let modules = generated_modules(alloc, seed, cells, &design)?;
-    let bytes = vlog_length(&modules);
+    let bytes = vlog_length(modules);
     let line = line_of(
         alloc,
         cells as u64,

@@ -51,9 +51,9 @@ use Rattle.to_verilog_items.specs.Assigns.{assign_of, assigns_among, member_assi
 use Rattle.to_verilog_items.specs.Exprs.{hub_expr}
 use Rattle.to_verilog_items.specs.Header.{plain_port}
 use Rattle.to_verilog_items.specs.Instances.{below_ports, conn_of, connected, instance_of, pin_expr, pin_exprs}
-use Rattle.to_verilog_cells.specs.Modules.{IsModuleOf, IsWritable, plain_of}
-use Rattle.to_verilog_cells.proofs.Listed.{all_given, from_mapped, given_at, made_at, made_count, made_names, mapped_item, one_item, same_names, there_at, there_below}
-use Rattle.to_verilog_cells.proofs.Sides.{HasExpr, hub_found, outer_sides}
+use Rattle.to_verilog.specs.Modules.{IsModuleOf, IsWritable, plain_of}
+use Rattle.to_verilog.proofs.Listed.{all_given, from_mapped, given_at, made_at, made_count, made_names, mapped_item, one_item, same_names, there_at, there_below}
+use Rattle.to_verilog.proofs.Sides.{HasExpr, hub_found, outer_sides}
 
 -- a node of a class that is written
 class_of_live : (groups : GroupTable) (o : Option ℕ) (class : ℕ) → option_and_then (if_live groups) o ≡ Some class → (o ≡ Some class) × (slice_index_or groups.live class false ≡ true)

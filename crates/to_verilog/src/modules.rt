@@ -7,7 +7,7 @@ ghost use Rattle.net_hier.specs.declared.cells.HCell.{HCell as CellValue};
 ghost use Rattle.to_verilog_items.specs.Assigns.{assigns_of};
 ghost use Rattle.to_verilog_items.specs.Instances.{below_ports, instances_of};
 ghost use Rattle.to_verilog_props.specs.Written.{attrs_of};
-ghost use Rattle.to_verilog_cells.specs.Modules.{AreItems, IsModuleOf, IsWritable};
+ghost use Rattle.to_verilog.specs.Modules.{AreItems, IsModuleOf, IsWritable};
 ghost use Rattle.vlog_partners.specs.Partners.{IsWritten};
 ghost use Rattle.vlog_written.specs.Written.{assign_item, instance_item};
 

@@ -11,7 +11,7 @@ use Rattle.nl_bytes.specs.declared.bytes.TheConstants.{LIMIT}
 use Rattle.vectors.specs.Cells.{cell, contents, contents_of}
 use Rattle.vectors.specs.Files.{generated}
 use Rattle.vectors.specs.Numbers.{is_swapped}
-use Rattle.vectors_texts.proofs.Counting.{block_bytes, laid_length, lines_bytes}
+use Rattle.vectors_line.proofs.Counting.{block_bytes, laid_length, lines_bytes}
 
 few_digits : (k : ℕ) → k < 2 ^ 64 → length (decimal k) ≤ 20
 few_digits k lt = length-decimal-le 20 k (omega arith) (omega (arith, lt)) lt

@@ -23,8 +23,8 @@ use Rattle.net_hier.specs.Facts.{cell_props}
 use Rattle.to_verilog_items.specs.Assigns.{assigns_of}
 use Rattle.to_verilog_items.specs.Header.{plain_port}
 use Rattle.to_verilog_items.specs.Instances.{below_ports, instances_of}
-use Rattle.to_verilog_cells.specs.Modules.{AreItems, IsModuleOf}
-use Rattle.to_verilog_cells.proofs.Listed.{there_below}
+use Rattle.to_verilog.specs.Modules.{AreItems, IsModuleOf}
+use Rattle.to_verilog.proofs.Listed.{there_below}
 
 -- ---- sizes
 part_of_sum : {X : Type 0} (f : X → ℕ) (xs : List X) (i : ℕ) (x : X) → slice_get xs i ≡ Some x → f x ≤ sum_by f xs

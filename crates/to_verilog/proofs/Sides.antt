@@ -27,8 +27,8 @@ use Rattle.to_verilog_wires.specs.declared.hubs.Hub.TheVariants as hubs
 use Rattle.to_verilog_items.specs.Assigns.{assigned, constant_assign, feeds, is_port, member_assign, port_assign}
 use Rattle.to_verilog_items.specs.Exprs.{bit_of, hub_expr, port_expr}
 use Rattle.to_verilog_items.specs.Header.{plain_port}
-use Rattle.to_verilog_cells.specs.Modules.{plain_of}
-use Rattle.to_verilog_cells.proofs.Listed.{mapped_at, there_below}
+use Rattle.to_verilog.specs.Modules.{plain_of}
+use Rattle.to_verilog.proofs.Listed.{mapped_at, there_below}
 
 passes : (a b : ℕ) → a < b → nat_lt a b ≡ true
 passes a b h = grind (arith, nat_tests, h)

@@ -1,7 +1,7 @@
 use Rattle.std.proofs.Common.{sym, subst, length, ◌<◌, ◌≤◌, ◌^◌}
 use Rattle.to_verilog_items.specs.Instances.{below_ports}
-use Rattle.to_verilog_cells.proofs.Fits.{few_below, few_joins, made_items}
-use Rattle.to_verilog_cells.proofs.modules.items_of.Goals as goal
+use Rattle.to_verilog.proofs.Fits.{few_below, few_joins, made_items}
+use Rattle.to_verilog.proofs.modules.items_of.Goals as goal
 
 pub of_cell-requires-clause-few : goal.of_cell-requires-clause-few
 of_cell-requires-clause-few c = few_joins c.args.hier.now c.cells-cells.ensures.valid c.args.number c.args.cell.now c.requires

@@ -1,7 +1,7 @@
 use Rattle.std.proofs.Common.{◌∙◌}
-use Rattle.to_verilog_cells.proofs.Fits.{cell_there, module_is}
-use Rattle.to_verilog_cells.proofs.Partner.{written_for}
-use Rattle.to_verilog_cells.proofs.modules.module_of.Goals as goal
+use Rattle.to_verilog.proofs.Fits.{cell_there, module_is}
+use Rattle.to_verilog.proofs.Partner.{written_for}
+use Rattle.to_verilog.proofs.modules.module_of.Goals as goal
 
 pub returns-clause-plain : goal.returns-clause-plain
 returns-clause-plain c =

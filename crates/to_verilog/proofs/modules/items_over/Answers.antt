@@ -1,5 +1,5 @@
-use Rattle.to_verilog_cells.proofs.Fits.{added_items}
-use Rattle.to_verilog_cells.proofs.modules.items_over.Goals as goal
+use Rattle.to_verilog.proofs.Fits.{added_items}
+use Rattle.to_verilog.proofs.modules.items_over.Goals as goal
 
 pub returns : goal.returns
 returns c =

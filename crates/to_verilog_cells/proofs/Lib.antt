@@ -1,4 +1,0 @@
-pub mod Fits
-pub mod Listed
-pub mod Sides
-pub mod Partner

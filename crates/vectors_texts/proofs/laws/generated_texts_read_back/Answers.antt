@@ -1,5 +1,0 @@
-use Rattle.vectors_texts.proofs.Whole.{text_reads_back}
-use Rattle.vectors_texts.proofs.laws.generated_texts_read_back.Goals as goal
-
-pub returns : goal.returns
-returns c = text_reads_back
