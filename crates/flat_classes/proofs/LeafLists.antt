@@ -7,8 +7,9 @@ use Rattle.std.proofs.lemmas.Grind.{flat_map-append}
 use Rattle.std.proofs.lemmas.List.FromFn.{length-range_with_len}
 use Rattle.std.proofs.lemmas.List.Elements.{Contains-append_cases}
 use Rattle.std.proofs.lemmas.List.Sums.{sum_by-cons}
-use Rattle.std.proofs.lemmas.Option.{slice_get-get_or}
+use Rattle.std.proofs.lemmas.Option.{slice_get-get_or, slice_get_within}
 use Rattle.net_hier.specs.Cells.{width_of}
+use Rattle.net_hier.specs.Constants.{ConstantNames}
 use Rattle.net_hier.specs.Design.{Design, IsCell}
 use Rattle.net_hier.specs.FlatCount.{FlatCount}
 use Rattle.net_hier.specs.Valid.{IsValid}
@@ -16,7 +17,7 @@ use Rattle.net_hier.specs.declared.cells.HCell.{HCell}
 use Rattle.net_hier.specs.declared.cells.HPort.{HPort}
 use Rattle.flat_numbers.specs.Numbers.{AreBases, CellOf}
 use Rattle.flat_numbers.specs.Tables.{HasFewBits}
-use Rattle.flat_classes.specs.Terminals.{bits_of_ports, ports_at}
+use Rattle.flat_classes.specs.Terminals.{AreFlatClasses, FlatValue, IsLeafSpot, bits_of_ports, ports_at}
 use Rattle.flat_numbers.specs.declared.spots.Spot.{Spot}
 use Rattle.flat_classes.proofs.GroupLists.{filter_range}
 use Rattle.flat_classes.proofs.KindLaws.{first_or_rest, in_first, in_rest, nothing_in, part_of_sum}
@@ -167,3 +168,8 @@ module _ (cells : List HCell) (spots : List Spot) (base : ℕ → ℕ) (count : 
     where
       suc_range : (n : ℕ) (p : ℕ → Bool) → filter p (range_with_len 0 (suc n)) ≡ filter p (range_with_len 0 n) ++ cond (p n) (n ∷ []) []
       suc_range n p = let e : suc n ≡ n + 1 = omega arith in ap (λ k. filter p (range_with_len 0 k)) e ∙ filter_range p n (p n) refl
+
+-- ---- the spots of the leaves are there
+pub leaves_within : (names : ConstantNames) (design : Design) (flat : FlatValue) → AreFlatClasses names design flat → All (λ leaf. leaf < length flat.spots) flat.leaves
+leaves_within names design flat are =
+    all_of (λ leaf. leaf < length flat.spots) flat.leaves (λ leaf c. let h : IsLeafSpot names design.cells flat.spots leaf = (are.are_leaves.are leaf).0 c in slice_get_within flat.spots leaf h.of_cell.spot h.of_cell.is_spot)

@@ -1,9 +1,9 @@
 -- the terminals, and the places of groups
 use Rattle.std.proofs.Common.{◌≡◌, ℕ, zero, suc, ◌+◌, ◌<◌, inl, inr, List, [], ◌∷◌, ◌++◌, refl, sym, ◌∙◌, ap, subst, slice_get, get_or, drop, Some, Bool, cond, true, false, not, ◌==◌, length, map, filter, arith}
-use Rattle.std.specs.Prelude.{All, Contains, slice_index_or}
+use Rattle.std.specs.Prelude.{Contains, slice_index_or}
 use Rattle.std.specs.List.{range_with_len}
 use Rattle.std.proofs.lemmas.List.{length-map}
-use Rattle.std.proofs.lemmas.Option.{slice_get-get_or, slice_get_within}
+use Rattle.std.proofs.lemmas.Option.{slice_get-get_or}
 use Rattle.std.proofs.lemmas.List.Elements.{Contains-append_cases}
 use Rattle.net_hier.specs.Cells.{IsPortBit, width_of}
 use Rattle.net_hier.specs.Constants.{ConstantNames}
@@ -18,7 +18,7 @@ use Rattle.flat_classes.specs.Terminals.{AreFlatClasses, FlatValue, IsLeafSpot, 
 use Rattle.flat_classes.specs.declared.flat.Terminal.{Terminal}
 use Rattle.flat_classes.specs.declared.flat.Terminal.TheVariants.{Port, Pin, Zero, One}
 use Rattle.flat_classes.proofs.KindLaws.{first_or_rest, from_flat, nothing_in}
-use Rattle.flat_classes.proofs.LeafLists.{all_of, from_bits, from_filter}
+use Rattle.flat_classes.proofs.LeafLists.{from_bits, from_filter}
 use Rattle.flat_classes.proofs.TerminalLaws.{ports_read}
 use Rattle.edif_writer.specs.Strings.{quoted}
 use Rattle.net_hier.specs.Paths.{Path}
@@ -27,10 +27,6 @@ use Rattle.flat_report.specs.Report.{name_then, terminal_then, terminals_then}
 use Rattle.flat_classes.specs.Ways.{IsTerminal, a_port, a_pin, is_zero, is_one}
 
 module _ (names : ConstantNames) (design : Design) (flat : FlatValue) (are : AreFlatClasses names design flat) where
-  -- the spots of the leaves are there
-  pub leaves_within : All (λ leaf. leaf < length flat.spots) flat.leaves
-  leaves_within = all_of (λ leaf. leaf < length flat.spots) flat.leaves (λ leaf c. let h : IsLeafSpot names design.cells flat.spots leaf = (are.are_leaves.are leaf).0 c in slice_get_within flat.spots leaf h.of_cell.spot h.of_cell.is_spot)
-
   facts : SpotFacts design.cells design.top flat.spots
   facts = spot_facts design.cells design.top flat.spots are.are_spots
 

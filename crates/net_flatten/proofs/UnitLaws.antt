@@ -21,7 +21,7 @@ use Rattle.flat_numbers.specs.Spots.{top_spot}
 use Rattle.flat_numbers.specs.declared.spots.Spot.{Spot}
 use Rattle.net_flatten.proofs.Fits.{cells, leaves, numbers, number_leaf, numbers_once, leaf_spot, the_face, the_top}
 use Rattle.net_flatten.proofs.Sums.{once_filter, sum_at_most, sum_filtered, sum_mapped, sum_within, valued_few}
-use Rattle.net_flatten_refusals.proofs.MarkLaws.{inner_within}
+use Rattle.net_flatten_rules.proofs.MarkLaws.{inner_within}
 use Rattle.net_flatten_cells.proofs.NetLaws.{groups_few}
 use Rattle.net_flatten_cells.proofs.OrderLaws.{StandOnce}
 use Rattle.net_flatten_cells.proofs.SizeLaws.{bits_of, filtered_few, spots_weigh, weighs_one, weight}

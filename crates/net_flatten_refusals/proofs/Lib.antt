@@ -1,7 +1,6 @@
 pub mod DigestedLaws
 pub mod Lists
 pub mod LongLaws
-pub mod MarkLaws
 pub mod NameDigests
 pub mod RepeatLaws
 pub mod ShortLaws

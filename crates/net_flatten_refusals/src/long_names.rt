@@ -6,11 +6,11 @@ ghost use Rattle.net_flatten_refusals.specs.LongNames.{long_leaf, refused_face, 
 ghost use Rattle.net_flatten_rules.specs.Rules.{IsFirst, first_of, long_in_design};
 ghost use Rattle.net_hier.specs.Paths.{Path};
 
-use crate::at_leaves::leaf_cells;
 use crate::repeats::name_at;
 use flat_classes::Spot;
 use net_flatten_rules::{
-    Broken, FlattenRule, Long, in_face, in_props, instance_at, is_long, refuse_one, refuse_two,
+    Broken, FlattenRule, Long, in_face, in_props, instance_at, is_long, leaf_cells, refuse_one,
+    refuse_two,
 };
 use net_hier::{HCell, Hier};
 use nl_base::NoMemory;

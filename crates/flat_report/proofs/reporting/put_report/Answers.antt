@@ -5,7 +5,7 @@ use Rattle.nl_output.specs.Writing.{Begin, state, ToCome}
 use Rattle.flat_report.specs.Report.{count_then, groups_of, has_two, leaves_then, nets_then}
 use Rattle.flat_classes.specs.Ways.{ArePaths}
 use Rattle.flat_report.proofs.GroupTexts.{members_are, passed_long}
-use Rattle.flat_report.proofs.TerminalFacts.{leaves_within}
+use Rattle.flat_classes.proofs.LeafLists.{leaves_within}
 use Rattle.flat_report.proofs.reporting.put_report.Goals as goal
 
 pub put_leaves-requires-clause-leaves : goal.put_leaves-requires-clause-leaves

@@ -1,6 +1,6 @@
 use Rattle.std.proofs.Common.{◌≡◌, ◌<◌, ◌++◌, ◌∷◌, [], length, map, ap, subst₂, sym, ◌∙◌, arith, All}
 use Rattle.net_flatten_cells.proofs.CellLaws.{cells_few, inner_few}
-use Rattle.net_flatten_refusals.proofs.MarkLaws.{cells_within, inner_within}
+use Rattle.net_flatten_rules.proofs.MarkLaws.{cells_within, inner_within}
 use Rattle.net_flatten_rules.specs.FlatDesign.{cell_or_none, face, inner, leaf_cells}
 use Rattle.net_flatten_cells.proofs.cells.flat_cells.Goals as goal
 

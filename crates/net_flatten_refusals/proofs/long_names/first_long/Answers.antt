@@ -1,6 +1,6 @@
 use Rattle.std.proofs.Common.{subst, sym, ◌∙◌, ◌<◌, length}
 use Rattle.std.specs.Prelude.{All}
-use Rattle.net_flatten_refusals.proofs.MarkLaws.{cells_within}
+use Rattle.net_flatten_rules.proofs.MarkLaws.{cells_within}
 use Rattle.net_flatten_refusals.proofs.long_names.first_long.Goals as goal
 
 pub long_in_faces-requires : goal.long_in_faces-requires

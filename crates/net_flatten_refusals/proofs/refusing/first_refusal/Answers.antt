@@ -5,7 +5,7 @@ use Rattle.net_flatten_rules.specs.FlatDesign.{inner}
 use Rattle.net_flatten_rules.specs.Rules.{first_of, names_twice}
 use Rattle.net_flatten_refusals.specs.LongNames.{refused_names}
 use Rattle.net_flatten_refusals.proofs.LongLaws.{rest_first}
-use Rattle.net_flatten_refusals.proofs.MarkLaws.{inner_within, none_is_top}
+use Rattle.net_flatten_rules.proofs.MarkLaws.{inner_within, none_is_top}
 use Rattle.net_flatten_refusals.proofs.refusing.first_refusal.Goals as goal
 
 pub first_twice-requires-clause-leaves : goal.first_twice-requires-clause-leaves

@@ -17,7 +17,7 @@ use Rattle.flat_numbers.specs.declared.spots.Spot.{Spot}
 use Rattle.flat_numbers.proofs.Counting.{good_order}
 use Rattle.flat_numbers.proofs.SpotLaws.{listed_cells}
 use Rattle.flat_classes.specs.Terminals.{AreFlatClasses, FlatValue}
-use Rattle.flat_report.proofs.TerminalFacts.{leaves_within}
+use Rattle.flat_classes.proofs.LeafLists.{leaves_within}
 use Rattle.net_flatten_rules.specs.FlatDesign.{cell_at, inner, leaf_cells, stands_at}
 
 -- the cells of spots are there

@@ -1,7 +1,7 @@
 use Rattle.std.proofs.Common.{get_or}
 use Rattle.flat_numbers.specs.declared.spots.Spot.{Spot}
-use Rattle.net_flatten_refusals.proofs.MarkLaws.{mark_set}
-use Rattle.net_flatten_refusals.proofs.at_leaves.marks_of.Goals as goal
+use Rattle.net_flatten_rules.proofs.MarkLaws.{mark_set}
+use Rattle.net_flatten_rules.proofs.at_leaves.marks_of.Goals as goal
 
 abbrev no_spot : Spot
 no_spot = record { parent = 0; instance = 0; cell = 0 }

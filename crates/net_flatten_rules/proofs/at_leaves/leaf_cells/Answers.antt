@@ -3,9 +3,9 @@ use Rattle.std.proofs.lemmas.List.{get_or_default}
 use Rattle.std.proofs.lemmas.Option.{slice_get-get_or}
 use Rattle.flat_numbers.proofs.Counting.{order_there}
 use Rattle.net_flatten_rules.specs.FlatDesign.{stands_at}
-use Rattle.net_flatten_refusals.proofs.MarkLaws.{one_kept, one_passed, spots_within}
-use Rattle.net_flatten_refusals.proofs.at_leaves.leaf_cells.Goals as goal
-use Rattle.net_flatten_refusals.proofs.at_leaves.leaf_cells.Goals.{then-index+in_ok-push, else-index}
+use Rattle.net_flatten_rules.proofs.MarkLaws.{one_kept, one_passed, spots_within}
+use Rattle.net_flatten_rules.proofs.at_leaves.leaf_cells.Goals as goal
+use Rattle.net_flatten_rules.proofs.at_leaves.leaf_cells.Goals.{then-index+in_ok-push, else-index}
 
 pub marks_of-requires-clause-cells : goal.marks_of-requires-clause-cells
 marks_of-requires-clause-cells c = λ k d lt. subst (λ cs. (get_or c.args.spots.now k d).cell < length cs) (sym c.cells-cells.ensures.cells) (spots_within c.args.hier.now c.args.spots.now c.requires.spots k d lt)
