@@ -1,5 +1,5 @@
 // Files of a few cells, of which `top` is the top of the design.
-use crate::given::{answers, text_of};
+use crate::given::{Program, answers, text_of};
 use std::alloc::Global;
 use std::test::Fail;
 
@@ -56,17 +56,20 @@ pub type DesignRow<'a> = (
     &'a [u8],
 );
 
-fn is_answered(alloc: Global, row: DesignRow<'_>) -> Result<bool, Fail> {
+fn is_answered<P: Program>(alloc: Global, row: DesignRow<'_>) -> Result<bool, Fail> {
     let (words, cells, interface, contents, status, output, errors) = row;
     let cells = text_of(alloc, cells)?;
     let text = design_of(alloc, cells.as_slice(), interface, contents)?;
-    answers(alloc, words, text.as_slice(), status, output, errors)
+    answers::<P>(alloc, words, text.as_slice(), status, output, errors)
 }
 
 /// The place of the first row whose run ends in another way, if there is one.
-pub fn first_wrong_design(alloc: Global, rows: &[DesignRow<'_>]) -> Result<Option<usize>, Fail> {
+pub fn first_wrong_design<P: Program>(
+    alloc: Global,
+    rows: &[DesignRow<'_>],
+) -> Result<Option<usize>, Fail> {
     for place in 0..rows.len() {
-        if !is_answered(alloc, rows[place])? {
+        if !is_answered::<P>(alloc, rows[place])? {
             return Ok(Some(place));
         }
     }

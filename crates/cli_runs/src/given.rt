@@ -1,5 +1,4 @@
 // What a run is given, and what it is to give.
-use netlist_cli::run::run;
 use nl_base::{Seq, Text, spell_u64};
 use nl_io::{MemSink, MemSource};
 use std::alloc::Global;
@@ -7,6 +6,17 @@ use std::test::Fail;
 
 pub const USAGE: &[u8] =
     b"usage: netlist format or vformat or check [--top NAME] or report [--top NAME] [--zero CELL.PORT] [--one CELL.PORT] or to-verilog {--parameter NAME} or to-edif --top NAME [--zero CELL.PORT] [--one CELL.PORT] or generate SEED CELLS or lint [--top NAME] [--zero CELL.PORT] [--one CELL.PORT] or flatten [--top NAME] [--zero CELL.PORT] [--one CELL.PORT] or to-spice [--top NAME]\n";
+
+/// What is run: the status that it ends with on words, an input, an output and errors.
+pub trait Program {
+    fn run(
+        alloc: Global,
+        words: &Seq<Text>,
+        input: &mut MemSource,
+        output: &mut MemSink,
+        errors: &mut MemSink,
+    ) -> u8;
+}
 
 /// What a run is given: its words, a text in one piece or byte by byte, the number of a take that fails, the room of the output and the
 /// number of a put there that fails, and whether the first put to errors fails.
@@ -99,7 +109,7 @@ pub fn sink_of(alloc: Global, room: usize, failing_put: u64) -> Result<MemSink, 
     Ok(MemSink::new(vec![in alloc; 0; room]?, fails))
 }
 
-fn ends_over(
+fn ends_over<P: Program>(
     alloc: Global,
     given: &Given<'_>,
     input: &mut MemSource,
@@ -108,7 +118,7 @@ fn ends_over(
 ) -> Result<bool, Fail> {
     let words = words_of(alloc, given.words)?;
     let mut errors = sink_of(alloc, 1000, given.errors_fail as u64)?;
-    let status = run(alloc, &words, input, output, &mut errors).number();
+    let status = P::run(alloc, &words, input, output, &mut errors);
     Ok(
         status == wanted.status
             && output.taken() == wanted.output
@@ -118,14 +128,18 @@ fn ends_over(
 }
 
 /// Whether a run gives what is wanted.
-pub fn ends_so(alloc: Global, given: &Given<'_>, wanted: &Wanted<'_>) -> Result<bool, Fail> {
+pub fn ends_so<P: Program>(
+    alloc: Global,
+    given: &Given<'_>,
+    wanted: &Wanted<'_>,
+) -> Result<bool, Fail> {
     let mut input = source_of(alloc, given)?;
     let mut output = sink_of(alloc, given.room, given.failing_put)?;
-    ends_over(alloc, given, &mut input, &mut output, wanted)
+    ends_over::<P>(alloc, given, &mut input, &mut output, wanted)
 }
 
 /// Whether these words on a text end with this status, and put this text and this line.
-pub fn answers(
+pub fn answers<P: Program>(
     alloc: Global,
     words: &[&[u8]],
     text: &[u8],
@@ -134,7 +148,7 @@ pub fn answers(
     errors: &[u8],
 ) -> Result<bool, Fail> {
     let given = given_plainly(words, text);
-    ends_so(alloc, &given, &wanted_of(&given, status, output, errors))
+    ends_so::<P>(alloc, &given, &wanted_of(&given, status, output, errors))
 }
 
 /// The words of `check` under the module m.
@@ -144,10 +158,10 @@ pub const CHECK_M: &[&[u8]] = &[b"check", b"--top", b"m"];
 pub type Row<'a> = (&'a [&'a [u8]], &'a [u8], u8, &'a [u8], &'a [u8]);
 
 /// The place of the first row whose run ends in another way, if there is one.
-pub fn first_wrong(alloc: Global, rows: &[Row<'_>]) -> Result<Option<usize>, Fail> {
+pub fn first_wrong<P: Program>(alloc: Global, rows: &[Row<'_>]) -> Result<Option<usize>, Fail> {
     for place in 0..rows.len() {
         let (words, text, status, output, errors) = rows[place];
-        if !answers(alloc, words, text, status, output, errors)? {
+        if !answers::<P>(alloc, words, text, status, output, errors)? {
             return Ok(Some(place));
         }
     }
@@ -155,7 +169,7 @@ pub fn first_wrong(alloc: Global, rows: &[Row<'_>]) -> Result<Option<usize>, Fai
 }
 
 /// Whether these words on a text end with a text fault told by this line, after at most so many bytes.
-pub fn is_refused_early(
+pub fn is_refused_early<P: Program>(
     alloc: Global,
     words: &[&[u8]],
     text: &[u8],
@@ -166,7 +180,7 @@ pub fn is_refused_early(
     let mut input = source_of(alloc, &given_plainly(&[], text))?;
     let mut output = sink_of(alloc, 10, 0)?;
     let mut errors = sink_of(alloc, 100, 0)?;
-    let status = run(alloc, &words, &mut input, &mut output, &mut errors).number();
+    let status = P::run(alloc, &words, &mut input, &mut output, &mut errors);
     Ok(status == 1 && errors.taken() == line && input.given() <= most)
 }
 

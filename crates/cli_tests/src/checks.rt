@@ -1,4 +1,5 @@
 // The tests of `check` on EDIF.
+use crate::netlist::Netlist;
 use cli_runs::given::{Row, answers, first_wrong, text_of};
 use cli_runs::texts::{
     BLINKER, CYCLE, NO_BIT, RECURSIVE, SEVERAL, SMALL, SPACED, UP_TO_CONTENTS, UP_TO_DESIGNS,
@@ -48,7 +49,7 @@ const CHECKED: &[Row<'static>] = &[
 
 #[test]
 fn files_are_checked(rt: HostRuntime) -> Result<(), Fail> {
-    assert_eq!(rt; first_wrong(rt.alloc(), CHECKED)?, None);
+    assert_eq!(rt; first_wrong::<Netlist>(rt.alloc(), CHECKED)?, None);
     Ok(())
 }
 
@@ -59,9 +60,9 @@ fn is_ruled(alloc: Global, contents: &[u8], designs: &[u8], line: &[u8]) -> Resu
         &[UP_TO_CONTENTS, contents, UP_TO_DESIGNS, designs, b")"],
     )?;
     if line.is_empty() {
-        return answers(alloc, &[b"check"], text.as_slice(), 0, b"ok\n", b"");
+        return answers::<Netlist>(alloc, &[b"check"], text.as_slice(), 0, b"ok\n", b"");
     }
-    answers(alloc, &[b"check"], text.as_slice(), 2, b"", line)
+    answers::<Netlist>(alloc, &[b"check"], text.as_slice(), 2, b"", line)
 }
 
 /// The design whose top is the cell t.

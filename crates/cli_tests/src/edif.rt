@@ -1,4 +1,5 @@
 // The tests of `to-edif`.
+use crate::netlist::Netlist;
 use cli_runs::given::{Row, USAGE, answers, first_wrong, text_of};
 use cli_runs::texts::{CHAINED, ESCAPED, LITERALS};
 use std::alloc::Global;
@@ -282,7 +283,7 @@ fn modules_are_translated(rt: HostRuntime) -> Result<(), Fail> {
     ] {
         let output = file_of(rt.alloc(), name, cells)?;
         assert_eq!(rt;
-            answers(rt.alloc(), words, text, 0, output.as_slice(), b"")?,
+            answers::<Netlist>(rt.alloc(), words, text, 0, output.as_slice(), b"")?,
             true
         );
     }
@@ -344,6 +345,6 @@ const REFUSED: &[Row<'static>] = &[
 
 #[test]
 fn rules_of_modules_come_first(rt: HostRuntime) -> Result<(), Fail> {
-    assert_eq!(rt; first_wrong(rt.alloc(), REFUSED)?, None);
+    assert_eq!(rt; first_wrong::<Netlist>(rt.alloc(), REFUSED)?, None);
     Ok(())
 }

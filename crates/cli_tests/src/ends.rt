@@ -1,4 +1,5 @@
 // The tests of inputs and outputs that fail, and of an input that does not end.
+use crate::netlist::Netlist;
 use cli_runs::blanks::Blanks;
 use cli_runs::given::{Given, Wanted, ends_so, given_plainly, sink_of, wanted_of, words_of};
 use cli_runs::texts::{BLINKER, BLINKER_MODULES, RECURSIVE, SMALL};
@@ -25,7 +26,7 @@ fn each_take_may_fail(rt: HostRuntime) -> Result<(), Fail> {
             errors: READ_FAULT,
             taken,
         };
-        assert_eq!(rt; ends_so(rt.alloc(), &given, &wanted)?, true);
+        assert_eq!(rt; ends_so::<Netlist>(rt.alloc(), &given, &wanted)?, true);
     }
     Ok(())
 }
@@ -43,7 +44,7 @@ fn each_put_may_fail(rt: HostRuntime) -> Result<(), Fail> {
         } else {
             wanted_of(&given, 0, BLINKER_MODULES, b"")
         };
-        assert_eq!(rt; ends_so(rt.alloc(), &given, &wanted)?, true);
+        assert_eq!(rt; ends_so::<Netlist>(rt.alloc(), &given, &wanted)?, true);
     }
     Ok(())
 }
@@ -57,7 +58,7 @@ fn room_may_be_used_up_anywhere(rt: HostRuntime) -> Result<(), Fail> {
         };
         let (front, _) = BLINKER_MODULES.split_at(room);
         let wanted = wanted_of(&given, 4, front, WRITE_FAULT);
-        assert_eq!(rt; ends_so(rt.alloc(), &given, &wanted)?, true);
+        assert_eq!(rt; ends_so::<Netlist>(rt.alloc(), &given, &wanted)?, true);
     }
     Ok(())
 }
@@ -123,7 +124,7 @@ fn ends_may_fail(rt: HostRuntime) -> Result<(), Fail> {
             errors,
             taken,
         };
-        assert_eq!(rt; ends_so(rt.alloc(), &given, &wanted)?, true);
+        assert_eq!(rt; ends_so::<Netlist>(rt.alloc(), &given, &wanted)?, true);
     }
     Ok(())
 }
@@ -141,7 +142,7 @@ fn failing_errors_change_no_status(rt: HostRuntime) -> Result<(), Fail> {
             ..given_plainly(&words, text)
         };
         let wanted = wanted_of(&given, status, b"", b"");
-        assert_eq!(rt; ends_so(rt.alloc(), &given, &wanted)?, true);
+        assert_eq!(rt; ends_so::<Netlist>(rt.alloc(), &given, &wanted)?, true);
     }
     Ok(())
 }

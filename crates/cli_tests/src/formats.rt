@@ -1,4 +1,5 @@
 // The tests of `format` and `vformat`.
+use crate::netlist::Netlist;
 use cli_runs::given::{
     Given, Row, answers, ends_so, first_wrong, given_plainly, is_refused_early, text_around,
     wanted_of,
@@ -26,7 +27,7 @@ fn files_are_written(rt: HostRuntime) -> Result<(), Fail> {
                 ..given_plainly(&[b"format"], text)
             };
             let wanted = wanted_of(&given, 0, written, b"");
-            assert_eq!(rt; ends_so(rt.alloc(), &given, &wanted)?, true);
+            assert_eq!(rt; ends_so::<Netlist>(rt.alloc(), &given, &wanted)?, true);
         }
     }
     Ok(())
@@ -50,7 +51,7 @@ fn identifiers_have_a_limit(rt: HostRuntime) -> Result<(), Fail> {
         (too_long.as_slice(), 1, b"", b"fault 1:7 TokenTooLong\n"),
     ] {
         assert_eq!(rt;
-            answers(alloc, &[b"format"], text, status, output, line)?,
+            answers::<Netlist>(alloc, &[b"format"], text, status, output, line)?,
             true
         );
     }
@@ -69,7 +70,7 @@ fn little_is_taken_behind_a_fault(rt: HostRuntime) -> Result<(), Fail> {
     )?;
     let line = b"fault 1:69 UnknownWord foo\n";
     assert_eq!(rt;
-        is_refused_early(alloc, &[b"format"], text.as_slice(), line, 4168)?,
+        is_refused_early::<Netlist>(alloc, &[b"format"], text.as_slice(), line, 4168)?,
         true
     );
     Ok(())
@@ -180,7 +181,7 @@ const FAULTS: &[Row<'static>] = &[
 
 #[test]
 fn faults_are_told(rt: HostRuntime) -> Result<(), Fail> {
-    assert_eq!(rt; first_wrong(rt.alloc(), FAULTS)?, None);
+    assert_eq!(rt; first_wrong::<Netlist>(rt.alloc(), FAULTS)?, None);
     Ok(())
 }
 
@@ -221,6 +222,6 @@ const MODULES: &[Row<'static>] = &[
 
 #[test]
 fn modules_are_written(rt: HostRuntime) -> Result<(), Fail> {
-    assert_eq!(rt; first_wrong(rt.alloc(), MODULES)?, None);
+    assert_eq!(rt; first_wrong::<Netlist>(rt.alloc(), MODULES)?, None);
     Ok(())
 }

@@ -1,4 +1,5 @@
 // The tests of hostile texts: that break off, that are deep, long or wide.
+use crate::netlist::Netlist;
 use cli_runs::designs::{INV, design_of};
 use cli_runs::given::{
     Given, add_number, answers, ends_so, given_plainly, is_refused_early, sink_of, source_of,
@@ -143,12 +144,12 @@ fn lists_and_braces_are_at_most_64_deep(rt: HostRuntime) -> Result<(), Fail> {
         let text = nested(alloc, pieces, 64)?;
         let output = nested(alloc, written, 64)?;
         assert_eq!(rt;
-            answers(alloc, &[word], text.as_slice(), 0, output.as_slice(), b"")?,
+            answers::<Netlist>(alloc, &[word], text.as_slice(), 0, output.as_slice(), b"")?,
             true
         );
         let text = nested(alloc, pieces, 65)?;
         assert_eq!(rt;
-            answers(alloc, &[word], text.as_slice(), 1, b"", line)?,
+            answers::<Netlist>(alloc, &[word], text.as_slice(), 1, b"", line)?,
             true
         );
     }
@@ -161,7 +162,7 @@ fn many_open_parentheses_are_refused_at_the_second(rt: HostRuntime) -> Result<()
     let text = text_around(alloc, b"module m (", b'(', 100_000, b"")?;
     let line = b"fault 1:11 Unexpected\n";
     assert_eq!(rt;
-        is_refused_early(alloc, &[b"vformat"], text.as_slice(), line, 4107)?,
+        is_refused_early::<Netlist>(alloc, &[b"vformat"], text.as_slice(), line, 4107)?,
         true
     );
     Ok(())
@@ -194,7 +195,7 @@ fn by_aliases(alloc: Global, count: u64) -> Result<Vec<u8>, Fail> {
 fn aliases_may_be_many(rt: HostRuntime) -> Result<(), Fail> {
     let text = by_aliases(rt.alloc(), 10_000)?;
     assert_eq!(rt;
-        answers(rt.alloc(), &[b"format"], text.as_slice(), 0, WRITTEN, b"")?,
+        answers::<Netlist>(rt.alloc(), &[b"format"], text.as_slice(), 0, WRITTEN, b"")?,
         true
     );
     Ok(())
@@ -258,6 +259,6 @@ fn wide_ports_are_joined_bit_by_bit(rt: HostRuntime) -> Result<(), Fail> {
         ..given_plainly(&[b"to-verilog"], text.as_slice())
     };
     let wanted = wanted_of(&given, 0, output.as_slice(), b"");
-    assert_eq!(rt; ends_so(rt.alloc(), &given, &wanted)?, true);
+    assert_eq!(rt; ends_so::<Netlist>(rt.alloc(), &given, &wanted)?, true);
     Ok(())
 }

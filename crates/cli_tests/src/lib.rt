@@ -17,6 +17,8 @@ mod hostile;
 #[cfg(test)]
 mod limits;
 #[cfg(test)]
+mod netlist;
+#[cfg(test)]
 mod round_trips;
 #[cfg(test)]
 mod spent;

@@ -1,4 +1,5 @@
 // The tests of designs above the limit of a design.
+use crate::netlist::Netlist;
 use cli_runs::given::{CHECK_M, answers};
 use std::alloc::Global;
 use std::test::Fail;
@@ -72,10 +73,10 @@ fn designs_have_a_limit(rt: HostRuntime) -> Result<(), Fail> {
     ] {
         let text = text_of_ports(rt.alloc(), front, around, rest)?;
         let is_answered = if is_within {
-            answers(rt.alloc(), words, text.as_slice(), 0, b"ok\n", b"")?
+            answers::<Netlist>(rt.alloc(), words, text.as_slice(), 0, b"ok\n", b"")?
         } else {
             let line = b"limit design 33554433\n";
-            answers(rt.alloc(), words, text.as_slice(), 7, b"", line)?
+            answers::<Netlist>(rt.alloc(), words, text.as_slice(), 7, b"", line)?
         };
         assert_eq!(rt; is_answered, true);
     }

@@ -1,4 +1,5 @@
 // The tests that a design keeps its report, and its findings, over both translations.
+use crate::netlist::Netlist;
 use cli_runs::given::{answers, given_plainly, sink_of, source_of, words_of};
 use cli_runs::texts::{BLINKER, LITERALS};
 use netlist_cli::run::run;
@@ -28,7 +29,7 @@ fn written(alloc: Global, words: &[&[u8]], text: &[u8]) -> Result<MemSink, Fail>
 fn is_kept(alloc: Global, leg: &Leg<'_>, text: &[u8]) -> Result<bool, Fail> {
     let told = written(alloc, leg.before, text)?;
     let translated = written(alloc, leg.translation, text)?;
-    answers(alloc, leg.after, translated.taken(), 0, told.taken(), b"")
+    answers::<Netlist>(alloc, leg.after, translated.taken(), 0, told.taken(), b"")
 }
 
 /// Whether the same is told of a text, of its translation, and of the translation of this.

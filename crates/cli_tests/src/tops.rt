@@ -1,4 +1,5 @@
 // The tests of `check --top` on Verilog.
+use crate::netlist::Netlist;
 use cli_runs::given::{CHECK_M, Row, answers, first_wrong};
 use std::alloc::Global;
 use std::test::Fail;
@@ -184,7 +185,7 @@ const CHECKED: &[Row<'static>] = &[
 
 #[test]
 fn files_of_modules_are_checked(rt: HostRuntime) -> Result<(), Fail> {
-    assert_eq!(rt; first_wrong(rt.alloc(), CHECKED)?, None);
+    assert_eq!(rt; first_wrong::<Netlist>(rt.alloc(), CHECKED)?, None);
     Ok(())
 }
 
@@ -202,7 +203,7 @@ fn module_of_unknown_bits(alloc: Global) -> Result<Vec<u8>, Fail> {
 fn bits_may_be_many(rt: HostRuntime) -> Result<(), Fail> {
     let text = module_of_unknown_bits(rt.alloc())?;
     assert_eq!(rt;
-        answers(rt.alloc(), CHECK_M, text.as_slice(), 0, b"ok\n", b"")?,
+        answers::<Netlist>(rt.alloc(), CHECK_M, text.as_slice(), 0, b"ok\n", b"")?,
         true
     );
     Ok(())

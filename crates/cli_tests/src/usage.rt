@@ -1,4 +1,5 @@
 // The tests of the words behind the program's name.
+use crate::netlist::Netlist;
 use cli_runs::given::{Row, USAGE, answers, first_wrong};
 use cli_runs::texts::SMALL;
 use netlist_cli::status::Status;
@@ -37,7 +38,10 @@ const OTHER_WORDS: &[&[&[u8]]] = &[
 #[test]
 fn other_words_are_usage(rt: HostRuntime) -> Result<(), Fail> {
     for words in OTHER_WORDS {
-        assert_eq!(rt; answers(rt.alloc(), words, SMALL, 5, b"", USAGE)?, true);
+        assert_eq!(rt;
+            answers::<Netlist>(rt.alloc(), words, SMALL, 5, b"", USAGE)?,
+            true
+        );
     }
     assert_eq!(rt; Status::Refused.number(), 2);
     Ok(())
@@ -78,6 +82,6 @@ const OPTIONS: &[Row<'static>] = &[
 
 #[test]
 fn options_may_have_any_values(rt: HostRuntime) -> Result<(), Fail> {
-    assert_eq!(rt; first_wrong(rt.alloc(), OPTIONS)?, None);
+    assert_eq!(rt; first_wrong::<Netlist>(rt.alloc(), OPTIONS)?, None);
     Ok(())
 }

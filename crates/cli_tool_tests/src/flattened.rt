@@ -1,4 +1,5 @@
 // The tests of `flatten`.
+use crate::netlist::Netlist;
 use crate::reports::{FEED_AND_BOX, LEVELS};
 use cli_runs::designs::{ENDS, INV, design_of};
 use cli_runs::given::{Given, USAGE, answers, ends_so, given_plainly, text_of, wanted_of};
@@ -38,7 +39,7 @@ fn designs_are_flattened(rt: HostRuntime) -> Result<(), Fail> {
         let contents = text_of(rt.alloc(), &[before, LEVELS])?;
         let text = design_of(rt.alloc(), cells.as_slice(), ENDS, contents.as_slice())?;
         assert_eq!(rt;
-            answers(
+            answers::<Netlist>(
                 rt.alloc(),
                 &[b"flatten"],
                 text.as_slice(),
@@ -80,7 +81,7 @@ fn texts_are_flattened(rt: HostRuntime) -> Result<(), Fail> {
         (&[command, b"--one", b"A.B", top, b"m"], FLAT, 5, b"", USAGE),
     ] {
         assert_eq!(rt;
-            answers(rt.alloc(), words, text, status, output, errors)?,
+            answers::<Netlist>(rt.alloc(), words, text, status, output, errors)?,
             true
         );
     }
@@ -92,7 +93,7 @@ fn failures_of_flattening_are_told(rt: HostRuntime) -> Result<(), Fail> {
     let plain = given_plainly(&[b"flatten"], FLAT);
     let small_room = Given { room: 10, ..plain };
     assert_eq!(rt;
-        ends_so(
+        ends_so::<Netlist>(
             rt.alloc(),
             &small_room,
             &wanted_of(&small_room, 4, b"(edif top\n", b"write fault\n")

@@ -1,4 +1,5 @@
 // The tests of `generate`.
+use crate::netlist::Netlist;
 use cli_runs::given::{Given, USAGE, Wanted, ends_so, given_plainly};
 use cli_runs::texts::SMALL;
 use std::test::Fail;
@@ -73,7 +74,7 @@ fn lines_of_generated_files(rt: HostRuntime) -> Result<(), Fail> {
             errors,
             taken: 0,
         };
-        assert_eq!(rt; ends_so(rt.alloc(), &given, &wanted)?, true);
+        assert_eq!(rt; ends_so::<Netlist>(rt.alloc(), &given, &wanted)?, true);
     }
     Ok(())
 }

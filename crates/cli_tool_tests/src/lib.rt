@@ -9,6 +9,8 @@ mod flattened;
 #[cfg(test)]
 mod generated;
 #[cfg(test)]
+mod netlist;
+#[cfg(test)]
 mod reports;
 #[cfg(test)]
 mod spice;

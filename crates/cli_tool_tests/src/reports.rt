@@ -1,4 +1,5 @@
 // The tests of `report` and `lint`.
+use crate::netlist::Netlist;
 use cli_runs::designs::{DesignRow, ENDS, INPUTS, INV, UP_TO_CELLS, design_of, first_wrong_design};
 use cli_runs::given::{
     Given, Row, add_number, answers, ends_so, first_wrong, given_plainly, text_of, wanted_of,
@@ -100,7 +101,7 @@ const DESIGNS: &[DesignRow<'static>] = &[
 
 #[test]
 fn designs_are_told(rt: HostRuntime) -> Result<(), Fail> {
-    assert_eq!(rt; first_wrong_design(rt.alloc(), DESIGNS)?, None);
+    assert_eq!(rt; first_wrong_design::<Netlist>(rt.alloc(), DESIGNS)?, None);
     Ok(())
 }
 
@@ -136,7 +137,7 @@ const FILES: &[Row<'static>] = &[
 
 #[test]
 fn modules_are_told(rt: HostRuntime) -> Result<(), Fail> {
-    assert_eq!(rt; first_wrong(rt.alloc(), FILES)?, None);
+    assert_eq!(rt; first_wrong::<Netlist>(rt.alloc(), FILES)?, None);
     Ok(())
 }
 
@@ -182,11 +183,11 @@ fn flat_designs_have_a_limit(rt: HostRuntime) -> Result<(), Fail> {
     ] {
         let text = chain_of(rt.alloc(), interface, nets)?;
         assert_eq!(rt;
-            answers(rt.alloc(), &[b"report"], text.as_slice(), 7, b"", line)?,
+            answers::<Netlist>(rt.alloc(), &[b"report"], text.as_slice(), 7, b"", line)?,
             true
         );
         assert_eq!(rt;
-            answers(rt.alloc(), &[b"flatten"], text.as_slice(), 7, b"", line)?,
+            answers::<Netlist>(rt.alloc(), &[b"flatten"], text.as_slice(), 7, b"", line)?,
             true
         );
     }
@@ -244,6 +245,6 @@ fn many_instances_are_reported(rt: HostRuntime) -> Result<(), Fail> {
         ..given_plainly(&[b"report"], text.as_slice())
     };
     let wanted = wanted_of(&given, 0, output.as_slice(), b"");
-    assert_eq!(rt; ends_so(rt.alloc(), &given, &wanted)?, true);
+    assert_eq!(rt; ends_so::<Netlist>(rt.alloc(), &given, &wanted)?, true);
     Ok(())
 }

@@ -1,4 +1,5 @@
 // The tests of `to-spice`.
+use crate::netlist::Netlist;
 use cli_runs::designs::{B4, ENDS, INV, design_of};
 use cli_runs::given::{Given, USAGE, Wanted, answers, ends_so, given_plainly, text_of, wanted_of};
 use std::test::Fail;
@@ -89,7 +90,7 @@ fn designs_are_subcircuits(rt: HostRuntime) -> Result<(), Fail> {
         let text = design_of(rt.alloc(), cells.as_slice(), interface, contents)?;
         let status = if errors.is_empty() { 0 } else { 2 };
         assert_eq!(rt;
-            answers(
+            answers::<Netlist>(
                 rt.alloc(),
                 &[b"to-spice"],
                 text.as_slice(),
@@ -180,7 +181,7 @@ fn modules_are_subcircuits(rt: HostRuntime) -> Result<(), Fail> {
         ),
     ] {
         assert_eq!(rt;
-            answers(rt.alloc(), words, text, status, output, errors)?,
+            answers::<Netlist>(rt.alloc(), words, text, status, output, errors)?,
             true
         );
     }
@@ -212,7 +213,7 @@ fn failures_of_subcircuits_are_told(rt: HostRuntime) -> Result<(), Fail> {
             wanted_of(&small_room, 4, b"* top\n.SUB", b"write fault\n"),
         ),
     ] {
-        assert_eq!(rt; ends_so(rt.alloc(), &given, &wanted)?, true);
+        assert_eq!(rt; ends_so::<Netlist>(rt.alloc(), &given, &wanted)?, true);
     }
     Ok(())
 }

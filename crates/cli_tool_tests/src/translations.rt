@@ -1,4 +1,5 @@
 // The tests of `to-verilog`.
+use crate::netlist::Netlist;
 use cli_runs::designs::{B4, DesignRow, ENDS, INPUTS, INV, first_wrong_design};
 use cli_runs::given::{Row, USAGE, first_wrong};
 use cli_runs::texts::{BLINKER, BLINKER_MODULES, BLINKER_PARAMETERS};
@@ -57,7 +58,7 @@ fn files_are_translated(rt: HostRuntime) -> Result<(), Fail> {
         ),
         (&[TO_VERILOG, b"INIT", PARAMETER], BLINKER, 5, b"", USAGE),
     ];
-    assert_eq!(rt; first_wrong(rt.alloc(), &rows)?, None);
+    assert_eq!(rt; first_wrong::<Netlist>(rt.alloc(), &rows)?, None);
     Ok(())
 }
 
@@ -184,6 +185,6 @@ const DESIGNS: &[DesignRow<'static>] = &[
 
 #[test]
 fn designs_are_translated(rt: HostRuntime) -> Result<(), Fail> {
-    assert_eq!(rt; first_wrong_design(rt.alloc(), DESIGNS)?, None);
+    assert_eq!(rt; first_wrong_design::<Netlist>(rt.alloc(), DESIGNS)?, None);
     Ok(())
 }
