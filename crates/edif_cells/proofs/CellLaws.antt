@@ -19,7 +19,7 @@ use Rattle.edif_design.specs.CellRules.{bit_meant}
 use Rattle.edif_design.specs.Design.{cell_properties, cell_value, instance_value, net_joins, net_value, number_below, number_in, port_value}
 use Rattle.edif_design.specs.Parts.{instances, nets, numbered, ports}
 use Rattle.edif_design.specs.References.{LinkedCell, linked_by, with_number}
-use Rattle.edif_rules.specs.Breaks.{ref_node}
+use Rattle.edif_rules.specs.RefRefusals.{ref_node}
 use Rattle.edif_rules.specs.Scopes.{IsScope, ScopeLists}
 use Rattle.edif_rules.proofs.ScopeLaws.{node_alike}
 use Rattle.edif_rules.proofs.Turns.{filter_grows}

@@ -12,7 +12,7 @@ use Rattle.net_hier.specs.declared.nodes.Node.{Node}
 use Rattle.net_hier.specs.declared.nodes.Node.TheVariants as nodes
 use Rattle.edif_design.specs.CellRules.{is_bad_size, size_of}
 use Rattle.edif_design.specs.Design.{instance_property, number_in}
-use Rattle.edif_rules.specs.Breaks.{ref_node}
+use Rattle.edif_rules.specs.RefRefusals.{ref_node}
 use Rattle.edif_rules.specs.Scopes.{ScopeLists, inner_ports}
 
 -- an array port of a size outside 1 to 65,536

@@ -2,7 +2,7 @@
 ghost use Rattle.std.specs.Prelude.{◌≡◌, ◌≤◌, ◌<◌, ◌^◌, ◌++◌, ℕ, IfOk, OnOk, length, map, option_to_list};
 ghost use Rattle.std.specs.List.{flat_map};
 ghost use Rattle.edif_design.specs.Parts.{numbered};
-ghost use Rattle.edif_rules.specs.Breaks.{ref_node};
+ghost use Rattle.edif_rules.specs.RefRefusals.{ref_node};
 ghost use Rattle.edif_rules.specs.Lists.{seen};
 ghost use Rattle.edif_rules.specs.Scopes.{found_of, lists_of};
 ghost use Rattle.edif_rules.specs.Spots.{node_at};
@@ -32,7 +32,7 @@ fn node_at(spot: BitSpot) -> Node
 }
 
 /// Adds the join of the net of this number and the bit that a reference means.
-fn add_join(
+fn push_join(
     alloc: Global,
     scope: &CellScope<'_, '_>,
     joins: &mut Seq<Join>,
@@ -56,7 +56,7 @@ fn add_join(
 }
 
 /// Adds the joins of the net of this number.
-fn add_joins(
+fn push_joins(
     alloc: Global,
     scope: &CellScope<'_, '_>,
     joins: &mut Seq<Join>,
@@ -67,7 +67,7 @@ fn add_joins(
     ensures { OnOk result (joins.new ≡ joins.old ++ joins_of (lists_of scope.now) net joined.now) }
 {
     for reference in joined {
-        add_join(alloc, scope, joins, net, reference)?;
+        push_join(alloc, scope, joins, net, reference)?;
     }
     Ok(())
 }
@@ -84,7 +84,7 @@ pub fn joins_made(
 {
     let mut made = Seq::empty(alloc);
     for (number, net) in nets.iter().enumerate() {
-        add_joins(alloc, scope, &mut made, number as u32, net.joined.items())?;
+        push_joins(alloc, scope, &mut made, number as u32, net.joined.items())?;
     }
     Ok(made)
 }

@@ -36,7 +36,7 @@ fn property_of(alloc: Global, property: &Property) -> Result<HProp, NoMemory>
 }
 
 /// Adds the property.
-fn add_property(alloc: Global, props: &mut Seq<HProp>, property: &Property) -> Result<(), NoMemory>
+fn push_property(alloc: Global, props: &mut Seq<HProp>, property: &Property) -> Result<(), NoMemory>
     ensures { OnOk result (props.new ≡ props.old ++ option_to_list (Some (property_value property.now))) }
 {
     let made = property_of(alloc, property)?;
@@ -45,12 +45,12 @@ fn add_property(alloc: Global, props: &mut Seq<HProp>, property: &Property) -> R
 }
 
 /// Adds the property that the item is, where it is one.
-fn add_of_port(alloc: Global, props: &mut Seq<HProp>, item: &PortItem) -> Result<(), NoMemory>
+fn push_of_port(alloc: Global, props: &mut Seq<HProp>, item: &PortItem) -> Result<(), NoMemory>
     ensures { OnOk result (props.new ≡ props.old ++ option_to_list (port_property item.now)) }
 {
     match item {
         PortItem::Property(property) => {
-            add_property(alloc, props, property)?;
+            push_property(alloc, props, property)?;
             Ok(())
         }
         _ => Ok(()),
@@ -63,13 +63,13 @@ pub fn port_properties(alloc: Global, items: &[PortItem]) -> Result<Seq<HProp>, 
 {
     let mut made = Seq::empty(alloc);
     for item in items {
-        add_of_port(alloc, &mut made, item)?;
+        push_of_port(alloc, &mut made, item)?;
     }
     Ok(made)
 }
 
 /// Adds the property that the item is, where it is one.
-fn add_of_instance(
+fn push_of_instance(
     alloc: Global,
     props: &mut Seq<HProp>,
     item: &InstanceItem,
@@ -78,7 +78,7 @@ fn add_of_instance(
 {
     match item {
         InstanceItem::Property(property) => {
-            add_property(alloc, props, property)?;
+            push_property(alloc, props, property)?;
             Ok(())
         }
         _ => Ok(()),
@@ -91,18 +91,18 @@ pub fn instance_properties(alloc: Global, items: &[InstanceItem]) -> Result<Seq<
 {
     let mut made = Seq::empty(alloc);
     for item in items {
-        add_of_instance(alloc, &mut made, item)?;
+        push_of_instance(alloc, &mut made, item)?;
     }
     Ok(made)
 }
 
 /// Adds the property that the item is, where it is one.
-fn add_of_net(alloc: Global, props: &mut Seq<HProp>, item: &NetItem) -> Result<(), NoMemory>
+fn push_of_net(alloc: Global, props: &mut Seq<HProp>, item: &NetItem) -> Result<(), NoMemory>
     ensures { OnOk result (props.new ≡ props.old ++ option_to_list (net_property item.now)) }
 {
     match item {
         NetItem::Property(property) => {
-            add_property(alloc, props, property)?;
+            push_property(alloc, props, property)?;
             Ok(())
         }
         _ => Ok(()),
@@ -115,13 +115,13 @@ pub fn net_properties(alloc: Global, items: &[NetItem]) -> Result<Seq<HProp>, No
 {
     let mut made = Seq::empty(alloc);
     for item in items {
-        add_of_net(alloc, &mut made, item)?;
+        push_of_net(alloc, &mut made, item)?;
     }
     Ok(made)
 }
 
 /// Adds the property that the item is, where it is one.
-fn add_of_interface(
+fn push_of_interface(
     alloc: Global,
     props: &mut Seq<HProp>,
     item: &InterfaceItem,
@@ -130,7 +130,7 @@ fn add_of_interface(
 {
     match item {
         InterfaceItem::Property(property) => {
-            add_property(alloc, props, property)?;
+            push_property(alloc, props, property)?;
             Ok(())
         }
         _ => Ok(()),
@@ -138,7 +138,7 @@ fn add_of_interface(
 }
 
 /// Adds the properties of an interface.
-fn add_interface(
+fn push_interface(
     alloc: Global,
     props: &mut Seq<HProp>,
     items: &[InterfaceItem],
@@ -146,18 +146,18 @@ fn add_interface(
     ensures { OnOk result (props.new ≡ props.old ++ filter_map interface_property items.now) }
 {
     for item in items {
-        add_of_interface(alloc, props, item)?;
+        push_of_interface(alloc, props, item)?;
     }
     Ok(())
 }
 
 /// Adds the property that the item is, where it is one.
-fn add_of_view(alloc: Global, props: &mut Seq<HProp>, item: &ViewItem) -> Result<(), NoMemory>
+fn push_of_view(alloc: Global, props: &mut Seq<HProp>, item: &ViewItem) -> Result<(), NoMemory>
     ensures { OnOk result (props.new ≡ props.old ++ option_to_list (view_property item.now)) }
 {
     match item {
         ViewItem::Property(property) => {
-            add_property(alloc, props, property)?;
+            push_property(alloc, props, property)?;
             Ok(())
         }
         _ => Ok(()),
@@ -165,27 +165,27 @@ fn add_of_view(alloc: Global, props: &mut Seq<HProp>, item: &ViewItem) -> Result
 }
 
 /// Adds the properties of a view, but for those of its interface.
-fn add_view(alloc: Global, props: &mut Seq<HProp>, items: &[ViewItem]) -> Result<(), NoMemory>
+fn push_view(alloc: Global, props: &mut Seq<HProp>, items: &[ViewItem]) -> Result<(), NoMemory>
     ensures { OnOk result (props.new ≡ props.old ++ filter_map view_property items.now) }
 {
     for item in items {
-        add_of_view(alloc, props, item)?;
+        push_of_view(alloc, props, item)?;
     }
     Ok(())
 }
 
 /// Adds the properties of a part of a cell.
-fn add_of_cell(alloc: Global, props: &mut Seq<HProp>, item: &CellItem) -> Result<(), NoMemory>
+fn push_of_cell(alloc: Global, props: &mut Seq<HProp>, item: &CellItem) -> Result<(), NoMemory>
     ensures { OnOk result (props.new ≡ props.old ++ cell_properties item.now) }
 {
     match item {
         CellItem::View(view) => {
-            add_interface(alloc, props, view.interface.items())?;
-            add_view(alloc, props, view.items.items())?;
+            push_interface(alloc, props, view.interface.items())?;
+            push_view(alloc, props, view.items.items())?;
             Ok(())
         }
         CellItem::Property(property) => {
-            add_property(alloc, props, property)?;
+            push_property(alloc, props, property)?;
             Ok(())
         }
         _ => Ok(()),
@@ -198,18 +198,18 @@ pub fn all_properties(alloc: Global, cell: &Cell) -> Result<Seq<HProp>, NoMemory
 {
     let mut made = Seq::empty(alloc);
     for item in cell.items.items() {
-        add_of_cell(alloc, &mut made, item)?;
+        push_of_cell(alloc, &mut made, item)?;
     }
     Ok(made)
 }
 
 /// Adds the property that the item is, where it is one.
-fn add_of_design(alloc: Global, props: &mut Seq<HProp>, item: &DesignItem) -> Result<(), NoMemory>
+fn push_of_design(alloc: Global, props: &mut Seq<HProp>, item: &DesignItem) -> Result<(), NoMemory>
     ensures { OnOk result (props.new ≡ props.old ++ option_to_list (design_property item.now)) }
 {
     match item {
         DesignItem::Property(property) => {
-            add_property(alloc, props, property)?;
+            push_property(alloc, props, property)?;
             Ok(())
         }
         _ => Ok(()),
@@ -217,7 +217,7 @@ fn add_of_design(alloc: Global, props: &mut Seq<HProp>, item: &DesignItem) -> Re
 }
 
 /// Adds the properties of a design.
-pub fn add_properties(
+pub fn push_properties(
     alloc: Global,
     props: &mut Seq<HProp>,
     design: &Design,
@@ -225,7 +225,7 @@ pub fn add_properties(
     ensures { OnOk result (props.new ≡ props.old ++ design_properties design.now) }
 {
     for item in design.items.items() {
-        add_of_design(alloc, props, item)?;
+        push_of_design(alloc, props, item)?;
     }
     Ok(())
 }

@@ -52,18 +52,18 @@ module _ (names : ConstantNames) (design : Design) (file : EdifFile) (valid : Is
   abbrev value_of : Cell → HCell
   value_of made = cell_value (numbers_in_design (whole names design file valid planned)) (linked_cell (whole names design file valid planned) (place_in 0 made))
 
-  pub twin_at : (i : ℕ) (made : Cell) → slice_get planned.cells i ≡ Some made → IsCell other.cells i (value_of made)
-  twin_at i made there = ap (λ (cs : List HCell). slice_get cs i) is.same_cells ∙ cell_at names design file valid planned i made there
+  pub counterpart_at : (i : ℕ) (made : Cell) → slice_get planned.cells i ≡ Some made → IsCell other.cells i (value_of made)
+  counterpart_at i made there = ap (λ (cs : List HCell). slice_get cs i) is.same_cells ∙ cell_at names design file valid planned i made there
 
-  pub twins_long : length other.cells ≡ length planned.cells
-  twins_long = ap length is.same_cells ∙ same_length names design file valid planned
+  pub counterparts_long : length other.cells ≡ length planned.cells
+  counterparts_long = ap length is.same_cells ∙ same_length names design file valid planned
 
   -- a cell of the design stands for one of the file
-  pub made_at : (i : ℕ) (twin : HCell) → IsCell other.cells i twin → (made : Cell) × (slice_get planned.cells i ≡ Some made) × (value_of made ≡ twin)
-  made_at i twin there =
-      let inside = slice_get_within other.cells i twin there in
-      let made = element_there planned.cells i (omega (arith, inside, twins_long)) in
-      (made.0, made.1, same_element other.cells i (value_of made.0) twin (twin_at i made.0 made.1) there)
+  pub made_at : (i : ℕ) (counterpart : HCell) → IsCell other.cells i counterpart → (made : Cell) × (slice_get planned.cells i ≡ Some made) × (value_of made ≡ counterpart)
+  made_at i counterpart there =
+      let inside = slice_get_within other.cells i counterpart there in
+      let made = element_there planned.cells i (omega (arith, inside, counterparts_long)) in
+      (made.0, made.1, same_element other.cells i (value_of made.0) counterpart (counterpart_at i made.0 made.1) there)
 
   partner_of : (number : ℕ) (cell : HCell) → IsCell design.cells number cell → IsPartner design (Some (length planned.values)) number (number_of planned.plan number)
   partner_of number cell there =
@@ -85,14 +85,14 @@ module _ (names : ConstantNames) (design : Design) (file : EdifFile) (valid : Is
       (λ value needed. constant_stands names design file valid planned value (needed_by names design file valid planned number m.cell m.classes value m.is_there m.are_classes needed)) constants
 
   -- the new cell of a constant stands for it
-  new_twin : (i : ℕ) (value : Bool) (made : Cell) → slice_get planned.values i ≡ Some value → slice_get planned.cells i ≡ Some made → IsConstantCell names value (value_of made)
-  new_twin i value made at there =
+  new_counterpart : (i : ℕ) (value : Bool) (made : Cell) → slice_get planned.values i ≡ Some value → slice_get planned.cells i ≡ Some made → IsConstantCell names value (value_of made)
+  new_counterpart i value made at there =
       subst (λ (c : Cell). IsConstantCell names value (value_of c)) (sym (planned.are_cells.new i value made at there))
       (new_is_constant (whole names design file valid planned) (numbers_in_design (whole names design file valid planned)) (head_at planned.plan i) names value)
 
   -- what is made of a cell that stands for a constant stands for it
-  old_twin : (value : Bool) (old : IsOldAt names design (length planned.values) value (constant_number planned.plan value)) → Stands value
-  old_twin value old =
+  old_counterpart : (value : Bool) (old : IsOldAt names design (length planned.values) value (constant_number planned.plan value)) → Stands value
+  old_counterpart value old =
       let copy = copy_of names design file valid planned old.place old.old old.is_placed in
       let m = copy.1.is_made in
       let same : old.cell ≡ m.cell = same_element design.cells old.old old.cell m.cell old.is_cell m.is_there in
@@ -101,49 +101,49 @@ module _ (names : ConstantNames) (design : Design) (file : EdifFile) (valid : Is
       let none : (v : Bool) → needs_constant m.classes v ≡ true → Stands v = λ v needed. absurd (leaf_needs_none design.cells m.cell constant.is_leaf v
       ((need_is design.cells m.cell m.classes m.are_classes (valid.good_cells old.old m.cell m.is_there).joins_in_range v).0 needed)) in (
         value_of copy.0,
-        subst (λ k. IsCell other.cells k (value_of copy.0)) at (twin_at (number_of planned.plan old.old) copy.0 copy.1.is_there),
+        subst (λ k. IsCell other.cells k (value_of copy.0)) at (counterpart_at (number_of planned.plan old.old) copy.0 copy.1.is_there),
         constant_forth names design other (Some (length planned.values)) old.old (number_of planned.plan old.old) m.cell (value_of copy.0) value (copy_same old.old (number_of planned.plan old.old) copy.0 copy.1 none) constant,
       )
 
-  constant_twin : (value : Bool) → IsNeeded design value → Stands value
-  constant_twin value needed = elim (planned.is_plan.constants value needed) as (λ _. Stands value) [
+  constant_counterpart : (value : Bool) → IsNeeded design value → Stands value
+  constant_counterpart value needed = elim (planned.is_plan.constants value needed) as (λ _. Stands value) [
     | inl at ↦
         let k : ℕ = constant_number planned.plan value in
         let inside = slice_get_within planned.values k value at in
         let made = element_there planned.cells k (let long = planned.are_cells.as_many in omega (arith, inside, long)) in
-        (value_of made.0, twin_at k made.0 made.1, new_twin k value made.0 at made.1)
-    | inr old ↦ old_twin value old
+        (value_of made.0, counterpart_at k made.0 made.1, new_counterpart k value made.0 at made.1)
+    | inr old ↦ old_counterpart value old
   ]
 
   -- what is made of a cell is its partner
   pub same_copy : (number i : ℕ) (made : Cell) (copy : IsCopy names design file valid planned number i made) → SameCell names design other (Some (length planned.values)) number i copy.is_made.cell (value_of made)
   same_copy number i made copy =
       let m = copy.is_made in
-      copy_same number i made copy (λ value needed. constant_twin value (needed_by names design file valid planned number m.cell m.classes value m.is_there m.are_classes needed))
+      copy_same number i made copy (λ value needed. constant_counterpart value (needed_by names design file valid planned number m.cell m.classes value m.is_there m.are_classes needed))
 
   -- ---- all cells
 
   -- each first cell is that of a missing constant
-  pub first_twin : (i : ℕ) (twin : HCell) → i < length planned.values → IsCell other.cells i twin → (value : Bool) × (slice_get planned.values i ≡ Some value) × IsConstantCell names value twin
-  first_twin i twin inside there =
+  pub first_counterpart : (i : ℕ) (counterpart : HCell) → i < length planned.values → IsCell other.cells i counterpart → (value : Bool) × (slice_get planned.values i ≡ Some value) × IsConstantCell names value counterpart
+  first_counterpart i counterpart inside there =
       let value = element_there planned.values i inside in
-      let made = made_at i twin there in
-      (value.0, value.1, subst (IsConstantCell names value.0) made.2 (new_twin i value.0 made.0 value.1 made.1))
+      let made = made_at i counterpart there in
+      (value.0, value.1, subst (IsConstantCell names value.0) made.2 (new_counterpart i value.0 made.0 value.1 made.1))
 
-  same_kind : (good : AreConstantNames names) (value : Bool) (i : ℕ) (twin : HCell) → i < length planned.values → IsCell other.cells i twin → IsConstantCell names value twin → slice_get planned.values i ≡ Some value
-  same_kind good value i twin inside there constant =
-      let first = first_twin i twin inside there in
-      subst (λ v. slice_get planned.values i ≡ Some v) (one_kind names good first.0 value twin first.2 constant) first.1
+  same_kind : (good : AreConstantNames names) (value : Bool) (i : ℕ) (counterpart : HCell) → i < length planned.values → IsCell other.cells i counterpart → IsConstantCell names value counterpart → slice_get planned.values i ≡ Some value
+  same_kind good value i counterpart inside there constant =
+      let first = first_counterpart i counterpart inside there in
+      subst (λ v. slice_get planned.values i ≡ Some v) (one_kind names good first.0 value counterpart first.2 constant) first.1
 
   first_cells_are : AreConstantNames names → HasConstantCells names other (length planned.values)
   first_cells_are good = record {
-    first = λ i twin inside there. let first = first_twin i twin inside there in (first.0, first.2);
-    once = λ value i j twin otwin hi hj there othere constant oconstant.
+    first = λ i counterpart inside there. let first = first_counterpart i counterpart inside there in (first.0, first.2);
+    once = λ value i j counterpart ocounterpart hi hj there othere constant oconstant.
         stands_once planned.are_missing.is_missing i j value
-        (subst (λ l. slice_get l i ≡ Some value) planned.are_missing.are_those (same_kind good value i twin hi there constant))
-        (subst (λ l. slice_get l j ≡ Some value) planned.are_missing.are_those (same_kind good value j otwin hj othere oconstant));
-    no_join = λ i twin join value there h.
-        let made = made_at i twin there in
+        (subst (λ l. slice_get l i ≡ Some value) planned.are_missing.are_those (same_kind good value i counterpart hi there constant))
+        (subst (λ l. slice_get l j ≡ Some value) planned.are_missing.are_those (same_kind good value j ocounterpart hj othere oconstant));
+    no_join = λ i counterpart join value there h.
+        let made = made_at i counterpart there in
         joins_name_none (numbers_in_design (whole names design file valid planned)) (linked_cell (whole names design file valid planned) (place_in 0 made.0)) join value
         (subst (λ (c : HCell). Contains c.joins join) (sym made.2) h);
   }
@@ -162,7 +162,7 @@ module _ (names : ConstantNames) (design : Design) (file : EdifFile) (valid : Is
       let same : m.cell ≡ cell = same_element design.cells number m.cell cell m.is_there there in
       subst (HasPartner number onumber) same
       (subst (λ k. HasPartner number k m.cell) at
-      (value_of copy.0, twin_at (number_of planned.plan number) copy.0 copy.1.is_there, same_copy number (number_of planned.plan number) copy.0 copy.1))
+      (value_of copy.0, counterpart_at (number_of planned.plan number) copy.0 copy.1.is_there, same_copy number (number_of planned.plan number) copy.0 copy.1))
 
   top_partner : IsPartner design (Some (length planned.values)) design.top other.top
   top_partner =
@@ -173,7 +173,7 @@ module _ (names : ConstantNames) (design : Design) (file : EdifFile) (valid : Is
   pub same_cells : AreConstantNames names → SameCells names design other (Some (length planned.values))
   same_cells good = record {
     first = (few_missing, first_cells_are good);
-    no_more = twins_long ∙ planned.are_cells.as_many;
+    no_more = counterparts_long ∙ planned.are_cells.as_many;
     same_top = top_partner;
     same_cells = partner_at;
   }

@@ -15,7 +15,7 @@ use Rattle.edif_design.specs.Parts.{ports}
 use Rattle.edif_written.specs.Naming.{name_for}
 use Rattle.edif_written.specs.Written.{cell_of, netlist}
 use Rattle.edif_written.proofs.Parts.{ports_are, view_is_meant}
-use Rattle.edif_plans.specs.Faces.{PortFace, face_for, face_of, size_for}
+use Rattle.edif_plans.specs.Summaries.{PortSummary, summary_for, summary_of, size_for}
 use Rattle.edif_plans.specs.Made.{new_cell_for, output_for}
 use Rattle.edif_plans.specs.Plans.{constant_number, head_at, head_of, no_head, number_of}
 use Rattle.edif_plans.specs.declared.head.Head.{Head}
@@ -173,11 +173,11 @@ module _ (names : ConstantNames) (design : Design) (file : EdifFile) (valid : Is
   ports_apart : (i : ℕ) (cell : Cell) → slice_get planned.cells i ≡ Some cell → AreApart (map port_ident (ports cell))
   ports_apart i cell there = subst AreApart (head_for i cell there).ports_named (heads_apart i cell there)
 
-  made_faces : (number : ℕ) (made : Cell) (is : IsMadeOf names design planned.plan number made) → map face_of (ports made) ≡ map face_for is.cell.ports
-  made_faces number made is =
+  made_summaries : (number : ℕ) (made : Cell) (is : IsMadeOf names design planned.plan number made) → map summary_of (ports made) ≡ map summary_for is.cell.ports
+  made_summaries number made is =
       let c = is.is_made in
-      subst (λ (d : Cell). map face_of (ports d) ≡ map face_for is.cell.ports) (sym c.is_cell)
-      (ap (map face_of) (ports_are (name_for (head_of planned.plan number).cell is.cell.name) c.ports c.made_instances c.nets c.properties) ∙ c.are_ports.faces)
+      subst (λ (d : Cell). map summary_of (ports d) ≡ map summary_for is.cell.ports) (sym c.is_cell)
+      (ap (map summary_of) (ports_are (name_for (head_of planned.plan number).cell is.cell.name) c.ports c.made_instances c.nets c.properties) ∙ c.are_ports.summaries)
 
   stands : (number : ℕ) (cell : HCell) → IsCell design.cells number cell → StandsAt planned.plan planned.cells number cell
   stands number cell is_cell =
@@ -187,7 +187,7 @@ module _ (names : ConstantNames) (design : Design) (file : EdifFile) (valid : Is
         made = copy.0;
         is_there = copy.1.is_there;
         head = head_for (number_of planned.plan number) copy.0 copy.1.is_there;
-        faces = subst (λ (c : HCell). map face_of (ports copy.0) ≡ map face_for c.ports) same (made_faces number copy.0 copy.1.is_made);
+        summaries = subst (λ (c : HCell). map summary_of (ports copy.0) ≡ map summary_for c.ports) same (made_summaries number copy.0 copy.1.is_made);
       }
 
   pub are_placed : ArePlaced design.cells planned.plan planned.cells
@@ -228,15 +228,15 @@ module _ (names : ConstantNames) (design : Design) (file : EdifFile) (valid : Is
           let at : number_of planned.plan old.old ≡ k = planned.is_plan.numbers old.place old.old old.is_placed ∙ sym old.is_number in
           let there : slice_get planned.cells k ≡ Some copy.0 = ap (slice_get planned.cells) (sym at) ∙ copy.1.is_there in
           let same : copy.1.is_made.cell ≡ old.cell = same_element design.cells old.old copy.1.is_made.cell old.cell copy.1.is_made.is_there old.is_cell in
-          let port_faces : map face_of (ports copy.0) ≡ face_for old.is_constant.port ∷ [] = made_faces old.old copy.0 copy.1.is_made ∙ (ap (λ (c : HCell). map face_for c.ports) same ∙ ap (map face_for) old.is_constant.only_port) in
-          let found = shown_at face_of (ports copy.0) 0 (face_for old.is_constant.port) (ap (λ (l : List PortFace). slice_get l 0) port_faces) in
+          let port_summaries : map summary_of (ports copy.0) ≡ summary_for old.is_constant.port ∷ [] = made_summaries old.old copy.0 copy.1.is_made ∙ (ap (λ (c : HCell). map summary_for c.ports) same ∙ ap (map summary_for) old.is_constant.only_port) in
+          let found = shown_at summary_of (ports copy.0) 0 (summary_for old.is_constant.port) (ap (λ (l : List PortSummary). slice_get l 0) port_summaries) in
           record {
             made = copy.0;
             is_there = there;
             head = head_for k copy.0 there;
             port = found.item;
             has_port = found.is_there;
-            is_scalar = ap (λ (f : PortFace). f.size) found.shows ∙ ap size_for old.is_constant.is_scalar;
+            is_scalar = ap (λ (f : PortSummary). f.size) found.shows ∙ ap size_for old.is_constant.is_scalar;
           }
 
   -- the cells are made for the constants and of the cells of the design

@@ -7,7 +7,7 @@ use Rattle.edif_plans.specs.Plans.{number_of}
 use Rattle.edif_plans.proofs.Lists.{at_get}
 use Rattle.edif_copies.specs.Answers.{IsEdifDesign}
 use Rattle.edif_plans.specs.Planned.{IsPlannedFile}
-use Rattle.edif_copies.proofs.Partners.{first_twin, made_at, same_copy}
+use Rattle.edif_copies.proofs.Partners.{first_counterpart, made_at, same_copy}
 use Rattle.edif_copies.proofs.Placing.{all_below, kind_of}
 use Rattle.edif_copies.proofs.Reaching.{whole}
 use Rattle.net_graph.specs.Graph.{IsAbove, ReachesItself}
@@ -57,26 +57,26 @@ module _ (names : ConstantNames) (design : Design) (file : EdifFile) (valid : Is
 
   -- an instance of a partner is of a cell of lesser rank
   instance_falls : (number outer : ℕ) (cell partner : HCell) (place : ℕ) → slice_get design.order place ≡ Some number → outer ≡ length planned.values + place → IsCell design.cells number cell
-      → SameCell names design other (Some (length planned.values)) number outer cell partner → (i : ℕ) (twin : HInst) → slice_get partner.instances i ≡ Some twin → rank (cells_below other.cells) twin.cell < suc outer
-  instance_falls number outer cell partner place placed at there same i twin twin_there = elim (lt_or_le i (length cell.instances)) as (λ _. rank (cells_below other.cells) twin.cell < suc outer) [
+      → SameCell names design other (Some (length planned.values)) number outer cell partner → (i : ℕ) (counterpart : HInst) → slice_get partner.instances i ≡ Some counterpart → rank (cells_below other.cells) counterpart.cell < suc outer
+  instance_falls number outer cell partner place placed at there same i counterpart counterpart_there = elim (lt_or_le i (length cell.instances)) as (λ _. rank (cells_below other.cells) counterpart.cell < suc outer) [
     | inl own ↦
         let instance = element_there cell.instances i own in
         let found = same.same_instances i instance.0 instance.1 in
-        let is_twin : found.0 ≡ twin = same_element partner.instances i found.0 twin found.1 twin_there in
-        let inner : IsPartner design (Some (length planned.values)) instance.0.cell twin.cell = subst (λ (t : HInst). IsPartner design (Some (length planned.values)) instance.0.cell t.cell) is_twin found.2.same_cell in
+        let is_counterpart : found.0 ≡ counterpart = same_element partner.instances i found.0 counterpart found.1 counterpart_there in
+        let inner : IsPartner design (Some (length planned.values)) instance.0.cell counterpart.cell = subst (λ (t : HInst). IsPartner design (Some (length planned.values)) instance.0.cell t.cell) is_counterpart found.2.same_cell in
         let before = all_below names design file valid planned place number (below_of cell) i instance.0.cell placed
         (slice_get-map below_of design.cells number ∙ ap (option_map below_of) there) (slice_get-map (λ (x : HInst). x.cell) cell.instances i ∙ ap (option_map (λ (x : HInst). x.cell)) instance.1) in
         let p : number_of planned.plan instance.0.cell ≡ length planned.values + before.0 = planned.is_plan.numbers before.0 instance.0.cell before.2 in
         let q : number_of planned.plan instance.0.cell ≡ length planned.values + inner.0 = planned.is_plan.numbers inner.0 instance.0.cell inner.1 in
-        let r : twin.cell ≡ length planned.values + inner.0 = inner.2 in
+        let r : counterpart.cell ≡ length planned.values + inner.0 = inner.2 in
         let lt : before.0 < place = before.1 in
-        let low : rank (cells_below other.cells) twin.cell ≤ suc twin.cell = not_high (get_or (cells_below other.cells) twin.cell []) twin.cell in
+        let low : rank (cells_below other.cells) counterpart.cell ≤ suc counterpart.cell = not_high (get_or (cells_below other.cells) counterpart.cell []) counterpart.cell in
         omega (arith, p, q, r, lt, low, at)
     | inr added ↦
-        let value = same.added_alone i added (slice_get_within partner.instances i twin twin_there) in
+        let value = same.added_alone i added (slice_get_within partner.instances i counterpart counterpart_there) in
         let constant = (same.added_after value.0 i value.1).1 in
-        let is_twin : constant.the_instance ≡ twin = same_element partner.instances i constant.the_instance twin constant.is_there twin_there in
-        let low : rank (cells_below other.cells) twin.cell ≡ 0 = subst (λ (t : HInst). rank (cells_below other.cells) t.cell ≡ 0) is_twin (constant_low value.0 constant.the_instance.cell constant.below constant.is_below constant.is_constant) in
+        let is_counterpart : constant.the_instance ≡ counterpart = same_element partner.instances i constant.the_instance counterpart constant.is_there counterpart_there in
+        let low : rank (cells_below other.cells) counterpart.cell ≡ 0 = subst (λ (t : HInst). rank (cells_below other.cells) t.cell ≡ 0) is_counterpart (constant_low value.0 constant.the_instance.cell constant.below constant.is_below constant.is_constant) in
         omega (arith, low)
   ]
 
@@ -88,7 +88,7 @@ module _ (names : ConstantNames) (design : Design) (file : EdifFile) (valid : Is
       let low : rank (cells_below other.cells) inner < suc outer = subst (λ m. rank (cells_below other.cells) m < suc outer) at.is_of
       (elim (kind_of names design file valid planned outer made.0 made.1) as (λ _. rank (cells_below other.cells) at.instance.cell < suc outer) [
         | inl new ↦
-            let first = first_twin names design file valid planned other is outer list.cell (slice_get_within planned.values outer new.value new.is_value) list.is_cell in
+            let first = first_counterpart names design file valid planned other is outer list.cell (slice_get_within planned.values outer new.value new.is_value) list.is_cell in
             absurd (no_element list.cell.instances above.place at.instance first.2.is_leaf.no_instances at.is_there)
         | inr copy ↦
             let c = copy.1 in

@@ -17,9 +17,9 @@ use Rattle.edif_resolve.proofs.Renumbering.{ComesFrom, design_at, design_from, t
 use Rattle.edif_written.specs.Written.{file_of, work}
 use Rattle.edif_written.proofs.Cells.{all_cells_are, link_means}
 use Rattle.edif_written.proofs.Parts.{instances_are}
-use Rattle.edif_plans.specs.Faces.{InstanceFace, added_face, instance_face, own_face}
+use Rattle.edif_plans.specs.Summaries.{InstanceSummary, added_summary, instance_summary, own_summary}
 use Rattle.edif_plans.specs.Plans.{constant_head, constant_number, head_at, head_of, number_of}
-use Rattle.edif_plans.specs.References.{Scene, added_place}
+use Rattle.edif_plans.specs.References.{CellPlan, added_place}
 use Rattle.edif_partners.proofs.AddedMeans.{IsAddedAt, added_at, get_right}
 use Rattle.edif_partners.proofs.FileRules.{made_file_none}
 use Rattle.edif_partners.proofs.Free.{get_left, shown_at}
@@ -91,35 +91,35 @@ module _ (names : ConstantNames) (design : Design) (file : EdifFile) (valid : Is
       (inner_there whole clean start is_top outer (place_in 0 made) i named.instance (inner, place_in 0 below) (place_there outer made there) reached named.is_there link).0
 
   -- the instance at a place of what is made of a cell
-  shown_instance : (number : ℕ) (made : Cell) (is : IsMadeOf names design planned.plan number made) (i : ℕ) (face : InstanceFace) → slice_get (map instance_face is.is_made.made_instances) i ≡ Some face → face.library ≡ Some work → NamesCell made i face.cell
-  shown_instance number made is i face at library =
+  shown_instance : (number : ℕ) (made : Cell) (is : IsMadeOf names design planned.plan number made) (i : ℕ) (summary : InstanceSummary) → slice_get (map instance_summary is.is_made.made_instances) i ≡ Some summary → summary.library ≡ Some work → NamesCell made i summary.cell
+  shown_instance number made is i summary at library =
       let c = is.is_made in
-      let found = shown_at instance_face c.made_instances i face at in
+      let found = shown_at instance_summary c.made_instances i summary at in
       let all_instances : instances made ≡ c.made_instances = ap instances c.is_cell ∙ instances_are (name_for (head_of planned.plan number).cell is.cell.name) c.ports c.made_instances c.nets c.properties in
       record {
         instance = found.item;
         is_there = ap (λ (l : List Instance). slice_get l i) all_instances ∙ found.is_there;
-        library = ap (λ (f : InstanceFace). f.library) found.shows ∙ library;
-        of_cell = ap (λ (f : InstanceFace). f.cell) found.shows;
+        library = ap (λ (f : InstanceSummary). f.library) found.shows ∙ library;
+        of_cell = ap (λ (f : InstanceSummary). f.cell) found.shows;
       }
 
   own_instance : (number : ℕ) (made : Cell) (is : IsMadeOf names design planned.plan number made) (i : ℕ) (instance : HInst) → slice_get is.cell.instances i ≡ Some instance → NamesCell made i (head_of planned.plan instance.cell).cell
   own_instance number made is i instance there =
       let c = is.is_made in
-      shown_instance number made is i (own_face planned.plan instance) (ap (λ (l : List InstanceFace). slice_get l i) c.are_instances.faces
-      ∙ get_left (map (own_face planned.plan) is.cell.instances) (map (added_face planned.plan) c.instances.added) i (own_face planned.plan instance) (slice_get-map (own_face planned.plan) is.cell.instances i ∙ ap (option_map (own_face planned.plan)) there)) refl
+      shown_instance number made is i (own_summary planned.plan instance) (ap (λ (l : List InstanceSummary). slice_get l i) c.are_instances.summaries
+      ∙ get_left (map (own_summary planned.plan) is.cell.instances) (map (added_summary planned.plan) c.instances.added) i (own_summary planned.plan instance) (slice_get-map (own_summary planned.plan) is.cell.instances i ∙ ap (option_map (own_summary planned.plan)) there)) refl
 
   added_instance : (number : ℕ) (made : Cell) (is : IsMadeOf names design planned.plan number made) (value : Bool) → needs_constant is.classes value ≡ true → NamesCell made (added_place is.is_made.instances value) (constant_head planned.plan value).cell
   added_instance number made is value needed =
       let c = is.is_made in
-      let scene : Scene = record { cells = design.cells; plan = planned.plan; cell = is.cell; head = head_of planned.plan number; instances = c.instances } in
-      let a : IsAddedAt scene value = added_at scene is.classes c.are_added value needed in
+      let cell_plan : CellPlan = record { cells = design.cells; plan = planned.plan; cell = is.cell; head = head_of planned.plan number; instances = c.instances } in
+      let a : IsAddedAt cell_plan value = added_at cell_plan is.classes c.are_added value needed in
       let p : ℕ = added_place c.instances value in
-      let count : length (map (own_face planned.plan) is.cell.instances) ≡ length is.cell.instances = length-map is.cell.instances (own_face planned.plan) in
-      let at : slice_get (map instance_face c.made_instances) p ≡ Some (added_face planned.plan a.one) = ap (λ (l : List InstanceFace). slice_get l p) c.are_instances.faces
-      ∙ (get_right (map (own_face planned.plan) is.cell.instances) (map (added_face planned.plan) c.instances.added) p a.place (let e = a.at in omega (arith, e, count))
-      ∙ (slice_get-map (added_face planned.plan) c.instances.added a.place ∙ ap (option_map (added_face planned.plan)) a.is_there)) in
-      subst (λ v. NamesCell made p (constant_head planned.plan v).cell) a.is_value (shown_instance number made is p (added_face planned.plan a.one) at refl)
+      let count : length (map (own_summary planned.plan) is.cell.instances) ≡ length is.cell.instances = length-map is.cell.instances (own_summary planned.plan) in
+      let at : slice_get (map instance_summary c.made_instances) p ≡ Some (added_summary planned.plan a.one) = ap (λ (l : List InstanceSummary). slice_get l p) c.are_instances.summaries
+      ∙ (get_right (map (own_summary planned.plan) is.cell.instances) (map (added_summary planned.plan) c.instances.added) p a.place (let e = a.at in omega (arith, e, count))
+      ∙ (slice_get-map (added_summary planned.plan) c.instances.added a.place ∙ ap (option_map (added_summary planned.plan)) a.is_there)) in
+      subst (λ v. NamesCell made p (constant_head planned.plan v).cell) a.is_value (shown_instance number made is p (added_summary planned.plan a.one) at refl)
 
   -- ---- reach
 

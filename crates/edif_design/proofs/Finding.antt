@@ -14,7 +14,7 @@ use Rattle.edif_design.specs.Parts.{libraries, numbered}
 use Rattle.edif_design.specs.References.{CellPlace, all_cells, cell_candidates, cells_of_library, file_cells, library_candidates}
 use Rattle.edif_design.specs.Tables.{HasTables, library_ident, place_of}
 use Rattle.edif_design.specs.Views.{means_one, view_names}
-use Rattle.edif_design.specs.declared.tables.Place.{Place}
+use Rattle.edif_design.specs.declared.tables.PlacedCell.{PlacedCell}
 use Rattle.edif_design.proofs.ViewLaws.{means_views}
 
 get_or_any : {A : Type 0} (xs : List A) (i : ℕ) (d x : A) → i < length xs → get_or xs i d ≡ get_or xs i x
@@ -27,7 +27,7 @@ past [] i d h = refl
 past (x ∷ xs) zero d h = absurd (omega arith)
 past (x ∷ xs) (suc i) d h = past xs i d (omega arith)
 
-module _ (file : EdifFile) (places : List Place) (views_named : List (List (List ℕ))) (libraries_named : List (ℕ × List ℕ)) (cells_named : List (List (ℕ × List ℕ))) (tables : HasTables file places views_named libraries_named cells_named) where
+module _ (file : EdifFile) (places : List PlacedCell) (views_named : List (List (List ℕ))) (libraries_named : List (ℕ × List ℕ)) (cells_named : List (List (ℕ × List ℕ))) (tables : HasTables file places views_named libraries_named cells_named) where
   pub library_found : (spelling : List ℕ) → meaning libraries_named spelling ≡ meant_by (library_candidates file spelling)
   library_found spelling = ap (λ ds. meaning ds spelling) tables.libraries_are ∙ meaning-named {A = Library} library_ident (numbered (libraries file)) spelling
 
@@ -45,7 +45,7 @@ module _ (file : EdifFile) (places : List Place) (views_named : List (List (List
       ap (λ ps. slice_get (map (λ place. place.cell) ps) number) (sym tables.places_are)
       ∙ (slice_get-map (λ place. place.cell) (map place_of places) number ∙ ap (option_map (λ place. place.cell)) (slice_get-map place_of places number))
 
-  pub place_found : (number : ℕ) (place : Place) → number < length places → place ≡ get_or places number place → Some place.cell.now ≡ slice_get (file_cells file) number
+  pub place_found : (number : ℕ) (place : PlacedCell) → number < length places → place ≡ get_or places number place → Some place.cell.now ≡ slice_get (file_cells file) number
   place_found number place within is =
       sym (cells_are number ∙ ap (λ o. option_map (λ p. p.cell) (option_map place_of o)) (slice_get-get_or places number place within ∙ ap Some (sym is)))
 

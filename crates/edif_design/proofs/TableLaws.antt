@@ -15,7 +15,7 @@ use Rattle.edif_design.specs.Parts.{cells_in}
 use Rattle.edif_design.specs.References.{CellPlace, place_in}
 use Rattle.edif_design.specs.Tables.{cell_ident, library_ident, place_of, places_from, seen, tables_from}
 use Rattle.edif_design.specs.Views.{view_names}
-use Rattle.edif_design.specs.declared.tables.Place.{Place}
+use Rattle.edif_design.specs.declared.tables.PlacedCell.{PlacedCell}
 
 abbrev stands_in : ℕ → ℕ × CellPlace → Bool
 stands_in library place = place.1.library == library
@@ -125,6 +125,6 @@ module _ (libraries : List (Bor Library)) (i : ℕ) (d : Bor Library) (h : i < l
       ∙ ap (λ n. named library_ident (enumerate_from 0 (seen (take i libraries))) ++ (n, (get_or libraries i d).now.name.ident) ∷ []) before_is)
 
 -- the views of the cells at these places
-pub views_placed : (places : List Place) → map (λ place. view_names place.cell.now) places ≡ map view_names (map (λ place. place.cell) (map place_of places))
+pub views_placed : (places : List PlacedCell) → map (λ place. view_names place.cell.now) places ≡ map view_names (map (λ place. place.cell) (map place_of places))
 views_placed [] = refl
 views_placed (place ∷ places) = ap (λ rest. view_names place.cell.now ∷ rest) (views_placed places)

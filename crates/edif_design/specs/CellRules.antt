@@ -49,8 +49,8 @@ is_bad_size None = false
 is_bad_size (Some size) = int_lt size (pos 1) || int_lt (pos 65536) size
 
 -- E5 and E12 of a port: by whether an earlier port has its identifier, whether one has its original name, and by its size
-abbrev pub port_breaks : List ℕ → Bool → Bool → List ℕ → List ℕ → Option ℤ → List Refusal
-port_breaks cell ident_taken name_taken ident name size =
+abbrev pub port_refusals_by : List ℕ → Bool → Bool → List ℕ → List ℕ → Option ℤ → List Refusal
+port_refusals_by cell ident_taken name_taken ident name size =
     broken ident_taken E5 cell (codes "port" ∷ (ident ∷ []))
     ++ broken (is_bad_size size) E12 cell (codes "size" ∷ (name ∷ []))
     ++ broken name_taken E12 cell (codes "port" ∷ (name ∷ []))
@@ -58,7 +58,7 @@ port_breaks cell ident_taken name_taken ident name size =
 -- E5 and E12 of a port of the cell of this name, after these ports
 abbrev pub port_refusals : List ℕ → List Port → Port → List Refusal
 port_refusals cell earlier port =
-    port_breaks cell (is_in (port_ident port) (map port_ident earlier)) (is_in (port_name port) (map port_name earlier)) (port_ident port) (port_name port) (size_of port.name)
+    port_refusals_by cell (is_in (port_ident port) (map port_ident earlier)) (is_in (port_name port) (map port_name earlier)) (port_ident port) (port_name port) (size_of port.name)
 
 -- ---- instances
 
@@ -177,10 +177,10 @@ member_refusals cell names size (Some index) = broken (is_no_member size index) 
 -- E9, E10 and E11 of a reference to a port, where earlier nets have these bits
 abbrev pub bit_refusals : List ℕ → List ℕ → List Node → Owner → (ℕ × Port) → Option ℤ → List Refusal
 bit_refusals cell net taken owner port member =
-    let face = port_original port.1.name in
-    let names = net ∷ (owner_names owner ++ face.0 ∷ []) in
+    let named = port_original port.1.name in
+    let names = net ∷ (owner_names owner ++ named.0 ∷ []) in
     member_refusals cell names (size_of port.1.name) member
-    ++ if_some (bit_of (size_of port.1.name) member) (λ bit. broken (list_any (same_node (node_of owner port.0 bit)) taken) E11 cell (names ++ index_names face.1 bit))
+    ++ if_some (bit_of (size_of port.1.name) member) (λ bit. broken (list_any (same_node (node_of owner port.0 bit)) taken) E11 cell (names ++ index_names named.1 bit))
 
 -- E6 and E8 to E11 of a reference to a port of this owner
 abbrev pub port_ref_refusals : List ℕ → List ℕ → List Node → PortRef → Owner → List Refusal

@@ -16,7 +16,7 @@ use Rattle.edif_design.specs.References.{CellPlace, all_cells, cell_candidates, 
 use Rattle.edif_design.specs.Views.{view_names}
 use Rattle.edif_design.specs.declared.links.Linked.{Linked}
 use Rattle.edif_design.specs.declared.links.Linked.TheVariants as linked
-use Rattle.edif_design.specs.declared.tables.Place.{Place}
+use Rattle.edif_design.specs.declared.tables.PlacedCell.{PlacedCell}
 
 -- the identifiers of libraries and of cells
 abbrev pub library_ident : Library → List ℕ
@@ -26,7 +26,7 @@ abbrev pub cell_ident : Cell → List ℕ
 cell_ident cell = cell.name.ident
 
 -- a cell of the file as the program holds it
-abbrev pub place_of : Place → CellPlace
+abbrev pub place_of : PlacedCell → CellPlace
 place_of place = record { library = place.library; cell = place.cell.now }
 
 -- the things behind some borrows
@@ -43,7 +43,7 @@ tables_from first [] = []
 tables_from first (library ∷ rest) = named cell_ident (enumerate_from first (cells_in library)) ∷ tables_from (first + length (cells_in library)) rest
 
 -- the tables hold the cells of the file, the views of each cell, the libraries, and the cells of each library
-pub record HasTables (file : EdifFile) (places : List Place) (views_named : List (List (List ℕ))) (libraries_named : List (ℕ × List ℕ)) (cells_named : List (List (ℕ × List ℕ))) : Type 0 where
+pub record HasTables (file : EdifFile) (places : List PlacedCell) (views_named : List (List (List ℕ))) (libraries_named : List (ℕ × List ℕ)) (cells_named : List (List (ℕ × List ℕ))) : Type 0 where
   pub places_are : map place_of places ≡ all_cells file
   pub views_are : views_named ≡ map view_names (file_cells file)
   pub libraries_are : libraries_named ≡ named library_ident (numbered (libraries file))

@@ -15,4 +15,4 @@ pub mod tables;
 pub mod views;
 
 pub use links::Linked;
-pub use tables::{FileTables, Place};
+pub use tables::{FileTables, PlacedCell};

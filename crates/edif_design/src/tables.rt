@@ -19,7 +19,7 @@ use std::marker::Model;
 
 /// A cell of a file, and the number of the library in which it stands.
 #[derive(Clone, Copy)]
-pub struct Place<'a> {
+pub struct PlacedCell<'a> {
     pub library: u32,
     pub cell: &'a Cell,
 }
@@ -28,7 +28,7 @@ pub struct Place<'a> {
 #[derive(Drop)]
 pub struct FileTables<'a> {
     file: &'a EdifFile,
-    places: Vec<Place<'a>>,
+    places: Vec<PlacedCell<'a>>,
     views: Vec<CellViews<'a>>,
     libraries: Definitions<'a>,
     cells: Vec<Definitions<'a>>,
@@ -50,7 +50,7 @@ impl<'a> Model for FileTables<'a> {
 }
 
 // Adds the library that a part of a file is.
-fn add_library<'a>(found: &mut Vec<&'a Library>, item: &'a FileItem) -> Result<(), NoMemory>
+fn push_library<'a>(found: &mut Vec<&'a Library>, item: &'a FileItem) -> Result<(), NoMemory>
     ensures { OnOk result (seen found.new.items ≡ seen found.old.items ++ option_to_list (library_in item.now)) }
 {
     match item {
@@ -68,14 +68,14 @@ fn libraries_of<'a>(alloc: Global, file: &'a EdifFile) -> Result<Vec<&'a Library
 {
     let mut found = Vec::new(alloc);
     for item in file.items.items() {
-        add_library(&mut found, item)?;
+        push_library(&mut found, item)?;
     }
     Ok(found)
 }
 
 // Adds the cell that a part of a library is.
-fn add_cell<'a>(
-    places: &mut Vec<Place<'a>>,
+fn push_cell<'a>(
+    places: &mut Vec<PlacedCell<'a>>,
     library: u32,
     item: &'a LibraryItem,
 ) -> Result<(), NoMemory>
@@ -83,7 +83,7 @@ fn add_cell<'a>(
 {
     match item {
         LibraryItem::Cell(cell) => {
-            places.push(Place { library, cell })?;
+            places.push(PlacedCell { library, cell })?;
             Ok(())
         }
         _ => Ok(()),
@@ -91,33 +91,33 @@ fn add_cell<'a>(
 }
 
 // Adds the cells of the library with this number.
-fn add_cells<'a>(
-    places: &mut Vec<Place<'a>>,
+fn push_cells<'a>(
+    places: &mut Vec<PlacedCell<'a>>,
     number: u32,
     library: &'a Library,
 ) -> Result<(), NoMemory>
     ensures { OnOk result (map place_of places.new.items ≡ map place_of places.old.items ++ map (place_in number) (cells_in library.now)) }
 {
     for item in library.items.items() {
-        add_cell(places, number, item)?;
+        push_cell(places, number, item)?;
     }
     Ok(())
 }
 
 // The cells of these libraries.
-fn places_of<'a>(alloc: Global, libraries: &[&'a Library]) -> Result<Vec<Place<'a>>, NoMemory>
+fn places_of<'a>(alloc: Global, libraries: &[&'a Library]) -> Result<Vec<PlacedCell<'a>>, NoMemory>
     requires { length libraries.now ≤ count_limit }
     ensures { IfOk result (λ places. map place_of places.items ≡ places_from 0 (seen libraries.now)) }
 {
     let mut places = Vec::new(alloc);
     for number in 0..libraries.len() as u32 {
-        add_cells(&mut places, number, libraries[number as usize])?;
+        push_cells(&mut places, number, libraries[number as usize])?;
     }
     Ok(places)
 }
 
 // The views of each of these cells.
-fn cell_views<'a>(alloc: Global, places: &[Place<'a>]) -> Result<Vec<CellViews<'a>>, NoMemory>
+fn cell_views<'a>(alloc: Global, places: &[PlacedCell<'a>]) -> Result<Vec<CellViews<'a>>, NoMemory>
     ensures { IfOk result (λ made. made.items ≡ map (λ place. view_names place.cell.now) places.now) }
 {
     let mut made = Vec::with_capacity(alloc, places.len())?;
@@ -144,7 +144,7 @@ fn library_entries<'a>(
 }
 
 // Adds the name of the cell that a part of a library is, with the next number from the first on.
-fn add_name<'a>(
+fn push_name<'a>(
     entries: &mut Vec<(u32, &'a [u8])>,
     first: u32,
     item: &'a LibraryItem,
@@ -173,7 +173,7 @@ fn cell_entries<'a>(
 {
     let mut entries = Vec::new(alloc);
     for item in library.items.items() {
-        add_name(&mut entries, first, item)?;
+        push_name(&mut entries, first, item)?;
     }
     Ok(entries)
 }
@@ -225,7 +225,7 @@ impl<'a> FileTables<'a> {
     }
 
     /// The cells of the file, in file order.
-    pub fn places(&self) -> &[Place<'a>]
+    pub fn places(&self) -> &[PlacedCell<'a>]
         ensures { map place_of result.now ≡ all_cells self.now }
     {
         self.places.as_slice()

@@ -28,7 +28,7 @@ impl<'a> Model for CellViews<'a> {
 }
 
 // Adds the identifier of the view that a part of a cell is. It is only asked whether a view is meant, so that its number is always 0.
-fn add_view<'a>(entries: &mut Vec<(u32, &'a [u8])>, item: &'a CellItem) -> Result<(), NoMemory>
+fn push_view<'a>(entries: &mut Vec<(u32, &'a [u8])>, item: &'a CellItem) -> Result<(), NoMemory>
     ensures { OnOk result (entry_names entries.new.items ≡ entry_names entries.old.items ++ map view_ident (option_to_list (view_in item.now))) }
 {
     match item {
@@ -46,7 +46,7 @@ fn view_entries<'a>(alloc: Global, cell: &'a Cell) -> Result<Vec<(u32, &'a [u8])
 {
     let mut entries = Vec::new(alloc);
     for item in cell.items.items() {
-        add_view(&mut entries, item)?;
+        push_view(&mut entries, item)?;
     }
     Ok(entries)
 }

@@ -11,11 +11,11 @@ use std::marker::Model;
 
 /// A set of names, seen as a list of them.
 #[derive(Drop)]
-pub struct Names<'a> {
+pub struct NameSet<'a> {
     set: IndexSet<Name<'a>>,
 }
 
-impl<'a> Model for Names<'a> {
+impl<'a> Model for NameSet<'a> {
     ghost use Rattle.std.specs.Prelude.{List, ℕ, map};
 
     ghost Value = { List (List ℕ) };
@@ -23,11 +23,11 @@ impl<'a> Model for Names<'a> {
     ghost view = { λ n. map (λ key. key.bytes.now) n.set.keys };
 }
 
-impl<'a> Names<'a> {
-    pub fn new(alloc: Global) -> Names<'a>
+impl<'a> NameSet<'a> {
+    pub fn new(alloc: Global) -> NameSet<'a>
         ensures { (name : List ℕ) → is_in name result ≡ false }
     {
-        Names {
+        NameSet {
             set: IndexSet::new(alloc),
         }
     }

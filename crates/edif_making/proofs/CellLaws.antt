@@ -15,7 +15,7 @@ use Rattle.net_live.proofs.LiveLaws.{joined_node}
 use Rattle.net_stars.proofs.Lists.{contains_first, contains_later}
 use Rattle.edif_plans.specs.Made.{AreAddedTo, live_below, needed_values}
 use Rattle.edif_plans.specs.Plans.{FitsCells, HasConstant, HasPorts, constant_number}
-use Rattle.edif_plans.specs.References.{CanRefer, FitsScene, HasPin, Scene}
+use Rattle.edif_plans.specs.References.{CanRefer, FitsCellPlan, HasPin, CellPlan}
 use Rattle.edif_plans.specs.declared.added.Added.{Added}
 use Rattle.edif_plans.specs.declared.plan.Plan.{Plan}
 use Rattle.edif_making.specs.Nets.{HaveRefs}
@@ -40,35 +40,35 @@ some_added classes added value values needed =
     let same : length added ≡ length (needed_values classes) = sym (length-map added (λ (one : Added). one.value)) ∙ ap length values in
     omega (arith, some, same)
 
--- ---- the scene of a cell
+-- ---- the plan of a cell
 
-pub scene_fits : (scene : Scene) (classes : ClassTable) → FitsCells scene.cells scene.plan → HasPorts scene.head scene.cell → IsGoodCell scene.cells scene.cell → AreAddedTo scene.cell.instances classes scene.instances → FitsScene scene
-scene_fits scene classes plan ports good are = record { plan_fits = plan; ports_fit = ports; idents_fit = idents_count scene.cell.instances classes scene.instances are; in_range = good.instances_in_range }
+pub cell_plan_fits : (cell_plan : CellPlan) (classes : ClassTable) → FitsCells cell_plan.cells cell_plan.plan → HasPorts cell_plan.head cell_plan.cell → IsGoodCell cell_plan.cells cell_plan.cell → AreAddedTo cell_plan.cell.instances classes cell_plan.instances → FitsCellPlan cell_plan
+cell_plan_fits cell_plan classes plan ports good are = record { plan_fits = plan; ports_fit = ports; idents_fit = idents_count cell_plan.cell.instances classes cell_plan.instances are; in_range = good.instances_in_range }
 
 all_from : {A : Type 0} (P : A → Type 0) (xs : List A) → ((x : A) → Contains xs x → P x) → AllByRecursion P xs
 all_from P [] h = tt
 all_from P (x ∷ xs) h = (h x (contains_first x xs), all_from P xs (λ y m. h y (contains_later x y xs m)))
 
-module _ (scene : Scene) (classes : ClassTable) (are : AreClasses scene.cell classes) (good : IsGoodCell scene.cells scene.cell) (added : AreAddedTo scene.cell.instances classes scene.instances)
-    (constants : (value : Bool) → needs_constant classes value ≡ true → HasConstant scene.plan value) where
-  has_pin : (value : Bool) (class : ℕ) → class_of classes (constant_node value) ≡ Some class → is_live scene.cell.nets (members_of classes class) ≡ true → HasPin scene value
+module _ (cell_plan : CellPlan) (classes : ClassTable) (are : AreClasses cell_plan.cell classes) (good : IsGoodCell cell_plan.cells cell_plan.cell) (added : AreAddedTo cell_plan.cell.instances classes cell_plan.instances)
+    (constants : (value : Bool) → needs_constant classes value ≡ true → HasConstant cell_plan.plan value) where
+  has_pin : (value : Bool) (class : ℕ) → class_of classes (constant_node value) ≡ Some class → is_live cell_plan.cell.nets (members_of classes class) ≡ true → HasPin cell_plan value
   has_pin value class of_class live =
-      let needed = constant_is_needed scene.cell classes are value class of_class live in
-      record { is_added = some_added classes scene.instances.added value added.values needed; constant = constants value needed }
+      let needed = constant_is_needed cell_plan.cell classes are value class of_class live in
+      record { is_added = some_added classes cell_plan.instances.added value added.values needed; constant = constants value needed }
 
-  can_refer : (node : Node) (class : ℕ) → class_of classes node ≡ Some class → is_live scene.cell.nets (members_of classes class) ≡ true → CanRefer scene node
-  can_refer (Port port bit) class of_class live = joined_node scene.cells scene.cell classes are good.joins_in_range (Port port bit) class of_class
-  can_refer (Pin instance port bit) class of_class live = joined_node scene.cells scene.cell classes are good.joins_in_range (Pin instance port bit) class of_class
+  can_refer : (node : Node) (class : ℕ) → class_of classes node ≡ Some class → is_live cell_plan.cell.nets (members_of classes class) ≡ true → CanRefer cell_plan node
+  can_refer (Port port bit) class of_class live = joined_node cell_plan.cells cell_plan.cell classes are good.joins_in_range (Port port bit) class of_class
+  can_refer (Pin instance port bit) class of_class live = joined_node cell_plan.cells cell_plan.cell classes are good.joins_in_range (Pin instance port bit) class of_class
   can_refer (Net net) class of_class live = tt
   can_refer Zero class of_class live = has_pin false class of_class live
   can_refer One class of_class live = has_pin true class of_class live
 
   -- all that the nets of a cell name is there
-  pub refs_there : HaveRefs scene classes (live_below scene.cell.nets classes classes.count)
+  pub refs_there : HaveRefs cell_plan classes (live_below cell_plan.cell.nets classes classes.count)
   refs_there = record {
-    counted = λ place class there. (live_each scene.cell.nets classes classes.count place class there).0;
-    there = λ place class there. all_from (CanRefer scene) (members_of classes class) (λ node m.
-        can_refer node class ((member_of_class scene.cell classes are node class).1 m) (live_each scene.cell.nets classes classes.count place class there).1);
+    counted = λ place class there. (live_each cell_plan.cell.nets classes classes.count place class there).0;
+    there = λ place class there. all_from (CanRefer cell_plan) (members_of classes class) (λ node m.
+        can_refer node class ((member_of_class cell_plan.cell classes are node class).1 m) (live_each cell_plan.cell.nets classes classes.count place class there).1);
   }
 
 pub added_in_plan : (plan : Plan) (classes : ClassTable) (added : List Added) → map (λ (one : Added). one.value) added ≡ needed_values classes → ((value : Bool) → needs_constant classes value ≡ true → HasConstant plan value)

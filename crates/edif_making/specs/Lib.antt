@@ -1,3 +1,3 @@
 pub mod Named
 pub mod Nets
-pub mod Scenes
+pub mod CellPlans

@@ -4,13 +4,13 @@ use Rattle.std.specs.List.{AllByRecursion}
 use Rattle.nl_base.specs.Ranges.{Bounds, index_at}
 use Rattle.net_bits.specs.Classes.{ClassTable, members_of}
 use Rattle.net_hier.specs.declared.cells.HCell.{HCell}
-use Rattle.edif_plans.specs.References.{CanRefer, Scene}
+use Rattle.edif_plans.specs.References.{CanRefer, CellPlan}
 use Rattle.edif_plans.specs.Sound.{IsSoundNet, IsSoundPort}
 
 -- each of these classes is one, and what its nodes are, or what stands for them, is there
-pub record HaveRefs (scene : Scene) (classes : ClassTable) (live : List ℕ) : Type 0 where
+pub record HaveRefs (cell_plan : CellPlan) (classes : ClassTable) (live : List ℕ) : Type 0 where
   pub counted : (place class : ℕ) → slice_get live place ≡ Some class → class < classes.count
-  pub there : (place class : ℕ) → slice_get live place ≡ Some class → AllByRecursion (CanRefer scene) (members_of classes class)
+  pub there : (place class : ℕ) → slice_get live place ≡ Some class → AllByRecursion (CanRefer cell_plan) (members_of classes class)
 
 -- the names of nets that are made of those of the cell's nets and ports can be written
 pub record HaveSoundNets (cell : HCell) : Type 0 where

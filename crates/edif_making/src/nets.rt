@@ -13,12 +13,12 @@ ghost use Rattle.net_live.specs.Last.{last_of};
 ghost use Rattle.net_live.specs.Live.{bit_word as bit_word_of, class_props as class_props_of, is_live as is_live_class};
 ghost use Rattle.edif_plans.specs.Made.{AreNetsFor, live_below};
 ghost use Rattle.edif_plans.specs.NetNames.{HasNoSpareText, first_port_bit as first_port_bit_of, name_of_bit, name_of_class, name_of_net, plain_name as plain_name_of, port_bit as port_bit_of};
-ghost use Rattle.edif_plans.specs.References.{CanRefer, FitsScene, refs_for};
+ghost use Rattle.edif_plans.specs.References.{CanRefer, FitsCellPlan, refs_for};
 ghost use Rattle.edif_plans.specs.Sound.{IsSoundNet, IsSoundPort};
 ghost use Rattle.edif_spaces.specs.Spaces.{AreIdents};
 ghost use Rattle.edif_making.specs.Named.{IsNamed};
 ghost use Rattle.edif_making.specs.Nets.{HasFewDigits, HaveRefs, HaveSoundNets};
-ghost use Rattle.edif_making.specs.Scenes.{scene_of};
+ghost use Rattle.edif_making.specs.CellPlans.{cell_plan_of};
 
 use crate::refs::{Scope, refs_of};
 use edif_naming::{named, properties_of};
@@ -272,10 +272,10 @@ fn net_of(
     name: &[u8],
     nodes: &[Node],
 ) -> Result<Net, NoMemory>
-    requires fits { FitsScene (scene_of scope.now) }
-    requires there { AllByRecursion (CanRefer (scene_of scope.now)) nodes.now }
+    requires fits { FitsCellPlan (cell_plan_of scope.now) }
+    requires there { AllByRecursion (CanRefer (cell_plan_of scope.now)) nodes.now }
     ensures name { IfOk result (λ made. made.name ≡ name_for ident.now name.now) }
-    ensures joined { IfOk result (λ made. made.joined ≡ refs_for (scene_of scope.now) nodes.now) }
+    ensures joined { IfOk result (λ made. made.joined ≡ refs_for (cell_plan_of scope.now) nodes.now) }
     ensures props { IfOk result (λ made. (net_value made).props ≡ last_of (class_props_of scope.now.cell.now.nets nodes.now)) }
     ensures sound { IsString name.now → AllByRecursion IsSoundNet scope.now.cell.now.nets → IfOk result IsNet }
 {
@@ -298,15 +298,15 @@ fn nets_with(
     planned: &[Planned],
     idents: &[Ident],
 ) -> Result<Vec<Net>, NoMemory>
-    requires fits { FitsScene (scene_of scope.now) }
-    requires there { HaveRefs (scene_of scope.now) classes.now (map (λ net. net.class) planned.now) }
+    requires fits { FitsCellPlan (cell_plan_of scope.now) }
+    requires there { HaveRefs (cell_plan_of scope.now) classes.now (map (λ net. net.class) planned.now) }
     requires idents { length idents.now ≡ length planned.now }
     ensures idents { IfOk result (λ made. map (λ net. net.name.ident) made.items ≡ idents.now) }
     ensures names { IfOk result (λ made. map (λ net. original net.name) made.items
         ≡ map (λ net. net.name) planned.now) }
     ensures no_spare_text { IfOk result (λ made. AllByRecursion (λ net. HasNoSpareText net.name)
         made.items) }
-    ensures joined { IfOk result (λ made. map (λ net. net.joined) made.items ≡ map (λ net. refs_for (scene_of scope.now) (members_of classes.now net.class)) planned.now) }
+    ensures joined { IfOk result (λ made. map (λ net. net.joined) made.items ≡ map (λ net. refs_for (cell_plan_of scope.now) (members_of classes.now net.class)) planned.now) }
     ensures props { IfOk result (λ made. map (λ net. (net_value net).props) made.items ≡ map (λ net. last_of (class_props_of scope.now.cell.now.nets (members_of classes.now net.class))) planned.now) }
     ensures sound { AllByRecursion IsSoundNet scope.now.cell.now.nets → AllByRecursion (λ net. IsString net.name) planned.now → IfOk result (λ made. AllByRecursion IsNet made.items) }
 {
@@ -323,9 +323,9 @@ fn nets_with(
 
 /// The nets of a cell, one for each live class.
 pub fn nets_of(alloc: Global, scope: &Scope<'_>, classes: &Classes) -> Result<Vec<Net>, NoMemory>
-    requires fits { FitsScene (scene_of scope.now) }
-    requires there { HaveRefs (scene_of scope.now) classes.now (live_below scope.now.cell.now.nets classes.now classes.now.count) }
-    ensures { IfOk result (λ made. AreNetsFor (scene_of scope.now) classes.now (live_below scope.now.cell.now.nets classes.now classes.now.count) made.items) }
+    requires fits { FitsCellPlan (cell_plan_of scope.now) }
+    requires there { HaveRefs (cell_plan_of scope.now) classes.now (live_below scope.now.cell.now.nets classes.now classes.now.count) }
+    ensures { IfOk result (λ made. AreNetsFor (cell_plan_of scope.now) classes.now (live_below scope.now.cell.now.nets classes.now classes.now.count) made.items) }
 {
     let planned = planned_nets(alloc, scope.cell, classes)?;
     let plans = planned.as_slice();

@@ -3,8 +3,8 @@ ghost use Rattle.std.specs.Prelude.{◌≡◌, ◌++◌, ◌<◌, ◌≤◌, [],
 ghost use Rattle.std.specs.List.{AllByRecursion};
 ghost use Rattle.edif_values.specs.Values.{IsWord, IsPortRef};
 ghost use Rattle.net_hier.specs.Cells.{IsPinBit, IsPortBit};
-ghost use Rattle.edif_plans.specs.References.{CanRefer, FitsScene, HasPin, added_place as place_of_added, below_at, constant_ref_for, member_for, own_ref_for, pin_ref_for, ports_at, range_at, ref_for, refs_for};
-ghost use Rattle.edif_making.specs.Scenes.{scene_of};
+ghost use Rattle.edif_plans.specs.References.{CanRefer, FitsCellPlan, HasPin, added_place as place_of_added, below_at, constant_ref_for, member_for, own_ref_for, pin_ref_for, ports_at, range_at, ref_for, refs_for};
+ghost use Rattle.edif_making.specs.CellPlans.{cell_plan_of};
 
 use edif_naming::copied;
 use edif_plans::{Head, Instances, Plan};
@@ -161,9 +161,9 @@ fn pin_ref(
     port: u32,
     bit: u32,
 ) -> Result<PortRef, NoMemory>
-    requires fits { FitsScene (scene_of scope.now) }
+    requires fits { FitsCellPlan (cell_plan_of scope.now) }
     requires bit { IsPinBit scope.now.hier.now.cells scope.now.cell.now instance port bit }
-    ensures made { IfOk result (λ made. made ≡ pin_ref_for (scene_of scope.now) instance port bit) }
+    ensures made { IfOk result (λ made. made ≡ pin_ref_for (cell_plan_of scope.now) instance port bit) }
     ensures sound { IfOk result IsPortRef }
 {
     let own = scope.cell.instances.items();
@@ -187,9 +187,9 @@ fn pin_ref(
 
 /// The reference to a port bit.
 fn port_ref(alloc: Global, scope: &Scope<'_>, port: u32, bit: u32) -> Result<PortRef, NoMemory>
-    requires fits { FitsScene (scene_of scope.now) }
+    requires fits { FitsCellPlan (cell_plan_of scope.now) }
     requires bit { IsPortBit scope.now.cell.now port bit }
-    ensures made { IfOk result (λ made. made ≡ own_ref_for (scene_of scope.now) port bit) }
+    ensures made { IfOk result (λ made. made ≡ own_ref_for (cell_plan_of scope.now) port bit) }
     ensures sound { IfOk result IsPortRef }
 {
     let idents = scope.head.ports.items();
@@ -200,9 +200,9 @@ fn port_ref(alloc: Global, scope: &Scope<'_>, port: u32, bit: u32) -> Result<Por
 
 /// The reference to the pin of the instance that is added for a constant.
 fn constant_ref(alloc: Global, scope: &Scope<'_>, value: bool) -> Result<PortRef, NoMemory>
-    requires fits { FitsScene (scene_of scope.now) }
-    requires pin { HasPin (scene_of scope.now) value }
-    ensures made { IfOk result (λ made. made ≡ constant_ref_for (scene_of scope.now) value) }
+    requires fits { FitsCellPlan (cell_plan_of scope.now) }
+    requires pin { HasPin (cell_plan_of scope.now) value }
+    ensures made { IfOk result (λ made. made ≡ constant_ref_for (cell_plan_of scope.now) value) }
     ensures sound { IfOk result IsPortRef }
 {
     let place = added_place(scope.instances, value);
@@ -216,9 +216,9 @@ fn constant_ref(alloc: Global, scope: &Scope<'_>, value: bool) -> Result<PortRef
 /// The reference to what the node stands for; a net has none.
 #[tactic(auto, unfolding(edif_plans::specs::References::ref_for))]
 fn ref_of(alloc: Global, scope: &Scope<'_>, node: Node) -> Result<Option<PortRef>, NoMemory>
-    requires fits { FitsScene (scene_of scope.now) }
-    requires there { CanRefer (scene_of scope.now) node }
-    ensures made { IfOk result (λ made. made ≡ ref_for (scene_of scope.now) node) }
+    requires fits { FitsCellPlan (cell_plan_of scope.now) }
+    requires there { CanRefer (cell_plan_of scope.now) node }
+    ensures made { IfOk result (λ made. made ≡ ref_for (cell_plan_of scope.now) node) }
     ensures sound { IfOk result (λ made. IfSome made IsPortRef) }
 {
     match node {
@@ -253,9 +253,9 @@ fn add_ref(
     node: Node,
     refs: &mut Vec<PortRef>,
 ) -> Result<(), NoMemory>
-    requires fits { FitsScene (scene_of scope.now) }
-    requires there { CanRefer (scene_of scope.now) node }
-    ensures added { OnOk result (refs.new.items ≡ refs.old.items ++ option_to_list (ref_for (scene_of scope.now) node)) }
+    requires fits { FitsCellPlan (cell_plan_of scope.now) }
+    requires there { CanRefer (cell_plan_of scope.now) node }
+    ensures added { OnOk result (refs.new.items ≡ refs.old.items ++ option_to_list (ref_for (cell_plan_of scope.now) node)) }
     ensures sound { AllByRecursion IsPortRef refs.old.items → OnOk result (AllByRecursion IsPortRef refs.new.items) }
 {
     match ref_of(alloc, scope, node)? {
@@ -269,9 +269,9 @@ fn add_ref(
 
 /// The references to the port bits, the pin bits and the constants of a class.
 pub fn refs_of(alloc: Global, scope: &Scope<'_>, nodes: &[Node]) -> Result<Seq<PortRef>, NoMemory>
-    requires fits { FitsScene (scene_of scope.now) }
-    requires there { AllByRecursion (CanRefer (scene_of scope.now)) nodes.now }
-    ensures made { IfOk result (λ refs. refs ≡ refs_for (scene_of scope.now) nodes.now) }
+    requires fits { FitsCellPlan (cell_plan_of scope.now) }
+    requires there { AllByRecursion (CanRefer (cell_plan_of scope.now)) nodes.now }
+    ensures made { IfOk result (λ refs. refs ≡ refs_for (cell_plan_of scope.now) nodes.now) }
     ensures sound { IfOk result (AllByRecursion IsPortRef) }
 {
     let mut refs = Vec::with_capacity(alloc, end_count(nodes))?;

@@ -15,7 +15,7 @@ use Rattle.edif_written.specs.Written.{file_of}
 use Rattle.edif_written.proofs.CellLaws.{cell_none}
 use Rattle.edif_written.specs.Naming.{name_for}
 use Rattle.edif_plans.specs.Made.{IsMadeCell}
-use Rattle.edif_plans.specs.References.{Scene}
+use Rattle.edif_plans.specs.References.{CellPlan}
 use Rattle.edif_plans.specs.declared.head.Head.{Head}
 use Rattle.edif_plans.specs.declared.plan.Plan.{Plan}
 use Rattle.edif_partners.specs.Placed.{ArePlaced, ConstantStands}
@@ -32,10 +32,10 @@ pub made_none : (name design_name : NameDef) (cells : List Cell) (top : List ℕ
     → IsMadeCell design_cells plan head cell props classes made → AreApart head.ports → AreClasses cell classes → IsGoodCell design_cells cell → ((value : Bool) → needs_constant classes value ≡ true → ConstantStands plan cells value)
     → cell_refusals (file_of name design_name cells top) (place_in 0 made) ≡ []
 made_none name design_name cells top design_cells plan placed head cell props classes made is ports_apart are good constants =
-    let scene : Scene = record { cells = design_cells; plan = plan; cell = cell; head = head; instances = is.instances } in
+    let cell_plan : CellPlan = record { cells = design_cells; plan = plan; cell = cell; head = head; instances = is.instances } in
     subst (λ (d : Cell). cell_refusals (file_of name design_name cells top) (place_in 0 d) ≡ []) (sym is.is_cell)
     (cell_none name design_name cells top placed.apart placed.viewed (name_for head.cell cell.name) is.ports is.made_instances is.nets is.properties
     (ports_good head cell is.ports is.are_ports ports_apart good.port_names good.widths)
     (instances_good name design_name cells top design_cells plan placed cell classes is.instances is.made_instances good is.are_added is.are_instances constants
     (λ place instance there. item_there design_cells instance.cell (good.instances_in_range place instance there)))
-    (nets_good name design_name cells top scene placed (name_for head.cell cell.name) is.ports is.made_instances is.nets is.properties is.are_ports is.are_instances ports_apart is.are_added.idents.apart classes is.are_added constants are good is.live is.are_nets))
+    (nets_good name design_name cells top cell_plan placed (name_for head.cell cell.name) is.ports is.made_instances is.nets is.properties is.are_ports is.are_instances ports_apart is.are_added.idents.apart classes is.are_added constants are good is.live is.are_nets))

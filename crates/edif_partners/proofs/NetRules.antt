@@ -32,7 +32,7 @@ use Rattle.edif_written.proofs.CellLaws.{AreNets}
 use Rattle.edif_written.proofs.JoinLaws.{meant, not_taken}
 use Rattle.edif_written.proofs.RefLaws.{own_none, pin_none}
 use Rattle.edif_plans.specs.Made.{AreAddedTo, AreInstancesFor, AreNetsFor, ArePortsFor}
-use Rattle.edif_plans.specs.References.{Scene, added_place, constant_ref_for, own_ref_for, pin_ref_for, ref_for, refs_for}
+use Rattle.edif_plans.specs.References.{CellPlan, added_place, constant_ref_for, own_ref_for, pin_ref_for, ref_for, refs_for}
 use Rattle.edif_partners.specs.Placed.{ArePlaced, ConstantStands, added_number}
 use Rattle.edif_partners.proofs.AddedMeans.{added_after}
 use Rattle.edif_partners.proofs.Free.{get_end, get_left, shown_at, within}
@@ -48,29 +48,29 @@ none_of {B} f h (x ∷ xs) none = by (f x) refl (none_of f h xs (λ y ref m. non
     by None e rest = rest
     by (Some ref) e rest = flat_map-cons h ref (filter_map f xs) ∙ (λ j. none x ref (contains_first x xs) e j ++ rest j)
 
-module _ (name design_name : NameDef) (cells : List Cell) (top : List ℕ) (scene : Scene) (placed : ArePlaced scene.cells scene.plan cells) (cell_name : NameDef) (ps : List Port) (is : List Instance) (ns : List Net) (properties : List Property)
-    (are_ports : ArePortsFor scene.head scene.cell ps) (are_instances : AreInstancesFor scene.plan scene.cell.instances scene.instances is) (ports_apart : AreApart scene.head.ports) (idents_apart : AreApart scene.instances.idents)
-    (classes : ClassTable) (are_added : AreAddedTo scene.cell.instances classes scene.instances) (constants : (value : Bool) → needs_constant classes value ≡ true → ConstantStands scene.plan cells value)
-    (are : AreClasses scene.cell classes) (good : IsGoodCell scene.cells scene.cell) (live : List ℕ) (nets : AreNetsFor scene classes live ns) where
+module _ (name design_name : NameDef) (cells : List Cell) (top : List ℕ) (cell_plan : CellPlan) (placed : ArePlaced cell_plan.cells cell_plan.plan cells) (cell_name : NameDef) (ps : List Port) (is : List Instance) (ns : List Net) (properties : List Property)
+    (are_ports : ArePortsFor cell_plan.head cell_plan.cell ps) (are_instances : AreInstancesFor cell_plan.plan cell_plan.cell.instances cell_plan.instances is) (ports_apart : AreApart cell_plan.head.ports) (idents_apart : AreApart cell_plan.instances.idents)
+    (classes : ClassTable) (are_added : AreAddedTo cell_plan.cell.instances classes cell_plan.instances) (constants : (value : Bool) → needs_constant classes value ≡ true → ConstantStands cell_plan.plan cells value)
+    (are : AreClasses cell_plan.cell classes) (good : IsGoodCell cell_plan.cells cell_plan.cell) (live : List ℕ) (nets : AreNetsFor cell_plan classes live ns) where
   abbrev linked : LinkedCell
   linked = linked_cell (file_of name design_name cells top) (place_in 0 (cell_of cell_name ps is ns properties))
 
   abbrev added : Bool → Option ℕ
-  added = added_number scene.instances classes
+  added = added_number cell_plan.instances classes
 
-  stands : StandsFor scene.cells scene.cell (stand_in added)
-  stands = stand_ins scene.cells scene.cell added (added_after scene classes are_added)
+  stands : StandsFor cell_plan.cells cell_plan.cell (stand_in added)
+  stands = stand_ins cell_plan.cells cell_plan.cell added (added_after cell_plan classes are_added)
 
-  terminal : (node : Node) (class : ℕ) → class_of classes node ≡ Some class → is_end node ≡ true → IsBitOrConstant scene.cells scene.cell node
-  terminal node class h pass = end_is scene.cells scene.cell node (joined_node scene.cells scene.cell classes are good.joins_in_range node class h) pass
+  terminal : (node : Node) (class : ℕ) → class_of classes node ≡ Some class → is_end node ≡ true → IsBitOrConstant cell_plan.cells cell_plan.cell node
+  terminal node class h pass = end_is cell_plan.cells cell_plan.cell node (joined_node cell_plan.cells cell_plan.cell classes are good.joins_in_range node class h) pass
 
   one_number : (a b : ℕ) (o : Option ℕ) → o ≡ Some a → o ≡ Some b → a ≡ b
   one_number a b o e f = cc
 
-  net_at : (k : ℕ) (net : Net) → slice_get ns k ≡ Some net → (class : ℕ) × (slice_get live k ≡ Some class) × (refs_for scene (members_of classes class) ≡ net.joined)
+  net_at : (k : ℕ) (net : Net) → slice_get ns k ≡ Some net → (class : ℕ) × (slice_get live k ≡ Some class) × (refs_for cell_plan (members_of classes class) ≡ net.joined)
   net_at k net there =
-      let at : slice_get (map (λ class. refs_for scene (members_of classes class)) live) k ≡ Some net.joined = ap (λ l. slice_get l k) (sym nets.joined) ∙ (slice_get-map (λ (n : Net). n.joined) ns k ∙ ap (option_map (λ (n : Net). n.joined)) there) in
-      let found = shown_at (λ class. refs_for scene (members_of classes class)) live k net.joined at in
+      let at : slice_get (map (λ class. refs_for cell_plan (members_of classes class)) live) k ≡ Some net.joined = ap (λ l. slice_get l k) (sym nets.joined) ∙ (slice_get-map (λ (n : Net). n.joined) ns k ∙ ap (option_map (λ (n : Net). n.joined)) there) in
+      let found = shown_at (λ class. refs_for cell_plan (members_of classes class)) live k net.joined at in
       (found.item, found.is_there, found.shows)
 
   -- the net of another class means no node of this one
@@ -80,14 +80,14 @@ module _ (name design_name : NameDef) (cells : List Cell) (top : List ℕ) (scen
       let in_ns : slice_get ns j ≡ Some net = subst (λ l. slice_get l j ≡ Some net) e (get_left before after j net here) in
       let at = net_at j net in_ns in
       let means : slice_get (map (map (stand_in added)) (map (ends_of classes) live)) j ≡ Some (meant linked net) =
-      ap (λ l. slice_get l j) (sym (nets_mean name design_name cells top scene placed cell_name ps is ns properties are_ports are_instances ports_apart idents_apart classes are_added constants are good live nets))
+      ap (λ l. slice_get l j) (sym (nets_mean name design_name cells top cell_plan placed cell_name ps is ns properties are_ports are_instances ports_apart idents_apart classes are_added constants are good live nets))
       ∙ (slice_get-map (meant linked) ns j ∙ ap (option_map (meant linked)) in_ns) in
       let shown : slice_get (map (map (stand_in added)) (map (ends_of classes) live)) j ≡ Some (map (stand_in added) (ends_of classes at.0)) =
       slice_get-map (map (stand_in added)) (map (ends_of classes) live) j ∙ ap (option_map (map (stand_in added))) (slice_get-map (ends_of classes) live j ∙ ap (option_map (ends_of classes)) at.1) in
       let same : meant linked net ≡ map (stand_in added) (ends_of classes at.0) = same_list (slice_get (map (map (stand_in added)) (map (ends_of classes) live)) j) (meant linked net) (map (stand_in added) (ends_of classes at.0)) means shown in
       let other = map_contains (stand_in added) (ends_of classes at.0) (stand_in added node) (subst (λ l. Contains l (stand_in added node)) same m) in
       let found = passed is_end (members_of classes at.0) other.0 other.1 in
-      let of_other : class_of classes other.0 ≡ Some at.0 = (member_of_class scene.cell classes are other.0 at.0).1 found.0 in
+      let of_other : class_of classes other.0 ≡ Some at.0 = (member_of_class cell_plan.cell classes are other.0 at.0).1 found.0 in
       let one : other.0 ≡ node = stands.apart other.0 node (terminal other.0 at.0 of_other found.1) (terminal node class of_class pass) other.2 in
       let one_class : at.0 ≡ class = one_number at.0 class (class_of classes node) (subst (λ x. class_of classes x ≡ Some at.0) one of_other) of_class in
       let one_place : j ≡ k = nets.are_live.once j k class (at.1 ∙ ap Some one_class) there in
@@ -105,44 +105,44 @@ module _ (name design_name : NameDef) (cells : List Cell) (top : List ℕ) (scen
     free node class of_class pass there = not_taken linked (stand_in added node) before (apart_nets node class (length before) of_class pass there before (x ∷ after) e refl)
 
     module _ (class : ℕ) (there : slice_get live (length before) ≡ Some class) where
-      live_here : is_live scene.cell.nets (members_of classes class) ≡ true
+      live_here : is_live cell_plan.cell.nets (members_of classes class) ≡ true
       live_here = (nets.are_live.each (length before) class there).1
 
       need : (value : Bool) → class_of classes (cond value nodes.One nodes.Zero) ≡ Some class → needs_constant classes value ≡ true
-      need value h = needed name design_name cells top scene placed cell_name ps is ns properties are_ports are_instances ports_apart idents_apart classes are_added constants are good live nets class live_here value h
+      need value h = needed name design_name cells top cell_plan placed cell_name ps is ns properties are_ports are_instances ports_apart idents_apart classes are_added constants are good live nets class live_here value h
 
-      constant_none : (value : Bool) → class_of classes (cond value nodes.One nodes.Zero) ≡ Some class → stand_in added (cond value nodes.One nodes.Zero) ≡ nodes.Pin (added_place scene.instances value) 0 0 → is_end (cond value nodes.One nodes.Zero) ≡ true
-          → ref_refusals linked (original x.name) (bits_of_nets linked before) (constant_ref_for scene value) ≡ []
+      constant_none : (value : Bool) → class_of classes (cond value nodes.One nodes.Zero) ≡ Some class → stand_in added (cond value nodes.One nodes.Zero) ≡ nodes.Pin (added_place cell_plan.instances value) 0 0 → is_end (cond value nodes.One nodes.Zero) ≡ true
+          → ref_refusals linked (original x.name) (bits_of_nets linked before) (constant_ref_for cell_plan value) ≡ []
       constant_none value h stand pass =
-          let found = constant_found name design_name cells top scene placed cell_name ps is ns properties are_ports are_instances ports_apart idents_apart classes are_added constants value (need value h) in
-          pin_none linked (constant_ref_for scene value) (added_place scene.instances value) found.inner (inner_apart name design_name cells top scene placed cell_name ps is ns properties are_ports are_instances ports_apart idents_apart) found.of_instance 0 0 found.inner_ports_apart found.of_port
+          let found = constant_found name design_name cells top cell_plan placed cell_name ps is ns properties are_ports are_instances ports_apart idents_apart classes are_added constants value (need value h) in
+          pin_none linked (constant_ref_for cell_plan value) (added_place cell_plan.instances value) found.inner (inner_apart name design_name cells top cell_plan placed cell_name ps is ns properties are_ports are_instances ports_apart idents_apart) found.of_instance 0 0 found.inner_ports_apart found.of_port
           (original x.name) (bits_of_nets linked before) (subst (λ n. list_any (same_node n) (bits_of_nets linked before) ≡ false) stand (free (cond value nodes.One nodes.Zero) class h pass there))
 
       same_ref : (ref made : PortRef) → Some made ≡ Some ref → made ≡ ref
       same_ref ref made h = cc
 
-      node_none : (node : Node) (ref : PortRef) → class_of classes node ≡ Some class → ref_for scene node ≡ Some ref → ref_refusals linked (original x.name) (bits_of_nets linked before) ref ≡ []
+      node_none : (node : Node) (ref : PortRef) → class_of classes node ≡ Some class → ref_for cell_plan node ≡ Some ref → ref_refusals linked (original x.name) (bits_of_nets linked before) ref ≡ []
       unfolding ref_for
-      node_none (nodes.Port port bit) ref h is_ref = subst (λ r. ref_refusals linked (original x.name) (bits_of_nets linked before) r ≡ []) (same_ref ref (own_ref_for scene port bit) is_ref)
-          (own_none linked (own_ref_for scene port bit) port bit refl (own_apart name design_name cells top scene placed cell_name ps is ns properties are_ports are_instances ports_apart idents_apart)
-          (own_port name design_name cells top scene placed cell_name ps is ns properties are_ports are_instances ports_apart idents_apart port bit (joined_node scene.cells scene.cell classes are good.joins_in_range (nodes.Port port bit) class h))
+      node_none (nodes.Port port bit) ref h is_ref = subst (λ r. ref_refusals linked (original x.name) (bits_of_nets linked before) r ≡ []) (same_ref ref (own_ref_for cell_plan port bit) is_ref)
+          (own_none linked (own_ref_for cell_plan port bit) port bit refl (own_apart name design_name cells top cell_plan placed cell_name ps is ns properties are_ports are_instances ports_apart idents_apart)
+          (own_port name design_name cells top cell_plan placed cell_name ps is ns properties are_ports are_instances ports_apart idents_apart port bit (joined_node cell_plan.cells cell_plan.cell classes are good.joins_in_range (nodes.Port port bit) class h))
           (original x.name) (bits_of_nets linked before) (free (nodes.Port port bit) class h refl there))
       node_none (nodes.Pin instance port bit) ref h is_ref =
-          let found = pin_found name design_name cells top scene placed cell_name ps is ns properties are_ports are_instances ports_apart idents_apart instance port bit (joined_node scene.cells scene.cell classes are good.joins_in_range (nodes.Pin instance port bit) class h) in
-          subst (λ r. ref_refusals linked (original x.name) (bits_of_nets linked before) r ≡ []) (same_ref ref (pin_ref_for scene instance port bit) is_ref)
-          (pin_none linked (pin_ref_for scene instance port bit) instance found.inner (inner_apart name design_name cells top scene placed cell_name ps is ns properties are_ports are_instances ports_apart idents_apart) found.of_instance port bit found.inner_ports_apart found.of_port
+          let found = pin_found name design_name cells top cell_plan placed cell_name ps is ns properties are_ports are_instances ports_apart idents_apart instance port bit (joined_node cell_plan.cells cell_plan.cell classes are good.joins_in_range (nodes.Pin instance port bit) class h) in
+          subst (λ r. ref_refusals linked (original x.name) (bits_of_nets linked before) r ≡ []) (same_ref ref (pin_ref_for cell_plan instance port bit) is_ref)
+          (pin_none linked (pin_ref_for cell_plan instance port bit) instance found.inner (inner_apart name design_name cells top cell_plan placed cell_name ps is ns properties are_ports are_instances ports_apart idents_apart) found.of_instance port bit found.inner_ports_apart found.of_port
           (original x.name) (bits_of_nets linked before) (free (nodes.Pin instance port bit) class h refl there))
       node_none (nodes.Net net) ref h is_ref = absurd cc
-      node_none nodes.Zero ref h is_ref = subst (λ r. ref_refusals linked (original x.name) (bits_of_nets linked before) r ≡ []) (same_ref ref (constant_ref_for scene false) is_ref)
-          (constant_none false h (stand_zero name design_name cells top scene placed cell_name ps is ns properties are_ports are_instances ports_apart idents_apart classes are_added constants are good live nets (need false h)) refl)
-      node_none nodes.One ref h is_ref = subst (λ r. ref_refusals linked (original x.name) (bits_of_nets linked before) r ≡ []) (same_ref ref (constant_ref_for scene true) is_ref)
-          (constant_none true h (stand_one name design_name cells top scene placed cell_name ps is ns properties are_ports are_instances ports_apart idents_apart classes are_added constants are good live nets (need true h)) refl)
+      node_none nodes.Zero ref h is_ref = subst (λ r. ref_refusals linked (original x.name) (bits_of_nets linked before) r ≡ []) (same_ref ref (constant_ref_for cell_plan false) is_ref)
+          (constant_none false h (stand_zero name design_name cells top cell_plan placed cell_name ps is ns properties are_ports are_instances ports_apart idents_apart classes are_added constants are good live nets (need false h)) refl)
+      node_none nodes.One ref h is_ref = subst (λ r. ref_refusals linked (original x.name) (bits_of_nets linked before) r ≡ []) (same_ref ref (constant_ref_for cell_plan true) is_ref)
+          (constant_none true h (stand_one name design_name cells top cell_plan placed cell_name ps is ns properties are_ports are_instances ports_apart idents_apart classes are_added constants are good live nets (need true h)) refl)
 
     net_none : flat_map (ref_refusals linked (original x.name) (bits_of_nets linked before)) x.joined ≡ []
     net_none =
         let at = net_at (length before) x here in
         ap (flat_map (ref_refusals linked (original x.name) (bits_of_nets linked before))) (sym at.2)
-        ∙ none_of (ref_for scene) (ref_refusals linked (original x.name) (bits_of_nets linked before)) (members_of classes at.0) (λ node ref m is_ref. node_none at.0 at.1 node ref ((member_of_class scene.cell classes are node at.0).1 m) is_ref)
+        ∙ none_of (ref_for cell_plan) (ref_refusals linked (original x.name) (bits_of_nets linked before)) (members_of classes at.0) (λ node ref m is_ref. node_none at.0 at.1 node ref ((member_of_class cell_plan.cell classes are node at.0).1 m) is_ref)
 
   -- the nets of a cell under identifiers that differ up to case
   pub nets_good : AreNets name design_name cells top placed.apart placed.viewed linked ns

@@ -17,7 +17,7 @@ use Rattle.net_hier.specs.Constants.{ConstantNames}
 use Rattle.net_hier.specs.Design.{Design, IsCell}
 use Rattle.net_hier.specs.Facts.{SameValues, cell_props}
 use Rattle.net_hier.specs.SameCells.{IsPartner, NeedsConstant, SameCell}
-use Rattle.net_hier.specs.SameDesign.{face_of as face_of_port}
+use Rattle.net_hier.specs.SameDesign.{signature_of as signature_of_port}
 use Rattle.net_hier.specs.Valid.{IsGoodCell}
 use Rattle.net_hier.specs.declared.cells.HCell.{HCell}
 use Rattle.net_hier.specs.declared.cells.HInst.{HInst}
@@ -37,10 +37,10 @@ use Rattle.edif_written.proofs.Cells.{numbered_at}
 use Rattle.edif_written.proofs.Parts.{instances_are, ports_are, properties_are}
 use Rattle.edif_written.specs.Naming.{name_for}
 use Rattle.edif_naming.proofs.NamingLaws.{original_name_for}
-use Rattle.edif_plans.specs.Faces.{InstanceFace, PortFace, added_face, face_for, face_of, instance_face, instance_faces, kept_port, own_face}
+use Rattle.edif_plans.specs.Summaries.{InstanceSummary, PortSummary, added_summary, summary_for, summary_of, instance_summary, instance_summaries, kept_port, own_summary}
 use Rattle.edif_plans.specs.Made.{IsMadeCell, needed_values}
 use Rattle.edif_plans.specs.Plans.{constant_head, constant_number, head_of, number_of}
-use Rattle.edif_plans.specs.References.{Scene, added_place}
+use Rattle.edif_plans.specs.References.{CellPlan, added_place}
 use Rattle.edif_plans.specs.declared.added.Added.{Added}
 use Rattle.edif_plans.specs.declared.plan.Plan.{Plan}
 use Rattle.edif_plans.proofs.Needed.{added_value, idents_count}
@@ -94,8 +94,8 @@ module _ (name design_name : NameDef) (cells : List Cell) (top : List ℕ) (name
   abbrev file : EdifFile
   file = file_of name design_name cells top
 
-  abbrev scene : Scene
-  scene = record { cells = design.cells; plan = plan; cell = cell; head = head_of plan number; instances = is.instances }
+  abbrev cell_plan : CellPlan
+  cell_plan = record { cells = design.cells; plan = plan; cell = cell; head = head_of plan number; instances = is.instances }
 
   abbrev cell_name : NameDef
   cell_name = name_for (head_of plan number).cell cell.name
@@ -116,7 +116,7 @@ module _ (name design_name : NameDef) (cells : List Cell) (top : List ℕ) (name
   partner_ports : partner.ports ≡ map kept_port cell.ports
   unfolding cell_value
   partner_ports = ap (map port_value) (ports_are cell_name is.ports is.made_instances is.nets is.properties)
-      ∙ (sym (map_twice (λ (face : PortFace). face.value) face_of is.ports) ∙ (ap (map (λ (face : PortFace). face.value)) is.are_ports.faces ∙ map_twice (λ (face : PortFace). face.value) face_for cell.ports))
+      ∙ (sym (map_twice (λ (summary : PortSummary). summary.value) summary_of is.ports) ∙ (ap (map (λ (summary : PortSummary). summary.value)) is.are_ports.summaries ∙ map_twice (λ (summary : PortSummary). summary.value) summary_for cell.ports))
 
   partner_props : partner.props ≡ last_of (cell_props design number cell)
   unfolding cell_value
@@ -127,21 +127,21 @@ module _ (name design_name : NameDef) (cells : List Cell) (top : List ℕ) (name
   partner_instances = ap (λ l. map (instance_value numbers linked.below) (numbered l)) (instances_are cell_name is.ports is.made_instances is.nets is.properties)
 
   -- the instance of a cell that stands in the file
-  abbrev twin_of : Instance → ℕ → HInst
-  twin_of x number = record { name = original x.name; cell = number; props = filter_map instance_property x.items }
+  abbrev counterpart_of : Instance → ℕ → HInst
+  counterpart_of x number = record { name = original x.name; cell = number; props = filter_map instance_property x.items }
 
-  twin_at : (i : ℕ) (x : Instance) (inner_number : ℕ) (inner : Cell) → slice_get is.made_instances i ≡ Some x → slice_get cells inner_number ≡ Some inner → x.library ≡ Some work → x.cell ≡ inner.name.ident → slice_get partner.instances i ≡ Some (twin_of x inner_number)
-  twin_at i x inner_number inner here at library of_cell =
-      let below : get_or linked.below i None ≡ Some (inner_number, inner) = link_below name design_name cells top scene placed cell_name is.ports is.made_instances is.nets is.properties is.are_ports is.are_instances ports_apart is.are_added.idents.apart i x inner_number inner here at library of_cell in
+  counterpart_at : (i : ℕ) (x : Instance) (inner_number : ℕ) (inner : Cell) → slice_get is.made_instances i ≡ Some x → slice_get cells inner_number ≡ Some inner → x.library ≡ Some work → x.cell ≡ inner.name.ident → slice_get partner.instances i ≡ Some (counterpart_of x inner_number)
+  counterpart_at i x inner_number inner here at library of_cell =
+      let below : get_or linked.below i None ≡ Some (inner_number, inner) = link_below name design_name cells top cell_plan placed cell_name is.ports is.made_instances is.nets is.properties is.are_ports is.are_instances ports_apart is.are_added.idents.apart i x inner_number inner here at library of_cell in
       let is_number : number_in numbers (number_below linked.below i) ≡ inner_number = ap (λ o. number_in numbers (option_map (λ (p : ℕ × Cell). p.0) o)) below ∙ same_numbers inner_number inner at in
       let place : slice_get (numbered is.made_instances) i ≡ Some (i, x) = numbered_at 0 is.made_instances i x here ∙ ap (λ k. Some (k, x)) (let z : 0 + i ≡ i = omega arith in z) in
-      ap (λ l. slice_get l i) partner_instances ∙ (slice_get-map (instance_value numbers linked.below) (numbered is.made_instances) i ∙ (ap (option_map (instance_value numbers linked.below)) place ∙ ap (λ k. Some (twin_of x k)) is_number))
+      ap (λ l. slice_get l i) partner_instances ∙ (slice_get-map (instance_value numbers linked.below) (numbered is.made_instances) i ∙ (ap (option_map (instance_value numbers linked.below)) place ∙ ap (λ k. Some (counterpart_of x k)) is_number))
 
-  own_at : (i : ℕ) (instance : HInst) → slice_get cell.instances i ≡ Some instance → (x : Instance) × (slice_get is.made_instances i ≡ Some x) × (instance_face x ≡ own_face plan instance)
+  own_at : (i : ℕ) (instance : HInst) → slice_get cell.instances i ≡ Some instance → (x : Instance) × (slice_get is.made_instances i ≡ Some x) × (instance_summary x ≡ own_summary plan instance)
   own_at i instance h =
-      let at : slice_get (map instance_face is.made_instances) i ≡ Some (own_face plan instance) = ap (λ l. slice_get l i) is.are_instances.faces
-      ∙ get_left (map (own_face plan) cell.instances) (map (added_face plan) is.instances.added) i (own_face plan instance) (slice_get-map (own_face plan) cell.instances i ∙ ap (option_map (own_face plan)) h) in
-      let found = shown_at instance_face is.made_instances i (own_face plan instance) at in
+      let at : slice_get (map instance_summary is.made_instances) i ≡ Some (own_summary plan instance) = ap (λ l. slice_get l i) is.are_instances.summaries
+      ∙ get_left (map (own_summary plan) cell.instances) (map (added_summary plan) is.instances.added) i (own_summary plan instance) (slice_get-map (own_summary plan) cell.instances i ∙ ap (option_map (own_summary plan)) h) in
+      let found = shown_at instance_summary is.made_instances i (own_summary plan instance) at in
       (found.item, found.is_there, found.shows)
 
   abbrev count_own : ℕ
@@ -154,19 +154,19 @@ module _ (name design_name : NameDef) (cells : List Cell) (top : List ℕ) (name
   values_count = sym (length-map is.instances.added (λ (one : Added). one.value)) ∙ ap length is.are_added.values
 
   -- the instance that is added for a constant
-  added_twin : (value : Bool) → needs_constant classes value ≡ true → IsConstantInstance names other.cells partner value (added_place is.instances value)
-  added_twin value needed =
+  added_counterpart : (value : Bool) → needs_constant classes value ≡ true → IsConstantInstance names other.cells partner value (added_place is.instances value)
+  added_counterpart value needed =
       let stands = constants value needed in
-      let a = added_at scene classes is.are_added value needed in
+      let a = added_at cell_plan classes is.are_added value needed in
       let p : ℕ = added_place is.instances value in
-      let count : length (map (own_face plan) cell.instances) ≡ length cell.instances = length-map cell.instances (own_face plan) in
-      let at : slice_get (map instance_face is.made_instances) p ≡ Some (added_face plan a.one) = ap (λ l. slice_get l p) is.are_instances.faces
-      ∙ (get_right (map (own_face plan) cell.instances) (map (added_face plan) is.instances.added) p a.place (let e = a.at in omega (arith, e, count)) ∙ (slice_get-map (added_face plan) is.instances.added a.place ∙ ap (option_map (added_face plan)) a.is_there)) in
-      let found = shown_at instance_face is.made_instances p (added_face plan a.one) at in
+      let count : length (map (own_summary plan) cell.instances) ≡ length cell.instances = length-map cell.instances (own_summary plan) in
+      let at : slice_get (map instance_summary is.made_instances) p ≡ Some (added_summary plan a.one) = ap (λ l. slice_get l p) is.are_instances.summaries
+      ∙ (get_right (map (own_summary plan) cell.instances) (map (added_summary plan) is.instances.added) p a.place (let e = a.at in omega (arith, e, count)) ∙ (slice_get-map (added_summary plan) is.instances.added a.place ∙ ap (option_map (added_summary plan)) a.is_there)) in
+      let found = shown_at instance_summary is.made_instances p (added_summary plan a.one) at in
       let below = constant_cells value needed in
       record {
-        the_instance = twin_of found.item (constant_number plan value);
-        is_there = twin_at p found.item (constant_number plan value) stands.made found.is_there stands.is_there (ap (λ (f : InstanceFace). f.library) found.shows) (ap (λ (f : InstanceFace). f.cell) found.shows ∙ (ap (λ v. (constant_head plan v).cell) a.is_value ∙ stands.head.cell));
+        the_instance = counterpart_of found.item (constant_number plan value);
+        is_there = counterpart_at p found.item (constant_number plan value) stands.made found.is_there stands.is_there (ap (λ (f : InstanceSummary). f.library) found.shows) (ap (λ (f : InstanceSummary). f.cell) found.shows ∙ (ap (λ v. (constant_head plan v).cell) a.is_value ∙ stands.head.cell));
         below = below.0;
         is_below = below.1;
         is_constant = below.2;
@@ -179,11 +179,11 @@ module _ (name design_name : NameDef) (cells : List Cell) (top : List ℕ) (name
   after_own : (value : Bool) (place : ℕ) → added_number is.instances classes value ≡ Some place → (length cell.instances ≤ place) × IsConstantInstance names other.cells partner value place
   after_own value place h =
       let p = needed_by value (needs_constant classes value) place refl h in
-      ((added_after scene classes is.are_added).late value place h, subst (IsConstantInstance names other.cells partner value) p.1 (added_twin value p.0))
+      ((added_after cell_plan classes is.are_added).late value place h, subst (IsConstantInstance names other.cells partner value) p.1 (added_counterpart value p.0))
 
   instances_count : length partner.instances ≡ length cell.instances + length is.instances.added
-  instances_count = ap length partner_instances ∙ (length-map (numbered is.made_instances) (instance_value numbers linked.below) ∙ (numbered_length 0 is.made_instances ∙ (sym (length-map is.made_instances instance_face) ∙ (ap length is.are_instances.faces
-      ∙ (length-append (map (own_face plan) cell.instances) (map (added_face plan) is.instances.added) ∙ (λ j. length-map cell.instances (own_face plan) j + length-map is.instances.added (added_face plan) j))))))
+  instances_count = ap length partner_instances ∙ (length-map (numbered is.made_instances) (instance_value numbers linked.below) ∙ (numbered_length 0 is.made_instances ∙ (sym (length-map is.made_instances instance_summary) ∙ (ap length is.are_instances.summaries
+      ∙ (length-append (map (own_summary plan) cell.instances) (map (added_summary plan) is.instances.added) ∙ (λ j. length-map cell.instances (own_summary plan) j + length-map is.instances.added (added_summary plan) j))))))
     where
       numbered_length : {A : Type 0} (k : ℕ) (xs : List A) → length (enumerate_from k xs) ≡ length xs
       numbered_length k [] = refl
@@ -215,21 +215,21 @@ module _ (name design_name : NameDef) (cells : List Cell) (top : List ℕ) (name
   whole_same : SameCell names design other (Some n) number onumber cell partner
   whole_same = record {
     same_name = sym partner_name;
-    same_ports = sym (ap (map face_of_port) partner_ports ∙ map_twice face_of_port kept_port cell.ports);
+    same_ports = sym (ap (map signature_of_port) partner_ports ∙ map_twice signature_of_port kept_port cell.ports);
     same_props = subst (SameValues (cell_props design number cell)) (sym (no_more (onumber == other.top) partner.props other.props no_props ∙ partner_props)) (last_values_kept (cell_props design number cell));
-    same_port_props = λ place port twin hp ht.
-        let e : kept_port port ≡ twin = same_item (slice_get partner.ports place) (kept_port port) twin (ap (λ l. slice_get l place) partner_ports ∙ (slice_get-map kept_port cell.ports place ∙ ap (option_map kept_port) hp)) ht in
+    same_port_props = λ place port counterpart hp ht.
+        let e : kept_port port ≡ counterpart = same_item (slice_get partner.ports place) (kept_port port) counterpart (ap (λ l. slice_get l place) partner_ports ∙ (slice_get-map kept_port cell.ports place ∙ ap (option_map kept_port) hp)) ht in
         subst (λ (t : HPort). SameValues port.props t.props) e (last_values_kept port.props);
     same_instances = λ place instance h.
         let inner = item_at design.cells instance.cell (good.instances_in_range place instance h) in
         let stands = placed.stand instance.cell inner.0 inner.1 in
         let x = own_at place instance h in (
-          twin_of x.0 (number_of plan instance.cell),
-          twin_at place x.0 (number_of plan instance.cell) stands.made x.1 stands.is_there (ap (λ (f : InstanceFace). f.library) x.2) (ap (λ (f : InstanceFace). f.cell) x.2 ∙ stands.head.cell),
+          counterpart_of x.0 (number_of plan instance.cell),
+          counterpart_at place x.0 (number_of plan instance.cell) stands.made x.1 stands.is_there (ap (λ (f : InstanceSummary). f.library) x.2) (ap (λ (f : InstanceSummary). f.cell) x.2 ∙ stands.head.cell),
           record {
-            same_name = sym (ap (λ (f : InstanceFace). f.name) x.2);
+            same_name = sym (ap (λ (f : InstanceSummary). f.name) x.2);
             same_cell = partners instance.cell inner.0 inner.1;
-            same_props = subst (SameValues instance.props) (sym (ap (λ (f : InstanceFace). f.props) x.2)) (last_values_kept instance.props);
+            same_props = subst (SameValues instance.props) (sym (ap (λ (f : InstanceSummary). f.props) x.2)) (last_values_kept instance.props);
           },
         );
     added = added_number is.instances classes;
@@ -240,9 +240,9 @@ module _ (name design_name : NameDef) (cells : List Cell) (top : List ℕ) (name
     added_after = after_own;
     added_alone = alone;
     zero_first = first_zero;
-    same_connection = same_connection name design_name cells top scene placed cell_name is.ports is.made_instances is.nets is.properties is.are_ports is.are_instances ports_apart is.are_added.idents.apart classes is.are_added constants are good is.live is.are_nets numbers;
-    same_port_nets = λ port bit h. same_values name design_name cells top scene placed cell_name is.ports is.made_instances is.nets is.properties is.are_ports is.are_instances ports_apart is.are_added.idents.apart classes is.are_added constants are good is.live is.are_nets numbers (nodes.Port port bit) h;
-    same_pin_nets = λ instance port bit h. same_values name design_name cells top scene placed cell_name is.ports is.made_instances is.nets is.properties is.are_ports is.are_instances ports_apart is.are_added.idents.apart classes is.are_added constants are good is.live is.are_nets numbers (nodes.Pin instance port bit) h;
+    same_connection = same_connection name design_name cells top cell_plan placed cell_name is.ports is.made_instances is.nets is.properties is.are_ports is.are_instances ports_apart is.are_added.idents.apart classes is.are_added constants are good is.live is.are_nets numbers;
+    same_port_nets = λ port bit h. same_values name design_name cells top cell_plan placed cell_name is.ports is.made_instances is.nets is.properties is.are_ports is.are_instances ports_apart is.are_added.idents.apart classes is.are_added constants are good is.live is.are_nets numbers (nodes.Port port bit) h;
+    same_pin_nets = λ instance port bit h. same_values name design_name cells top cell_plan placed cell_name is.ports is.made_instances is.nets is.properties is.are_ports is.are_instances ports_apart is.are_added.idents.apart classes is.are_added constants are good is.live is.are_nets numbers (nodes.Pin instance port bit) h;
   }
 
   pub made_same : SameCell names design other (Some n) number onumber cell (cell_value numbers (linked_cell file (place_in 0 made)))

@@ -12,7 +12,7 @@ use Rattle.edif_meanings.specs.Apart.{AreApart}
 use Rattle.edif_design.specs.CellRules.{means_view, port_ident, size_of}
 use Rattle.edif_design.specs.Parts.{ports}
 use Rattle.edif_written.specs.Written.{netlist}
-use Rattle.edif_plans.specs.Faces.{face_for, face_of}
+use Rattle.edif_plans.specs.Summaries.{summary_for, summary_of}
 use Rattle.edif_plans.specs.Plans.{constant_head, constant_number, head_of, number_of}
 use Rattle.edif_plans.specs.declared.head.Head.{Head}
 use Rattle.edif_plans.specs.declared.plan.Plan.{Plan}
@@ -27,7 +27,7 @@ pub record StandsAt (plan : Plan) (cells : List Cell) (number : ℕ) (cell : HCe
   pub made : Cell
   pub is_there : slice_get cells (number_of plan number) ≡ Some made
   pub head : IsHeadFor (head_of plan number) made
-  pub faces : map face_of (ports made) ≡ map face_for cell.ports
+  pub summaries : map summary_of (ports made) ≡ map summary_for cell.ports
 
 -- the cell of a constant stands where the plan says; its first port is a scalar
 pub record ConstantStands (plan : Plan) (cells : List Cell) (value : Bool) : Type 0 where

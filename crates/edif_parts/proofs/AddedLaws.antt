@@ -19,7 +19,7 @@ use Rattle.edif_written.proofs.Lists.{all_append, all_push}
 use Rattle.edif_written.specs.Naming.{seen}
 use Rattle.edif_plans.proofs.Lists.{map_turn}
 use Rattle.edif_plans.specs.AddedNames.{AreNamedBehind, AreNamedFor, IsFirstFree, told_by_bytes}
-use Rattle.edif_plans.specs.Faces.{instance_names}
+use Rattle.edif_plans.specs.Summaries.{instance_names}
 use Rattle.edif_plans.specs.Made.{AreFree}
 use Rattle.edif_plans.specs.Sound.{IsStem}
 use Rattle.edif_plans.specs.declared.added.Added.{Added}

@@ -10,7 +10,7 @@ use Rattle.edif_written.specs.Naming.{name_for, value_of}
 use Rattle.edif_naming.proofs.NamingLaws.{original_name_for}
 use Rattle.edif_design.specs.Design.{instance_property, property_value}
 use Rattle.edif_written.specs.Written.{netlist, work}
-use Rattle.edif_plans.specs.Faces.{face_with, instance_face, instance_ident}
+use Rattle.edif_plans.specs.Summaries.{summary_with, instance_summary, instance_ident}
 use Rattle.edif_plans.specs.NetNames.{HasNoSpareText}
 use Rattle.edif_parts.specs.Instances.{instance_for}
 
@@ -21,8 +21,8 @@ props_read (p ∷ ps) = ap (λ l. property_value p ∷ l) (props_read ps)
 pub ident_read : (ident name cell : List ℕ) (properties : List Property) (made : Instance) → made ≡ instance_for ident name cell properties → instance_ident made ≡ ident
 ident_read ident name cell properties made is = ap instance_ident is
 
-pub face_read : (ident name cell : List ℕ) (properties : List Property) (made : Instance) → made ≡ instance_for ident name cell properties → instance_face made ≡ face_with name cell (map value_of properties)
-face_read ident name cell properties made is = ap instance_face is ∙ (λ j. face_with (original_name_for ident name j) cell (props_read properties j))
+pub summary_read : (ident name cell : List ℕ) (properties : List Property) (made : Instance) → made ≡ instance_for ident name cell properties → instance_summary made ≡ summary_with name cell (map value_of properties)
+summary_read ident name cell properties made is = ap instance_summary is ∙ (λ j. summary_with (original_name_for ident name j) cell (props_read properties j))
 
 -- its name has no spare text
 pub no_spare_text : (ident name cell : List ℕ) (properties : List Property) (made : Instance) → made ≡ instance_for ident name cell properties → HasNoSpareText made.name

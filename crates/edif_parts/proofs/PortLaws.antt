@@ -16,7 +16,7 @@ use Rattle.edif_written.specs.Naming.{IsSmallRange, port_name_for, value_of}
 use Rattle.edif_naming.proofs.NamingLaws.{port_original_for}
 use Rattle.edif_design.specs.CellRules.{ident_of, port_ident, size_of}
 use Rattle.edif_design.specs.Design.{port_property, property_value}
-use Rattle.edif_plans.specs.Faces.{face_for, face_of, size_for}
+use Rattle.edif_plans.specs.Summaries.{summary_for, summary_of, size_for}
 use Rattle.edif_plans.specs.PortNames.{HasPlainText}
 
 props_read : (ps : List Property) → filter_map port_property (map port_items.Property ps) ≡ map property_value ps
@@ -35,14 +35,14 @@ ident_read : (ident name : List ℕ) (range : Option Bounds) (items : List PortI
 ident_read ident name None items = refl
 ident_read ident name (Some range) items = refl
 
--- a port of these parts has this identifier and this face
+-- a port of these parts has this identifier and this summary
 pub port_read_ident : (ident : List ℕ) (port : HPort) (made : Port) → made.name ≡ port_name_for ident port.name port.range → port_ident made ≡ ident
 port_read_ident ident port made is_name = ap (λ n. port_ident (record { name = n; items = made.items })) is_name ∙ ident_read ident port.name port.range made.items
 
 pub port_read : (ident : List ℕ) (port : HPort) (made : Port) (properties : List Property) → made.name ≡ port_name_for ident port.name port.range → IsSmallRange port.range
-    → made.items ≡ port_items.Direction port.dir ∷ map port_items.Property properties → map value_of properties ≡ last_of port.props → face_of made ≡ face_for port
+    → made.items ≡ port_items.Direction port.dir ∷ map port_items.Property properties → map value_of properties ≡ last_of port.props → summary_of made ≡ summary_for port
 port_read ident port made properties is_name small is_items values =
-    (λ j. face_of (record { name = is_name j; items = is_items j }))
+    (λ j. summary_of (record { name = is_name j; items = is_items j }))
     ∙ (λ j. record {
       value = record {
         name = (port_original_for ident port.name port.range small j).0;

@@ -8,7 +8,7 @@ ghost use Rattle.edif_written.specs.Naming.{seen};
 ghost use Rattle.edif_written.specs.Sound.{IsShort};
 ghost use Rattle.edif_spaces.specs.Spaces.{AreIdents};
 ghost use Rattle.edif_plans.specs.AddedNames.{AreNamedFor, IsFirstFree};
-ghost use Rattle.edif_plans.specs.Faces.{instance_names};
+ghost use Rattle.edif_plans.specs.Summaries.{instance_names};
 ghost use Rattle.edif_plans.specs.Made.{AreAddedTo};
 ghost use Rattle.edif_plans.specs.Sound.{AreStems, IsStem};
 ghost use Rattle.edif_parts.specs.Added.{AreAdded, HasNames};

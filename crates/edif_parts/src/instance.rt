@@ -5,7 +5,7 @@ ghost use Rattle.edif_values.specs.Values.{IsString, IsWord, IsProperty, IsInsta
 ghost use Rattle.edif_values.specs.declared.instance.InstanceItem.TheVariants as instance_items;
 ghost use Rattle.edif_written.specs.Naming.{value_of};
 ghost use Rattle.edif_written.specs.Written.{netlist, work};
-ghost use Rattle.edif_plans.specs.Faces.{face_with, instance_face, instance_ident};
+ghost use Rattle.edif_plans.specs.Summaries.{summary_with, instance_summary, instance_ident};
 ghost use Rattle.edif_plans.specs.NetNames.{HasNoSpareText};
 ghost use Rattle.edif_parts.specs.Instances.{instance_for};
 
@@ -75,7 +75,7 @@ pub fn instance_of(
     properties: Vec<Property>,
 ) -> Result<Instance, NoMemory>
     ensures ident { IfOk result (λ made. instance_ident made ≡ ident.now) }
-    ensures face { IfOk result (λ made. instance_face made ≡ face_with name.now cell.now (map value_of properties.items)) }
+    ensures summary { IfOk result (λ made. instance_summary made ≡ summary_with name.now cell.now (map value_of properties.items)) }
     ensures sound { IsString name.now → AllByRecursion IsProperty properties.items → IfOk result IsInstance }
     ensures no_spare_text { IfOk result (λ made. HasNoSpareText made.name) }
 {

@@ -6,7 +6,7 @@ ghost use Rattle.edif_values.specs.Values.{IsInstance, IsProperty};
 ghost use Rattle.edif_written.specs.Naming.{value_of};
 ghost use Rattle.edif_written.specs.Sound.{AreSoundProps, IsShort};
 ghost use Rattle.net_live.specs.Last.{last_of as last_values_of};
-ghost use Rattle.edif_plans.specs.Faces.{added_face, instance_face, instance_ident, own_face};
+ghost use Rattle.edif_plans.specs.Summaries.{added_summary, instance_summary, instance_ident, own_summary};
 ghost use Rattle.edif_plans.specs.Made.{AreInstancesFor};
 ghost use Rattle.edif_plans.specs.NetNames.{HasNoSpareText};
 ghost use Rattle.edif_plans.specs.Plans.{HasHead, constant_number};
@@ -38,7 +38,7 @@ fn own_instance(
 ) -> Result<Instance, NoMemory>
     requires { HasHead plan.now instance.now.cell }
     ensures ident { IfOk result (λ made. instance_ident made ≡ ident.now) }
-    ensures face { IfOk result (λ made. instance_face made ≡ own_face plan.now instance.now) }
+    ensures summary { IfOk result (λ made. instance_summary made ≡ own_summary plan.now instance.now) }
     ensures sound { IsSoundInstance instance.now → IfOk result IsInstance }
     ensures no_spare_text { IfOk result (λ made. HasNoSpareText made.name) }
 {
@@ -58,7 +58,7 @@ fn own_instances(
     requires heads { Each (λ instance. HasHead plan.now instance.cell) instances.now }
     requires idents { length instances.now ≤ length idents.now }
     ensures idents { IfOk result (λ made. map instance_ident made.items ++ drop (length instances.now) idents.now ≡ idents.now) }
-    ensures faces { IfOk result (λ made. map instance_face made.items ≡ map (own_face plan.now) instances.now) }
+    ensures summaries { IfOk result (λ made. map instance_summary made.items ≡ map (own_summary plan.now) instances.now) }
     ensures sound { AllByRecursion IsSoundInstance instances.now → IfOk result (λ made. AllByRecursion IsInstance made.items) }
     ensures no_spare_text { IfOk result (λ made.
         AllByRecursion (λ instance. HasNoSpareText instance.name) made.items) }
@@ -81,7 +81,7 @@ fn added_instance(
 ) -> Result<Instance, NoMemory>
     requires { constant_number plan.now added.now.value < length plan.now.heads }
     ensures ident { IfOk result (λ made. instance_ident made ≡ ident.now) }
-    ensures face { IfOk result (λ made. instance_face made ≡ added_face plan.now added.now) }
+    ensures summary { IfOk result (λ made. instance_summary made ≡ added_summary plan.now added.now) }
     ensures sound { IsShort added.now.name → IfOk result IsInstance }
     ensures no_spare_text { IfOk result (λ made. HasNoSpareText made.name) }
 {
@@ -108,7 +108,7 @@ fn with_added(
     requires idents { length own.items + length added.now ≡ length idents.now }
     requires named { map instance_ident own.items ++ drop (length own.items) idents.now ≡ idents.now }
     ensures idents { IfOk result (λ made. map instance_ident made.items ≡ idents.now) }
-    ensures faces { IfOk result (λ made. map instance_face made.items ≡ map instance_face own.items ++ map (added_face plan.now) added.now) }
+    ensures summaries { IfOk result (λ made. map instance_summary made.items ≡ map instance_summary own.items ++ map (added_summary plan.now) added.now) }
     ensures sound { AllByRecursion IsInstance own.items → AllByRecursion (λ one. IsShort one.name) added.now → IfOk result (λ made. AllByRecursion IsInstance made.items) }
     ensures no_spare_text { AllByRecursion (λ instance. HasNoSpareText instance.name) own.items
         → IfOk result (λ made. AllByRecursion (λ instance. HasNoSpareText instance.name) made.items) }
@@ -133,7 +133,7 @@ pub fn instances_of(
     requires constants { Each (λ one. constant_number plan.now one.value < length plan.now.heads) instances.now.added }
     requires idents { length own.now + length instances.now.added ≡ length instances.now.idents }
     ensures idents { IfOk result (λ made. map instance_ident made.items ≡ instances.now.idents) }
-    ensures faces { IfOk result (λ made. map instance_face made.items ≡ map (own_face plan.now) own.now ++ map (added_face plan.now) instances.now.added) }
+    ensures summaries { IfOk result (λ made. map instance_summary made.items ≡ map (own_summary plan.now) own.now ++ map (added_summary plan.now) instances.now.added) }
     ensures sound { AllByRecursion IsSoundInstance own.now → AllByRecursion (λ one. IsShort one.name) instances.now.added → IfOk result (λ made. AllByRecursion IsInstance made.items) }
     ensures no_spare_text { IfOk result (λ made.
         AllByRecursion (λ instance. HasNoSpareText instance.name) made.items) }

@@ -9,7 +9,7 @@ ghost use Rattle.edif_design.specs.CellRules.{port_ident};
 ghost use Rattle.net_live.specs.Last.{last_of as last_values_of};
 ghost use Rattle.edif_written.specs.Naming.{value_of};
 ghost use Rattle.edif_written.specs.Sound.{AreSoundProps};
-ghost use Rattle.edif_plans.specs.Faces.{face_for, face_of};
+ghost use Rattle.edif_plans.specs.Summaries.{summary_for, summary_of};
 ghost use Rattle.edif_plans.specs.PortNames.{HasPlainText};
 ghost use Rattle.edif_plans.specs.Sound.{IsSoundPort};
 
@@ -43,7 +43,7 @@ fn port_properties(alloc: Global, port: &HPort) -> Result<Vec<Property>, NoMemor
 /// The port with this identifier.
 fn port_of(alloc: Global, ident: &Ident, port: &HPort) -> Result<Port, NoMemory>
     ensures ident { IfOk result (λ made. port_ident made ≡ ident.now) }
-    ensures face { IfOk result (λ made. face_of made ≡ face_for port.now) }
+    ensures summary { IfOk result (λ made. summary_of made ≡ summary_for port.now) }
     ensures sound { IsSoundPort port.now → IfOk result IsPort }
     ensures text { IfOk result (λ made. HasPlainText made.name) }
 {
@@ -57,7 +57,7 @@ fn port_of(alloc: Global, ident: &Ident, port: &HPort) -> Result<Port, NoMemory>
 pub fn ports_of(alloc: Global, idents: &[Ident], ports: &[HPort]) -> Result<Vec<Port>, NoMemory>
     requires { length idents.now ≡ length ports.now }
     ensures idents { IfOk result (λ made. map port_ident made.items ≡ idents.now) }
-    ensures faces { IfOk result (λ made. map face_of made.items ≡ map face_for ports.now) }
+    ensures summaries { IfOk result (λ made. map summary_of made.items ≡ map summary_for ports.now) }
     ensures sound { AllByRecursion IsSoundPort ports.now → IfOk result (λ made. AllByRecursion IsPort made.items) }
     ensures texts { IfOk result (λ made.
         AllByRecursion (λ port. HasPlainText port.name) made.items) }

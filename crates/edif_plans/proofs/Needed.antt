@@ -16,7 +16,7 @@ use Rattle.net_hier.specs.declared.nodes.Node.TheVariants.{Port, Pin, Net, Zero,
 use Rattle.net_live.specs.Live.{has_two_ends, have_property, is_bit, is_end, is_live, needs_constant}
 use Rattle.net_live.proofs.LiveLaws.{passed, two_pass}
 use Rattle.net_stars.proofs.Lists.{contains_first}
-use Rattle.edif_plans.specs.Faces.{instance_names}
+use Rattle.edif_plans.specs.Summaries.{instance_names}
 use Rattle.edif_plans.specs.Made.{AreAddedTo, needed_values}
 use Rattle.edif_plans.specs.declared.added.Added.{Added}
 use Rattle.edif_plans.specs.declared.added.Instances.{Instances}

@@ -1,5 +1,5 @@
 pub mod AddedNames
-pub mod Faces
+pub mod Summaries
 pub mod Made
 pub mod Missing
 pub mod NetNames

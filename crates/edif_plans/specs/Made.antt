@@ -29,10 +29,10 @@ use Rattle.edif_written.specs.Naming.{name_for}
 use Rattle.edif_written.specs.Sound.{AreSoundProps, IsShort}
 use Rattle.edif_spaces.specs.Spaces.{AreIdents}
 use Rattle.edif_plans.specs.AddedNames.{AreNamedFor}
-use Rattle.edif_plans.specs.Faces.{face_for, face_of, instance_face, instance_faces, instance_ident, instance_names}
+use Rattle.edif_plans.specs.Summaries.{summary_for, summary_of, instance_summary, instance_summaries, instance_ident, instance_names}
 use Rattle.edif_plans.specs.NetNames.{HasNoSpareText, net_names}
 use Rattle.edif_plans.specs.PortNames.{HasPlainText}
-use Rattle.edif_plans.specs.References.{Scene, refs_for}
+use Rattle.edif_plans.specs.References.{CellPlan, refs_for}
 use Rattle.edif_plans.specs.Sound.{IsSoundInstance, IsSoundNet, IsSoundPort}
 use Rattle.edif_plans.specs.declared.added.Instances.{Instances}
 use Rattle.edif_plans.specs.declared.head.Head.{Head}
@@ -50,7 +50,7 @@ AreFree before (name ∷ names) = (is_in name before ≡ false) × AreFree (befo
 -- the ports of a cell under these identifiers, each array with its name and its range as its text
 pub record ArePortsFor (head : Head) (cell : HCell) (ports : List Port) : Type 0 where
   pub idents : map port_ident ports ≡ head.ports
-  pub faces : map face_of ports ≡ map face_for cell.ports
+  pub summaries : map summary_of ports ≡ map summary_for cell.ports
   pub texts : AllByRecursion (λ port. HasPlainText port.name) ports
   pub sound : AllByRecursion IsSoundPort cell.ports → AllByRecursion IsPort ports
 
@@ -64,7 +64,7 @@ pub record AreAddedTo (own : List HInst) (classes : ClassTable) (instances : Ins
 -- the instances of a cell and those that are added to it
 pub record AreInstancesFor (plan : Plan) (own : List HInst) (instances : Instances) (made : List Instance) : Type 0 where
   pub idents : map instance_ident made ≡ instances.idents
-  pub faces : map instance_face made ≡ instance_faces plan own instances.added
+  pub summaries : map instance_summary made ≡ instance_summaries plan own instances.added
   pub no_spare_text : AllByRecursion (λ instance. HasNoSpareText instance.name) made
   pub sound : AllByRecursion IsSoundInstance own → AllByRecursion IsInstance made
 
@@ -74,16 +74,16 @@ live_below nets classes zero = []
 live_below nets classes (suc n) = live_below nets classes n ++ cond (is_live nets (members_of classes n)) (n ∷ []) []
 
 -- a net for each live class, in order, which has the name of its class, joins what its nodes stand for and has the last value of each property of its nets
-pub record AreNetsFor (scene : Scene) (classes : ClassTable) (live : List ℕ) (nets : List Net) : Type 0 where
-  pub are_live : AreLiveClasses scene.cell.nets classes live
-  pub in_order : live ≡ live_below scene.cell.nets classes classes.count
-  pub names : map (λ net. original net.name) nets ≡ net_names scene.cell classes live
-  pub idents : AreIdents (net_names scene.cell classes live) (map (λ net. net.name.ident) nets)
+pub record AreNetsFor (cell_plan : CellPlan) (classes : ClassTable) (live : List ℕ) (nets : List Net) : Type 0 where
+  pub are_live : AreLiveClasses cell_plan.cell.nets classes live
+  pub in_order : live ≡ live_below cell_plan.cell.nets classes classes.count
+  pub names : map (λ net. original net.name) nets ≡ net_names cell_plan.cell classes live
+  pub idents : AreIdents (net_names cell_plan.cell classes live) (map (λ net. net.name.ident) nets)
   pub no_spare_text : AllByRecursion (λ net. HasNoSpareText net.name) nets
   pub apart : AreApart (map (λ net. net.name.ident) nets)
-  pub joined : map (λ net. net.joined) nets ≡ map (λ class. refs_for scene (members_of classes class)) live
-  pub props : map (λ net. (net_value net).props) nets ≡ map (λ class. last_of (class_props scene.cell.nets (members_of classes class))) live
-  pub sound : AllByRecursion IsSoundPort scene.cell.ports → AllByRecursion IsSoundNet scene.cell.nets → AllByRecursion IsNet nets
+  pub joined : map (λ net. net.joined) nets ≡ map (λ class. refs_for cell_plan (members_of classes class)) live
+  pub props : map (λ net. (net_value net).props) nets ≡ map (λ class. last_of (class_props cell_plan.cell.nets (members_of classes class))) live
+  pub sound : AllByRecursion IsSoundPort cell_plan.cell.ports → AllByRecursion IsSoundNet cell_plan.cell.nets → AllByRecursion IsNet nets
 
 -- what is made of a cell with these classes, under this head, where these are its properties
 pub record IsMadeCell (cells : List HCell) (plan : Plan) (head : Head) (cell : HCell) (props : List HProp) (classes : ClassTable) (made : Cell) : Type 0 where

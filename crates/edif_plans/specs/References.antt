@@ -43,7 +43,7 @@ added_place instances false = length instances.idents - length instances.added
 added_place instances true = length instances.idents - 1
 
 -- a cell that is written: the design's cells, the plan of the file, the cell, and the identifiers of its ports and instances
-pub record Scene : Type 0 where
+pub record CellPlan : Type 0 where
   pub cells : List HCell
   pub plan : Plan
   pub cell : HCell
@@ -51,48 +51,48 @@ pub record Scene : Type 0 where
   pub instances : Instances
 
 -- the reference to a bit of a port of the cell itself
-abbrev pub own_ref_for : Scene → ℕ → ℕ → PortRef
-own_ref_for scene port bit = record { port = get_or scene.head.ports port []; member = member_for (range_at scene.cell.ports port) bit; instance = None }
+abbrev pub own_ref_for : CellPlan → ℕ → ℕ → PortRef
+own_ref_for cell_plan port bit = record { port = get_or cell_plan.head.ports port []; member = member_for (range_at cell_plan.cell.ports port) bit; instance = None }
 
 -- that to a bit of a port of an instance
-abbrev pub pin_ref_for : Scene → ℕ → ℕ → ℕ → PortRef
-pin_ref_for scene instance port bit =
-    let below = below_at scene.cell.instances instance in
-    record { port = get_or (head_of scene.plan below).ports port []; member = member_for (range_at (ports_at scene.cells below) port) bit; instance = Some (get_or scene.instances.idents instance []) }
+abbrev pub pin_ref_for : CellPlan → ℕ → ℕ → ℕ → PortRef
+pin_ref_for cell_plan instance port bit =
+    let below = below_at cell_plan.cell.instances instance in
+    record { port = get_or (head_of cell_plan.plan below).ports port []; member = member_for (range_at (ports_at cell_plan.cells below) port) bit; instance = Some (get_or cell_plan.instances.idents instance []) }
 
 -- that to the pin of the instance that is added for a constant
-abbrev pub constant_ref_for : Scene → Bool → PortRef
-constant_ref_for scene value =
-    record { port = get_or (constant_head scene.plan value).ports 0 []; member = None; instance = Some (get_or scene.instances.idents (added_place scene.instances value) []) }
+abbrev pub constant_ref_for : CellPlan → Bool → PortRef
+constant_ref_for cell_plan value =
+    record { port = get_or (constant_head cell_plan.plan value).ports 0 []; member = None; instance = Some (get_or cell_plan.instances.idents (added_place cell_plan.instances value) []) }
 
 -- the reference to a node; a net has none
-unfoldable pub ref_for : Scene → Node → Option PortRef
-ref_for scene (Port port bit) = Some (own_ref_for scene port bit)
-ref_for scene (Pin instance port bit) = Some (pin_ref_for scene instance port bit)
-ref_for scene (Net net) = None
-ref_for scene Zero = Some (constant_ref_for scene false)
-ref_for scene One = Some (constant_ref_for scene true)
+unfoldable pub ref_for : CellPlan → Node → Option PortRef
+ref_for cell_plan (Port port bit) = Some (own_ref_for cell_plan port bit)
+ref_for cell_plan (Pin instance port bit) = Some (pin_ref_for cell_plan instance port bit)
+ref_for cell_plan (Net net) = None
+ref_for cell_plan Zero = Some (constant_ref_for cell_plan false)
+ref_for cell_plan One = Some (constant_ref_for cell_plan true)
 
 -- the references to nodes, in order
-abbrev pub refs_for : Scene → List Node → List PortRef
-refs_for scene = filter_map (ref_for scene)
+abbrev pub refs_for : CellPlan → List Node → List PortRef
+refs_for cell_plan = filter_map (ref_for cell_plan)
 
 -- identifiers are there for all that a reference can name
-pub record FitsScene (scene : Scene) : Type 0 where
-  pub plan_fits : FitsCells scene.cells scene.plan
-  pub ports_fit : HasPorts scene.head scene.cell
-  pub idents_fit : length scene.instances.idents ≡ length scene.cell.instances + length scene.instances.added
-  pub in_range : Each (λ instance. instance.cell < length scene.cells) scene.cell.instances
+pub record FitsCellPlan (cell_plan : CellPlan) : Type 0 where
+  pub plan_fits : FitsCells cell_plan.cells cell_plan.plan
+  pub ports_fit : HasPorts cell_plan.head cell_plan.cell
+  pub idents_fit : length cell_plan.instances.idents ≡ length cell_plan.cell.instances + length cell_plan.instances.added
+  pub in_range : Each (λ instance. instance.cell < length cell_plan.cells) cell_plan.cell.instances
 
 -- an instance is added for the constant, whose cell has a port
-pub record HasPin (scene : Scene) (value : Bool) : Type 0 where
-  pub is_added : 0 < length scene.instances.added
-  pub constant : HasConstant scene.plan value
+pub record HasPin (cell_plan : CellPlan) (value : Bool) : Type 0 where
+  pub is_added : 0 < length cell_plan.instances.added
+  pub constant : HasConstant cell_plan.plan value
 
 -- what the node is, or what stands for it, is there
-abbrev pub CanRefer : Scene → Node → Type 0
-CanRefer scene (Port port bit) = IsPortBit scene.cell port bit
-CanRefer scene (Pin instance port bit) = IsPinBit scene.cells scene.cell instance port bit
-CanRefer scene (Net net) = ⊤
-CanRefer scene Zero = HasPin scene false
-CanRefer scene One = HasPin scene true
+abbrev pub CanRefer : CellPlan → Node → Type 0
+CanRefer cell_plan (Port port bit) = IsPortBit cell_plan.cell port bit
+CanRefer cell_plan (Pin instance port bit) = IsPinBit cell_plan.cells cell_plan.cell instance port bit
+CanRefer cell_plan (Net net) = ⊤
+CanRefer cell_plan Zero = HasPin cell_plan false
+CanRefer cell_plan One = HasPin cell_plan true

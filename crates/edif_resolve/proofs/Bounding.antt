@@ -19,7 +19,7 @@ use Rattle.edif_design.specs.Parts.{nets, ports}
 use Rattle.edif_design.specs.Reach.{is_reached, reached_cells}
 use Rattle.edif_design.specs.References.{CellPlace, LinkedCell, all_cells, linked_cell}
 use Rattle.edif_design.specs.Tables.{place_of, seen}
-use Rattle.edif_design.specs.declared.tables.Place.{Place}
+use Rattle.edif_design.specs.declared.tables.PlacedCell.{PlacedCell}
 use Rattle.edif_resolve.specs.Most.{most_of_file, most_units, net_units, port_width}
 use Rattle.edif_resolve.proofs.Building.{all_taken}
 use Rattle.edif_resolve.proofs.FewParts.{few_some}
@@ -95,7 +95,7 @@ abbrev pub reached_so_far : EdifFile → List CellPlace → List (ℕ × CellPla
 reached_so_far file places = filter (λ item. is_reached file item.0) (enumerate_from 0 places)
 
 -- one more place
-pub most_more : (file : EdifFile) (places : List Place) → map place_of places ≡ all_cells file → (i : ℕ) (x : Place) → i < length places → x ≡ get_or places i x → (limit old more new : ℕ)
+pub most_more : (file : EdifFile) (places : List PlacedCell) → map place_of places ≡ all_cells file → (i : ℕ) (x : PlacedCell) → i < length places → x ≡ get_or places i x → (limit old more new : ℕ)
     → old ≡ min limit (sum_by (λ item. most_units item.1.cell) (reached_so_far file (take i (all_cells file)))) → more ≡ cond (is_reached file i) (min limit (most_units x.cell.now)) 0 → new ≡ min (old + more) limit
     → new ≡ min limit (sum_by (λ item. most_units item.1.cell) (reached_so_far file (take (i + 1) (all_cells file))))
 most_more file places are i x within is limit old more new is_old is_more is_new =
@@ -120,7 +120,7 @@ most_more file places are i x within is limit old more new is_old is_more is_new
     counted false own sum a d e = grind arith
 
 -- all places
-pub most_done : (file : EdifFile) (places : List Place) → map place_of places ≡ all_cells file → (i : ℕ) → length places ≤ i → (limit most : ℕ)
+pub most_done : (file : EdifFile) (places : List PlacedCell) → map place_of places ≡ all_cells file → (i : ℕ) → length places ≤ i → (limit most : ℕ)
     → most ≡ min limit (sum_by (λ item. most_units item.1.cell) (reached_so_far file (take i (all_cells file)))) → most ≡ min limit (most_of_file file)
 most_done file places are i h limit most is =
     let long : length (all_cells file) ≤ i = subst (λ ps. length ps ≤ i) are (subst (λ n. n ≤ i) (sym (length-map places place_of)) h) in

@@ -23,7 +23,7 @@ use Rattle.edif_design.specs.Parts.{instances}
 use Rattle.edif_design.specs.Reach.{is_reached}
 use Rattle.edif_design.specs.References.{CellPlace, all_cells, cell_meant, file_cells, linked_cell, number_meant, numbers_meant, top}
 use Rattle.edif_design.specs.Tables.{place_of, seen}
-use Rattle.edif_design.specs.declared.tables.Place.{Place}
+use Rattle.edif_design.specs.declared.tables.PlacedCell.{PlacedCell}
 use Rattle.edif_resolve.proofs.Clean.{map_get, ports_clean, reached_clean, top_there}
 use Rattle.edif_resolve.proofs.Linking.{instance_above, number_some}
 use Rattle.edif_resolve.proofs.Numbers.{meant_stands}
@@ -37,7 +37,7 @@ abbrev pub cells_so_far : EdifFile → List ℕ → List CellPlace → List HCel
 cells_so_far file numbers places = map (λ item. cell_value numbers (linked_cell file item.1)) (filter (λ item. is_reached file item.0) (enumerate_from 0 places))
 
 -- one more place
-pub cells_more : (file : EdifFile) (numbers : List ℕ) (places : List Place) → map place_of places ≡ all_cells file → (i : ℕ) (x : Place) → i < length places → x ≡ get_or places i x → (old new : List HCell)
+pub cells_more : (file : EdifFile) (numbers : List ℕ) (places : List PlacedCell) → map place_of places ≡ all_cells file → (i : ℕ) (x : PlacedCell) → i < length places → x ≡ get_or places i x → (old new : List HCell)
     → old ≡ cells_so_far file numbers (take i (all_cells file)) → new ≡ old ++ cond (is_reached file i) (cell_value numbers (linked_cell file (place_of x)) ∷ []) [] → new ≡ cells_so_far file numbers (take (i + 1) (all_cells file))
 cells_more file numbers places are i x within is old new is_old is_new =
     let inside : i < length (all_cells file) = subst (λ ps. i < length ps) are (subst (λ n. i < n) (sym (length-map places place_of)) within) in
@@ -62,7 +62,7 @@ all_taken (x ∷ xs) zero h = absurd (omega arith)
 all_taken (x ∷ xs) (suc i) h = ap (λ ys. x ∷ ys) (all_taken xs i (omega arith))
 
 -- all places
-pub cells_done : (file : EdifFile) (numbers : List ℕ) (places : List Place) → map place_of places ≡ all_cells file → (i : ℕ) → length places ≤ i → numbers ≡ numbers_in_design file → (made : List HCell)
+pub cells_done : (file : EdifFile) (numbers : List ℕ) (places : List PlacedCell) → map place_of places ≡ all_cells file → (i : ℕ) → length places ≤ i → numbers ≡ numbers_in_design file → (made : List HCell)
     → made ≡ cells_so_far file numbers (take i (all_cells file)) → made ≡ edif_cells file
 unfolding edif_cells
 cells_done file numbers places are i h is_numbers made is =
@@ -70,7 +70,7 @@ cells_done file numbers places are i h is_numbers made is =
     is ∙ (ap (cells_so_far file numbers) (all_taken (all_cells file) i long) ∙ ap (λ ns. cells_so_far file ns (all_cells file)) is_numbers)
 
 -- the place at an index stands in the file
-pub place_stands : (file : EdifFile) (places : List Place) → map place_of places ≡ all_cells file → (i : ℕ) (x : Place) → i < length places → x ≡ get_or places i x → slice_get (all_cells file) i ≡ Some (place_of x)
+pub place_stands : (file : EdifFile) (places : List PlacedCell) → map place_of places ≡ all_cells file → (i : ℕ) (x : PlacedCell) → i < length places → x ≡ get_or places i x → slice_get (all_cells file) i ≡ Some (place_of x)
 place_stands file places are i x within is =
     ap (λ ps. slice_get ps i) (sym are) ∙ (slice_get-map place_of places i ∙ ap (option_map place_of) (slice_get-get_or places i x within ∙ ap Some (sym is)))
 

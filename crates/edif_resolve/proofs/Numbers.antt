@@ -16,7 +16,7 @@ use Rattle.net_graph.specs.Marks.{marks_of}
 use Rattle.edif_design.specs.Parts.{designs, instances, ports}
 use Rattle.edif_design.specs.Reach.{cells_below, marks_below, reached_marks, those_meant}
 use Rattle.edif_design.specs.Tables.{place_of}
-use Rattle.edif_design.specs.declared.tables.Place.{Place}
+use Rattle.edif_design.specs.declared.tables.PlacedCell.{PlacedCell}
 use Rattle.edif_design.specs.References.{cell_meant, first_meant, number_meant, numbers_meant, top, top_meant, CellPlace, all_cells, cell_candidates, cells_of_library, file_cells, library_meant, link_meant}
 
 -- the item of this number stands in the list
@@ -85,14 +85,14 @@ all_taken (x ∷ xs) zero h = absurd (omega arith)
 all_taken (x ∷ xs) (suc i) h = ap (λ ys. x ∷ ys) (all_taken xs i (omega arith))
 
 -- the graph that is made place by place
-pub graph_done : (file : EdifFile) (places : List Place) → map place_of places ≡ all_cells file → (i : ℕ) → length places ≤ i → (made : List (List ℕ))
+pub graph_done : (file : EdifFile) (places : List PlacedCell) → map place_of places ≡ all_cells file → (i : ℕ) → length places ≤ i → (made : List (List ℕ))
     → made ≡ map (λ place. those_meant (numbers_meant file (place_of place))) (take i places) → made ≡ cells_below file
 graph_done file places are i h made is =
     is ∙ (ap (map (λ place. those_meant (numbers_meant file (place_of place)))) (all_taken places i h)
     ∙ (sym (map_twice (λ place. those_meant (numbers_meant file place)) place_of places) ∙ ap (map (λ place. those_meant (numbers_meant file place))) are))
 
 -- the ports that are listed place by place
-pub port_tables_done : (file : EdifFile) (places : List Place) → map place_of places ≡ all_cells file → (i : ℕ) → length places ≤ i → (made : List (List Port))
+pub port_tables_done : (file : EdifFile) (places : List PlacedCell) → map place_of places ≡ all_cells file → (i : ℕ) → length places ≤ i → (made : List (List Port))
     → made ≡ map (λ place. ports place.cell.now) (take i places) → made ≡ map ports (file_cells file)
 port_tables_done file places are i h made is =
     is ∙ (ap (map (λ place. ports place.cell.now)) (all_taken places i h)

@@ -16,7 +16,7 @@ use Rattle.edif_values.specs.declared.library.LibraryItem.TheVariants as library
 use Rattle.edif_design.specs.Parts.{cell_in, cells_in, libraries_in, library_in}
 use Rattle.edif_design.specs.References.{all_cells, place_in}
 use Rattle.edif_design.specs.Tables.{place_of, places_from, seen}
-use Rattle.edif_design.specs.declared.tables.Place.{Place}
+use Rattle.edif_design.specs.declared.tables.PlacedCell.{PlacedCell}
 use Rattle.edif_design.proofs.Small.{few_cells}
 
 -- what holds of each item of a list holds of the one at a place
@@ -116,7 +116,7 @@ module _ (library : Library) (own : List (Bor Cell)) (are : seen own ≡ cells_i
       subst (λ cell. cell_size cell ≤ m) e (all_at (λ cell. cell_size cell ≤ m) (seen own) k d.now (subst (AllByRecursion (λ cell. cell_size cell ≤ m)) (sym are) (cells_small m library h)) inside)
 
 -- a cell at a place that is held is small
-pub place_small : (file : EdifFile) (places : List Place) → map place_of places ≡ all_cells file → (m : ℕ) → edif_size file ≤ m → (i : ℕ) (x : Place) → i < length places → x ≡ get_or places i x → cell_size x.cell.now ≤ m
+pub place_small : (file : EdifFile) (places : List PlacedCell) → map place_of places ≡ all_cells file → (m : ℕ) → edif_size file ≤ m → (i : ℕ) (x : PlacedCell) → i < length places → x ≡ get_or places i x → cell_size x.cell.now ≤ m
 place_small file places are m h i x within is =
     let inside : i < length (map place_of places) = subst (λ n. i < n) (sym (length-map places place_of)) within in
     let e : get_or (map place_of places) i (place_of x) ≡ place_of x = get_or-map place_of places i x (place_of x) within ∙ ap place_of (sym is) in

@@ -42,7 +42,7 @@ pub(crate) fn numbers_meant(
 }
 
 // Adds the number, where there is one.
-fn add_number(list: &mut Seq<u32>, number: Option<u32>) -> Result<(), NoMemory>
+fn push_number(list: &mut Seq<u32>, number: Option<u32>) -> Result<(), NoMemory>
     ensures { OnOk result (list.new ≡ list.old ++ option_to_list number) }
 {
     match number {
@@ -60,7 +60,7 @@ fn those_meant(alloc: Global, numbers: &[Option<u32>]) -> Result<Seq<u32>, NoMem
 {
     let mut list = Seq::empty(alloc);
     for number in numbers {
-        add_number(&mut list, *number)?;
+        push_number(&mut list, *number)?;
     }
     Ok(list)
 }

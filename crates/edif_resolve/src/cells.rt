@@ -11,21 +11,21 @@ ghost use Rattle.std.specs.List.{flat_map};
 
 use crate::below::numbers_meant;
 use crate::tabled::TabledFile;
-use edif_cells::{add_properties, cell_of};
-use edif_design::tables::Place;
+use edif_cells::{cell_of, push_properties};
+use edif_design::tables::PlacedCell;
 use edif_values::Design;
 use net_hier::{HCell, HProp};
 use nl_base::{NoMemory, Seq};
 use std::alloc::Global;
 
 // Adds the cell at a place, where it is reached.
-fn add_cell(
+fn push_cell(
     alloc: Global,
     tabled: &TabledFile<'_>,
     numbers: &[u32],
     cells: &mut Seq<HCell>,
     number: u32,
-    place: &Place<'_>,
+    place: &PlacedCell<'_>,
 ) -> Result<(), NoMemory>
     requires clean { refusals tabled.now ≡ [] }
     requires small { edif_size tabled.now ≤ count_limit }
@@ -62,7 +62,7 @@ pub(crate) fn design_cells(
     let mut cells = Seq::empty(alloc);
     let places = tabled.tables().places();
     for number in 0..places.len() as u32 {
-        add_cell(
+        push_cell(
             alloc,
             tabled,
             numbers,
@@ -93,7 +93,7 @@ pub(crate) fn designs_properties(alloc: Global, designs: &[&Design]) -> Result<S
 {
     let mut props = Seq::empty(alloc);
     for design in designs {
-        add_properties(alloc, &mut props, design)?;
+        push_properties(alloc, &mut props, design)?;
     }
     Ok(props)
 }

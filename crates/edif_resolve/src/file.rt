@@ -17,7 +17,7 @@ use crate::library::{cells_of, library_refusal, second_refusal};
 use crate::tabled::TabledFile;
 use crate::top::design_count_refusal;
 use edif_design::links::Linked;
-use edif_lookup::{Names, lower, one_name, refusal};
+use edif_lookup::{NameSet, lower, one_name, refusal};
 use edif_values::{Cell, CellItem, Design, EdifFile, FileItem, Library};
 use nl_base::{NoMemory, Refusal, Rule};
 use std::alloc::Global;
@@ -26,7 +26,7 @@ use std::alloc::Global;
 #[derive(Drop)]
 pub struct Walk<'a> {
     best: Option<Refusal>,
-    names: Names<'a>,
+    names: NameSet<'a>,
     libraries: u32,
     cells: u32,
 }
@@ -199,7 +199,7 @@ fn parts_refusal<'a>(
 {
     let mut walk = Walk {
         best: None,
-        names: Names::new(alloc),
+        names: NameSet::new(alloc),
         libraries: 0,
         cells: 0,
     };

@@ -11,14 +11,14 @@ ghost use Rattle.edif_design.specs.Tables.{seen};
 
 use crate::below::numbers_meant;
 use crate::tabled::TabledFile;
-use edif_lookup::{Names, lower, refusal, two_names};
+use edif_lookup::{NameSet, lower, refusal, two_names};
 use edif_rules::cell_refusal;
 use edif_values::{Cell, Library, LibraryItem};
 use nl_base::{NoMemory, Refusal, Rule};
 use std::alloc::Global;
 
 // Adds the cell that a part of a library is.
-fn add_cell<'a>(cells: &mut Vec<&'a Cell>, item: &'a LibraryItem) -> Result<(), NoMemory>
+fn push_cell<'a>(cells: &mut Vec<&'a Cell>, item: &'a LibraryItem) -> Result<(), NoMemory>
     ensures { OnOk result (seen cells.new.items ≡ seen cells.old.items ++ option_to_list (cell_in item.now)) }
 {
     match item {
@@ -36,7 +36,7 @@ pub(crate) fn cells_of<'a>(alloc: Global, library: &'a Library) -> Result<Vec<&'
 {
     let mut cells = Vec::new(alloc);
     for item in library.items.items() {
-        add_cell(&mut cells, item)?;
+        push_cell(&mut cells, item)?;
     }
     Ok(cells)
 }
@@ -115,7 +115,7 @@ pub(crate) fn library_refusal<'a>(
     ensures { IfOk result (λ found. found ≡ lowest (in_order (library_cell_refusals tabled.now library first) (seen cells.now))) }
 {
     let mut best = None;
-    let mut names = Names::new(alloc);
+    let mut names = NameSet::new(alloc);
     for place in 0..cells.len() as u32 {
         let cell = cells[place as usize];
         let taken = names.note(cell.name.ident.bytes())?;

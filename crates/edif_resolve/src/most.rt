@@ -13,7 +13,7 @@ ghost use Rattle.edif_rules.specs.Lists.{seen};
 ghost use Rattle.edif_resolve.specs.Most.{most_of_file, most_units, net_units, port_width};
 
 use crate::tabled::TabledFile;
-use edif_design::tables::Place;
+use edif_design::tables::PlacedCell;
 use edif_rules::parts::{contents_of, nets_in, ports_of};
 use edif_values::{Cell, Net, Port, port_original};
 use nl_base::NoMemory;
@@ -72,7 +72,7 @@ fn most_at(
     alloc: Global,
     tabled: &TabledFile<'_>,
     number: u32,
-    place: &Place<'_>,
+    place: &PlacedCell<'_>,
 ) -> Result<u64, NoMemory>
     requires clean { refusals tabled.now ≡ [] }
     requires stands { slice_get (all_cells tabled.now) number ≡ Some (place_of place.now) }

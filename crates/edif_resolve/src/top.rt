@@ -16,7 +16,7 @@ use nl_base::{NoMemory, Refusal, Rule, Seq};
 use std::alloc::Global;
 
 // Adds the design that a part of a file is.
-fn add_design<'a>(found: &mut Vec<&'a Design>, item: &'a FileItem) -> Result<(), NoMemory>
+fn push_design<'a>(found: &mut Vec<&'a Design>, item: &'a FileItem) -> Result<(), NoMemory>
     ensures { OnOk result (seen found.new.items ≡ seen found.old.items ++ option_to_list (design_in item.now)) }
 {
     match item {
@@ -34,7 +34,7 @@ pub(crate) fn designs_of<'a>(alloc: Global, file: &'a EdifFile) -> Result<Vec<&'
 {
     let mut found = Vec::new(alloc);
     for item in file.items.items() {
-        add_design(&mut found, item)?;
+        push_design(&mut found, item)?;
     }
     Ok(found)
 }

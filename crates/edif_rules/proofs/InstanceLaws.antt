@@ -11,7 +11,7 @@ use Rattle.edif_lookup.proofs.Orders.{lowest-append}
 use Rattle.edif_values.specs.declared.file.EdifFile.{EdifFile}
 use Rattle.edif_design.specs.CellRules.{inner_cell, link_refusals, view_refusals}
 use Rattle.edif_design.specs.References.{file_cells, link_meant, number_meant}
-use Rattle.edif_rules.specs.Walks.{instance_breaks}
+use Rattle.edif_rules.specs.Walks.{instance_refusals_by}
 use Rattle.edif_rules.proofs.ScopeLaws.{meant_cell}
 
 -- what an instance breaks, by what was found of its parts
@@ -19,7 +19,7 @@ pub instance_found : (file : EdifFile) (home : ℕ) (cell : List ℕ) (instance 
     → ident ≡ instance.name.ident → named ≡ original instance.name → second ≡ lowest (broken ident_taken E5 cell (codes "instance" ∷ (ident ∷ [])))
     → number ≡ number_meant (link_meant file home instance.library instance.cell) → link ≡ lowest (link_refusals file home cell instance.library instance.cell)
     → view ≡ lowest (view_refusals cell instance.view (option_and_then (slice_get (file_cells file)) number)) → last ≡ lowest (broken name_taken E12 cell (codes "instance" ∷ (named ∷ [])))
-    → result ≡ lower (lower (lower second link) view) last → result ≡ lowest (instance_breaks file home cell ident_taken name_taken instance)
+    → result ≡ lower (lower (lower second link) view) last → result ≡ lowest (instance_refusals_by file home cell ident_taken name_taken instance)
 instance_found file home cell instance ident_taken name_taken ident named number second link view last result is_ident is_named is_second is_number is_link is_view is_last is_result =
     let a : List Refusal = broken ident_taken E5 cell (codes "instance" ∷ (instance.name.ident ∷ [])) in
     let b : List Refusal = link_refusals file home cell instance.library instance.cell in

@@ -20,7 +20,7 @@ use Rattle.edif_design.specs.Parts.{instances, numbered, ports}
 use Rattle.edif_design.specs.References.{CellPlace, LinkedCell, all_cells, cell_candidates, cells_of_library, file_cells, library_meant, link_meant, number_meant}
 use Rattle.edif_values.specs.declared.file.EdifFile.{EdifFile}
 use Rattle.std.proofs.lemmas.Option.{slice_get-map}
-use Rattle.edif_rules.specs.Breaks.{found_breaks, port_breaks_at, ref_breaks, ref_node}
+use Rattle.edif_rules.specs.RefRefusals.{found_refusals, port_refusals_at, ref_refusals_by, ref_node}
 use Rattle.edif_rules.specs.Idents.{instance_ident, instances_meaning}
 use Rattle.edif_rules.specs.Scopes.{IsScope, ScopeLists, found_by, found_among, found_in, found_of, found_with, inner_ports, instance_names, name_of, node_found, port_at, port_found}
 use Rattle.edif_rules.specs.Spots.{node_of_bit}
@@ -101,20 +101,20 @@ record IsOwner (lists : ScopeLists) (owner : Owner) (instance : Option ℕ) : Ty
 
 module _ (lists : ScopeLists) (cell net : List ℕ) (taken : List Node) (ref : PortRef) where
   named_alike : (owner : Owner) (instance : Option ℕ) → IsOwner lists owner instance → (port : ℕ × Port) → slice_get (ports owner.1) port.0 ≡ Some port.1
-      → bit_refusals cell net taken owner port ref.member ≡ found_breaks lists cell net taken ref (founds.Port instance port.0)
-  unfolding found_breaks
+      → bit_refusals cell net taken owner port ref.member ≡ found_refusals lists cell net taken ref (founds.Port instance port.0)
+  unfolding found_refusals
   named_alike owner instance is port at =
       (λ j. member_refusals cell (net ∷ (is.names_are j ++ port_name port.1 ∷ [])) (size_of port.1.name) ref.member
       ++ if_some (bit_of (size_of port.1.name) ref.member) (λ bit. broken (list_any (same_node (is.node_is port.0 bit j)) taken) E11 cell ((net ∷ (is.names_are j ++ port_name port.1 ∷ [])) ++ index_names (port_original port.1.name).1 bit)))
-      ∙ ap (port_breaks_at lists cell net taken instance port.0 ref.member) (sym (is.port_is port.0 ∙ at))
+      ∙ ap (port_refusals_at lists cell net taken instance port.0 ref.member) (sym (is.port_is port.0 ∙ at))
 
-  port_step : (owner : Owner) (instance : Option ℕ) → IsOwner lists owner instance → port_ref_refusals cell net taken ref owner ≡ found_breaks lists cell net taken ref (found_in instance (ports owner.1) ref.port)
-  unfolding found_breaks
+  port_step : (owner : Owner) (instance : Option ℕ) → IsOwner lists owner instance → port_ref_refusals cell net taken ref owner ≡ found_refusals lists cell net taken ref (found_in instance (ports owner.1) ref.port)
+  unfolding found_refusals
   port_step owner instance is = by (port_candidates owner.1 ref.port) refl
     where
       by : (found : List (ℕ × Port)) → port_candidates owner.1 ref.port ≡ found
           → broken_reference found E8 cell (net ∷ (owner_names owner ++ ref.port ∷ [])) ref.port ++ if_some (the_only found) (λ port. bit_refusals cell net taken owner port ref.member)
-          ≡ found_breaks lists cell net taken ref (port_found instance (meant_by found))
+          ≡ found_refusals lists cell net taken ref (port_found instance (meant_by found))
       by [] e = ap (λ names. broken true E8 cell (net ∷ (names ++ ref.port ∷ []))) is.names_are
       by (one ∷ []) e = named_alike owner instance is one (candidate_at port_ident (ports owner.1) ref.port one [] e)
       by (one ∷ (two ∷ rest)) e = refl
@@ -132,40 +132,40 @@ module _ (linked : LinkedCell) (lists : ScopeLists) (is : IsScope linked lists) 
 
   module _ (cell net : List ℕ) (taken : List Node) (ref : PortRef) where
     inner_step : (instance : ℕ × Instance) → slice_get (instances linked.cell) instance.0 ≡ Some instance.1
-        → if_some (owner_at linked.below instance) (port_ref_refusals cell net taken ref) ≡ found_breaks lists cell net taken ref (found_among instance.0 ref.port (inner_ports lists instance.0))
-    unfolding found_breaks
+        → if_some (owner_at linked.below instance) (port_ref_refusals cell net taken ref) ≡ found_refusals lists cell net taken ref (found_among instance.0 ref.port (inner_ports lists instance.0))
+    unfolding found_refusals
     inner_step instance at = by (get_or linked.below instance.0 None) (inner_ports lists instance.0) refl (is.inner_are instance.0)
       where
         by : (below : Option (ℕ × Cell)) (inner : Option (List Port)) → inner_ports lists instance.0 ≡ inner → inner ≡ option_map (λ c. ports c.1) below
-            → if_some (option_map (λ c. (Some instance, c.1)) below) (port_ref_refusals cell net taken ref) ≡ found_breaks lists cell net taken ref (found_among instance.0 ref.port inner)
+            → if_some (option_map (λ c. (Some instance, c.1)) below) (port_ref_refusals cell net taken ref) ≡ found_refusals lists cell net taken ref (found_among instance.0 ref.port inner)
         by None None e h = refl
         by None (Some ps) e h = absurd cc
         by (Some c) None e h = absurd cc
         by (Some c) (Some ps) e h =
             port_step lists cell net taken ref (Some instance, c.1) (Some instance.0) (inner_owner instance c.1 at (e ∙ h))
-            ∙ ap (λ found. found_breaks lists cell net taken ref (found_among instance.0 ref.port found)) (sym h)
+            ∙ ap (λ found. found_refusals lists cell net taken ref (found_among instance.0 ref.port found)) (sym h)
 
     by_instance : (spelling : List ℕ) (found : List (ℕ × Instance)) → instance_candidates linked.cell spelling ≡ found → ref.instance ≡ Some spelling
         → broken_reference found E7 cell (net ∷ (spelling ∷ [])) spelling ++ if_some (option_and_then (owner_at linked.below) (the_only found)) (port_ref_refusals cell net taken ref)
-        ≡ found_breaks lists cell net taken ref (found_by lists ref.port (meant_by found))
-    unfolding found_breaks
+        ≡ found_refusals lists cell net taken ref (found_by lists ref.port (meant_by found))
+    unfolding found_refusals
     by_instance spelling [] e s = ap (λ o. if_some o (λ t. broken true E7 cell (net ∷ (t ∷ [])))) (sym s)
     by_instance spelling (one ∷ []) e s = inner_step one (candidate_at instance_ident (instances linked.cell) spelling one [] e)
     by_instance spelling (one ∷ (two ∷ rest)) e s = ap (λ o. if_some o (λ t. broken true E6 cell (t ∷ []))) (sym s)
 
   -- what a reference breaks
-  pub breaks_alike : (net : List ℕ) (taken : List Node) (ref : PortRef) → ref_breaks lists (original linked.cell.name) net taken ref ≡ ref_refusals linked net taken ref
-  breaks_alike net taken ref = sym (by ref.instance refl)
+  pub refusals_alike : (net : List ℕ) (taken : List Node) (ref : PortRef) → ref_refusals_by lists (original linked.cell.name) net taken ref ≡ ref_refusals linked net taken ref
+  refusals_alike net taken ref = sym (by ref.instance refl)
     where
       by : (instance : Option (List ℕ)) → ref.instance ≡ instance
           → if_some instance (instance_ref_refusals linked.cell net) ++ if_some (owner_of linked instance) (port_ref_refusals (original linked.cell.name) net taken ref)
-          ≡ found_breaks lists (original linked.cell.name) net taken ref (found_with lists ref.port instance)
+          ≡ found_refusals lists (original linked.cell.name) net taken ref (found_with lists ref.port instance)
       by None e =
           port_step lists (original linked.cell.name) net taken ref (None, linked.cell) None own_owner
-          ∙ ap (λ ps. found_breaks lists (original linked.cell.name) net taken ref (found_in None ps ref.port)) (sym is.own_are)
+          ∙ ap (λ ps. found_refusals lists (original linked.cell.name) net taken ref (found_in None ps ref.port)) (sym is.own_are)
       by (Some spelling) e =
           by_instance (original linked.cell.name) net taken ref spelling (instance_candidates linked.cell spelling) refl e
-          ∙ ap (λ us. found_breaks lists (original linked.cell.name) net taken ref (found_by lists ref.port (instances_meaning us spelling))) (sym is.instances_are)
+          ∙ ap (λ us. found_refusals lists (original linked.cell.name) net taken ref (found_by lists ref.port (instances_meaning us spelling))) (sym is.instances_are)
 
   port_bit : (owner : Owner) (instance : Option ℕ) → IsOwner lists owner instance → (ref : PortRef) → owner_bit ref owner ≡ node_found lists (found_in instance (ports owner.1) ref.port) ref.member
   port_bit owner instance known ref = by (port_candidates owner.1 ref.port) refl

@@ -12,7 +12,7 @@ use Rattle.edif_lookup.proofs.ListLaws.{enumerate_more}
 use Rattle.edif_lookup.proofs.NameLaws.{names_turn}
 use Rattle.edif_lookup.proofs.Orders.{lowest_turn}
 use Rattle.edif_values.specs.declared.port.Port.{Port}
-use Rattle.edif_design.specs.CellRules.{port_breaks, port_ident, port_name, port_refusals, size_of}
+use Rattle.edif_design.specs.CellRules.{port_refusals_by, port_ident, port_name, port_refusals, size_of}
 use Rattle.edif_design.specs.Parts.{numbered}
 use Rattle.edif_rules.specs.Lists.{seen}
 
@@ -55,11 +55,11 @@ module _ (cell : List ℕ) (items : List (Bor Port)) (i : ℕ) (x : Bor Port) (w
 
   pub ports_turn : (idents names : List (List ℕ)) → ((other : List ℕ) → is_in other idents ≡ is_in other (map port_ident (take i (seen items)))) → ((other : List ℕ) → is_in other names ≡ is_in other (map port_name (take i (seen items))))
       → (ident name : List ℕ) → ident ≡ port_ident x.now → name ≡ port_name x.now → (ident_taken name_taken : Bool) → ident_taken ≡ is_in ident idents → name_taken ≡ is_in name names
-      → (best next now : Option Refusal) → best ≡ lowest (in_order (port_refusals cell) (take i (seen items))) → next ≡ lowest (port_breaks cell ident_taken name_taken (port_ident x.now) (port_name x.now) (size_of x.now.name))
+      → (best next now : Option Refusal) → best ≡ lowest (in_order (port_refusals cell) (take i (seen items))) → next ≡ lowest (port_refusals_by cell ident_taken name_taken (port_ident x.now) (port_name x.now) (size_of x.now.name))
       → now ≡ lower best next → now ≡ lowest (in_order (port_refusals cell) (take (i + 1) (seen items)))
   ports_turn idents names has_idents has_names ident name is_ident is_name ident_taken name_taken ident_known name_known best next now is_best is_next is_now =
       let a : ident_taken ≡ is_in (port_ident x.now) (map port_ident (take i (seen items))) = ident_known ∙ (has_idents ident ∙ ap (λ s. is_in s (map port_ident (take i (seen items)))) is_ident) in
       let b : name_taken ≡ is_in (port_name x.now) (map port_name (take i (seen items))) = name_known ∙ (has_names name ∙ ap (λ s. is_in s (map port_name (take i (seen items)))) is_name) in
       let here : get_or (seen items) i x.now ≡ x.now = seen_at items i x within at in
       lowest_turn (port_refusals cell) (seen items) i x.now (seen_within items i x within at) best next now is_best
-      (is_next ∙ ((λ j. lowest (port_breaks cell (a j) (b j) (port_ident x.now) (port_name x.now) (size_of x.now.name))) ∙ ap (λ p. lowest (port_refusals cell (take i (seen items)) p)) (sym here))) is_now
+      (is_next ∙ ((λ j. lowest (port_refusals_by cell (a j) (b j) (port_ident x.now) (port_name x.now) (size_of x.now.name))) ∙ ap (λ p. lowest (port_refusals cell (take i (seen items)) p)) (sym here))) is_now

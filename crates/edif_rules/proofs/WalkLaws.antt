@@ -29,15 +29,15 @@ use Rattle.edif_values.specs.declared.view.ContentsItem.TheVariants as contents_
 use Rattle.edif_design.specs.CellRules.{bit_meant, bit_of, bits_of_nets, contents_refusals, index_names, member_refusals, net_refusals, port_name, ref_refusals, same_node, size_of}
 use Rattle.edif_design.specs.Parts.{instance_in, instances, net_in, ports}
 use Rattle.edif_design.specs.References.{LinkedCell, linked_by, linked_cell, place_in, with_number}
-use Rattle.edif_rules.specs.Breaks.{found_breaks, names_of, port_breaks_at, ref_breaks, ref_node}
+use Rattle.edif_rules.specs.RefRefusals.{found_refusals, names_of, port_refusals_at, ref_refusals_by, ref_node}
 use Rattle.edif_rules.specs.Idents.{instance_ident}
 use Rattle.edif_rules.specs.Scopes.{IsScope, ScopeLists, found_of, inner_ports, port_at}
 use Rattle.edif_rules.specs.Spots.{node_of_bit}
-use Rattle.edif_rules.specs.Walks.{AddsBits, AddsName, HasMet, instance_breaks, instance_original, net_breaks, net_ident}
+use Rattle.edif_rules.specs.Walks.{AddsBits, AddsName, HasMet, instance_refusals_by, instance_original, net_refusals_by, net_ident}
 use Rattle.edif_rules.specs.declared.found.Target.{Target}
 use Rattle.edif_rules.specs.declared.found.Target.TheVariants as founds
 use Rattle.edif_rules.specs.declared.walk.Met.{Met}
-use Rattle.edif_rules.proofs.ScopeLaws.{breaks_alike, node_alike}
+use Rattle.edif_rules.proofs.ScopeLaws.{refusals_alike, node_alike}
 use Rattle.edif_rules.specs.Lists.{seen}
 use Rattle.edif_rules.proofs.TableTurns.{seen_at, seen_within}
 use Rattle.edif_rules.proofs.Turns.{filter_grows, flat_grows}
@@ -120,11 +120,11 @@ module _ (linked : LinkedCell) (before : List ContentsItem) (old new : Met) (met
 
 -- what a reference breaks depends on the bits that are taken, not on their order
 module _ (lists : ScopeLists) (cell net : List ℕ) (taken bits : List Node) (same : (node : Node) → list_any (same_node node) taken ≡ list_any (same_node node) bits) (ref : PortRef) where
-  taken_alike : (found : Target) → found_breaks lists cell net taken ref found ≡ found_breaks lists cell net bits ref found
-  unfolding found_breaks
+  taken_alike : (found : Target) → found_refusals lists cell net taken ref found ≡ found_refusals lists cell net bits ref found
+  unfolding found_refusals
   taken_alike (founds.Port instance port) = by (port_at lists instance port)
     where
-      by : (meant : Option Port) → port_breaks_at lists cell net taken instance port ref.member meant ≡ port_breaks_at lists cell net bits instance port ref.member meant
+      by : (meant : Option Port) → port_refusals_at lists cell net taken instance port ref.member meant ≡ port_refusals_at lists cell net bits instance port ref.member meant
       by None = refl
       by (Some meant) =
           let names = names_of lists net instance (port_name meant) in
@@ -137,27 +137,27 @@ module _ (lists : ScopeLists) (cell net : List ℕ) (taken bits : List Node) (sa
   taken_alike founds.SeveralPorts = refl
 
 module _ (file : EdifFile) (home : ℕ) (cell : Cell) (before : List ContentsItem) (old : Met) (met : HasMet (linked_cell file (place_in home cell)) before old) where
-  pub instance_refused : (instance : Instance) → lowest (instance_breaks file home (original cell.name) (is_in (instance_ident instance) old.instances) (is_in (instance_original instance) old.originals) instance)
+  pub instance_refused : (instance : Instance) → lowest (instance_refusals_by file home (original cell.name) (is_in (instance_ident instance) old.instances) (is_in (instance_original instance) old.originals) instance)
       ≡ lowest (contents_refusals file (place_in home cell) before (contents_items.Instance instance))
-  instance_refused instance = λ j. lowest (instance_breaks file home (original cell.name) (met.instances_met (instance_ident instance) j) (met.originals_met (instance_original instance) j) instance)
+  instance_refused instance = λ j. lowest (instance_refusals_by file home (original cell.name) (met.instances_met (instance_ident instance) j) (met.originals_met (instance_original instance) j) instance)
 
-  pub net_refused : (lists : ScopeLists) → IsScope (linked_cell file (place_in home cell)) lists → (net : Net) → lowest (net_breaks lists (original cell.name) (is_in (net_ident net) old.nets) old.taken net)
+  pub net_refused : (lists : ScopeLists) → IsScope (linked_cell file (place_in home cell)) lists → (net : Net) → lowest (net_refusals_by lists (original cell.name) (is_in (net_ident net) old.nets) old.taken net)
       ≡ lowest (contents_refusals file (place_in home cell) before (contents_items.Net net))
   net_refused lists is net =
       let linked = linked_cell file (place_in home cell) in
       let bits = bits_of_nets linked (filter_map net_in before) in
       (λ j. lowest (broken (met.nets_met (net_ident net) j) E5 (original cell.name) (codes "net" ∷ (net.name.ident ∷ []))
-      ++ flat_map (λ ref. (taken_alike lists (original cell.name) (original net.name) old.taken bits met.bits_met ref (found_of lists ref) ∙ breaks_alike linked lists is (original net.name) bits ref) j) net.joined))
+      ++ flat_map (λ ref. (taken_alike lists (original cell.name) (original net.name) old.taken bits met.bits_met ref (found_of lists ref) ∙ refusals_alike linked lists is (original net.name) bits ref) j) net.joined))
 
 -- what a net breaks, by what was found of its parts
 pub net_found : (lists : ScopeLists) (cell : List ℕ) (nets : List (List ℕ)) (taken : List Node) (net : Net) (ident named : List ℕ) (joined : List PortRef) (ident_taken : Bool) (second first result : Option Refusal)
     → ident ≡ net_ident net → named ≡ original net.name → joined ≡ net.joined → ident_taken ≡ is_in ident nets → second ≡ lowest (broken ident_taken E5 cell (codes "net" ∷ (ident ∷ [])))
-    → first ≡ lowest (flat_map (ref_breaks lists cell named taken) joined) → result ≡ lower second first → result ≡ lowest (net_breaks lists cell (is_in (net_ident net) nets) taken net)
+    → first ≡ lowest (flat_map (ref_refusals_by lists cell named taken) joined) → result ≡ lower second first → result ≡ lowest (net_refusals_by lists cell (is_in (net_ident net) nets) taken net)
 net_found lists cell nets taken net ident named joined ident_taken second first result is_ident is_named is_joined known is_second is_first is_result =
     is_result
     ∙ ((λ j. lower (is_second j) (is_first j))
-    ∙ ((λ j. lower (lowest (broken ((known ∙ ap (λ s. is_in s nets) is_ident) j) E5 cell (codes "net" ∷ (is_ident j ∷ [])))) (lowest (flat_map (ref_breaks lists cell (is_named j) taken) (is_joined j))))
-    ∙ sym (lowest-append (broken (is_in (net_ident net) nets) E5 cell (codes "net" ∷ (net_ident net ∷ []))) (flat_map (ref_breaks lists cell (original net.name) taken) net.joined))))
+    ∙ ((λ j. lower (lowest (broken ((known ∙ ap (λ s. is_in s nets) is_ident) j) E5 cell (codes "net" ∷ (is_ident j ∷ [])))) (lowest (flat_map (ref_refusals_by lists cell (is_named j) taken) (is_joined j))))
+    ∙ sym (lowest-append (broken (is_in (net_ident net) nets) E5 cell (codes "net" ∷ (net_ident net ∷ []))) (flat_map (ref_refusals_by lists cell (original net.name) taken) net.joined))))
 
 -- one more part of the contents
 pub part_more : (items : List (Bor ContentsItem)) (i : ℕ) (x : Bor ContentsItem) → i < length items → x ≡ get_or items i x → take i (seen items) ++ x.now ∷ [] ≡ take (i + 1) (seen items)

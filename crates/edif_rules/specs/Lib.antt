@@ -1,4 +1,4 @@
-pub mod Breaks
+pub mod RefRefusals
 pub mod Idents
 pub mod Lists
 pub mod Scopes

@@ -14,7 +14,7 @@ use Rattle.edif_values.specs.declared.view.ContentsItem.{ContentsItem}
 use Rattle.edif_design.specs.CellRules.{bits_of_nets, inner_cell, link_refusals, same_node, view_refusals}
 use Rattle.edif_design.specs.Parts.{instance_in, net_in}
 use Rattle.edif_design.specs.References.{LinkedCell}
-use Rattle.edif_rules.specs.Breaks.{ref_breaks}
+use Rattle.edif_rules.specs.RefRefusals.{ref_refusals_by}
 use Rattle.edif_rules.specs.Idents.{instance_ident}
 use Rattle.edif_rules.specs.Scopes.{ScopeLists}
 use Rattle.edif_rules.specs.declared.walk.Met.{Met}
@@ -27,17 +27,17 @@ abbrev pub net_ident : Net → List ℕ
 net_ident net = net.name.ident
 
 -- E2 to E6 and E12 of an instance, by whether its identifier and its original name are taken
-abbrev pub instance_breaks : EdifFile → ℕ → List ℕ → Bool → Bool → Instance → List Refusal
-instance_breaks file home cell ident_taken name_taken instance =
+abbrev pub instance_refusals_by : EdifFile → ℕ → List ℕ → Bool → Bool → Instance → List Refusal
+instance_refusals_by file home cell ident_taken name_taken instance =
     broken ident_taken E5 cell (codes "instance" ∷ (instance.name.ident ∷ []))
     ++ link_refusals file home cell instance.library instance.cell
     ++ view_refusals cell instance.view (inner_cell file home instance)
     ++ broken name_taken E12 cell (codes "instance" ∷ (original instance.name ∷ []))
 
 -- E5 to E11 of a net, by whether its identifier is taken, and by the bits that are
-abbrev pub net_breaks : ScopeLists → List ℕ → Bool → List Node → Net → List Refusal
-net_breaks lists cell ident_taken taken net =
-    broken ident_taken E5 cell (codes "net" ∷ (net.name.ident ∷ [])) ++ flat_map (ref_breaks lists cell (original net.name) taken) net.joined
+abbrev pub net_refusals_by : ScopeLists → List ℕ → Bool → List Node → Net → List Refusal
+net_refusals_by lists cell ident_taken taken net =
+    broken ident_taken E5 cell (codes "net" ∷ (net.name.ident ∷ [])) ++ flat_map (ref_refusals_by lists cell (original net.name) taken) net.joined
 
 -- the sets hold the names of the instances and nets before, and the bits of the nets before
 pub record HasMet (linked : LinkedCell) (before : List ContentsItem) (met : Met) : Type 0 where

@@ -4,7 +4,7 @@ ghost use Rattle.std.specs.Option.{option_and_then, option_copied};
 ghost use Rattle.edif_lookup.specs.Refusals.{broken, lowest};
 ghost use Rattle.edif_design.specs.CellRules.{view_refusals};
 ghost use Rattle.edif_design.specs.References.{file_cells};
-ghost use Rattle.edif_rules.specs.Walks.{instance_breaks};
+ghost use Rattle.edif_rules.specs.Walks.{instance_refusals_by};
 
 use crate::references::{refused, unbroken};
 use edif_design::FileTables;
@@ -78,7 +78,7 @@ pub fn instance_refusal(
     ident_taken: bool,
     name_taken: bool,
 ) -> Result<Option<Refusal>, NoMemory>
-    ensures { IfOk result (λ found. found ≡ lowest (instance_breaks tables.now home cell.now ident_taken name_taken instance.now)) }
+    ensures { IfOk result (λ found. found ≡ lowest (instance_refusals_by tables.now home cell.now ident_taken name_taken instance.now)) }
 {
     let ident = second_refusal(
         alloc,

@@ -4,7 +4,7 @@ ghost use Rattle.std.specs.List.{filter_map, flat_map, list_any};
 ghost use Rattle.edif_lookup.specs.Refusals.{lowest};
 ghost use Rattle.net_hier.specs.declared.nodes.Node.{Node};
 ghost use Rattle.edif_design.specs.CellRules.{same_node};
-ghost use Rattle.edif_rules.specs.Breaks.{ref_breaks, ref_node};
+ghost use Rattle.edif_rules.specs.RefRefusals.{ref_refusals_by, ref_node};
 ghost use Rattle.edif_rules.specs.Scopes.{lists_of};
 ghost use Rattle.edif_rules.specs.Spots.{node_at};
 
@@ -17,7 +17,7 @@ use nl_base::{NoMemory, Refusal};
 use std::alloc::Global;
 
 /// Adds the bit, where there is one.
-fn add_spot(spots: &mut Vec<BitSpot>, spot: Option<BitSpot>) -> Result<(), NoMemory>
+fn push_spot(spots: &mut Vec<BitSpot>, spot: Option<BitSpot>) -> Result<(), NoMemory>
     ensures { OnOk result (map node_at spots.new.items ≡ map node_at spots.old.items ++ option_to_list (option_map node_at spot)) }
 {
     match spot {
@@ -30,7 +30,7 @@ fn add_spot(spots: &mut Vec<BitSpot>, spot: Option<BitSpot>) -> Result<(), NoMem
 }
 
 /// The refusal of a reference; adds the bit that it means to a list.
-fn judge(
+fn ref_refusal(
     alloc: Global,
     scope: &CellScope<'_, '_>,
     names: &NetNames<'_>,
@@ -38,17 +38,17 @@ fn judge(
     spots: &mut Vec<BitSpot>,
     reference: &PortRef,
 ) -> Result<Option<Refusal>, NoMemory>
-    ensures refusal { IfOk result (λ made. made ≡ lowest (ref_breaks (lists_of scope.now) names.now.cell.now names.now.net.now taken.now reference.now)) }
+    ensures refusal { IfOk result (λ made. made ≡ lowest (ref_refusals_by (lists_of scope.now) names.now.cell.now names.now.net.now taken.now reference.now)) }
     ensures spots { OnOk result (map node_at spots.new.items ≡ map node_at spots.old.items ++ option_to_list (ref_node (lists_of scope.now) reference.now)) }
 {
     let found = find_port(alloc, scope, reference)?;
-    add_spot(spots, spot_of(scope, found, member_of(reference)))?;
+    push_spot(spots, spot_of(scope, found, member_of(reference)))?;
     let made = found_refusal(alloc, scope, names, taken, reference, found)?;
     Ok(made)
 }
 
 /// The first refusal of what a net joins; adds the bits that it has to a list.
-fn judge_joined(
+fn refs_refusal(
     alloc: Global,
     scope: &CellScope<'_, '_>,
     names: &NetNames<'_>,
@@ -56,12 +56,12 @@ fn judge_joined(
     spots: &mut Vec<BitSpot>,
     joined: &[PortRef],
 ) -> Result<Option<Refusal>, NoMemory>
-    ensures refusal { IfOk result (λ found. found ≡ lowest (flat_map (ref_breaks (lists_of scope.now) names.now.cell.now names.now.net.now taken.now) joined.now)) }
+    ensures refusal { IfOk result (λ found. found ≡ lowest (flat_map (ref_refusals_by (lists_of scope.now) names.now.cell.now names.now.net.now taken.now) joined.now)) }
     ensures spots { OnOk result (map node_at spots.new.items ≡ map node_at spots.old.items ++ filter_map (ref_node (lists_of scope.now)) joined.now) }
 {
     let mut best = unbroken();
     for reference in joined {
-        let next = judge(alloc, scope, names, taken, spots, reference)?;
+        let next = ref_refusal(alloc, scope, names, taken, spots, reference)?;
         best = lower(best, next);
     }
     Ok(best)
@@ -85,11 +85,11 @@ pub fn meet_joined(
     taken: &mut TakenBits,
     joined: &[PortRef],
 ) -> Result<Option<Refusal>, NoMemory>
-    ensures refusal { IfOk result (λ found. found ≡ lowest (flat_map (ref_breaks (lists_of scope.now) names.now.cell.now names.now.net.now taken.old) joined.now)) }
+    ensures refusal { IfOk result (λ found. found ≡ lowest (flat_map (ref_refusals_by (lists_of scope.now) names.now.cell.now names.now.net.now taken.old) joined.now)) }
     ensures bits { OnOk result ((other : Node) → list_any (same_node other) taken.new ≡ list_any (same_node other) (taken.old ++ filter_map (ref_node (lists_of scope.now)) joined.now)) }
 {
     let mut spots = Vec::new(alloc);
-    let found = judge_joined(alloc, scope, names, taken, &mut spots, joined)?;
+    let found = refs_refusal(alloc, scope, names, taken, &mut spots, joined)?;
     add_spots(taken, spots.as_slice())?;
     Ok(found)
 }

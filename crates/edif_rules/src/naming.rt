@@ -6,7 +6,7 @@ use nl_base::{NoMemory, Seq, Text};
 use std::alloc::Global;
 
 /// Adds a name at the end.
-fn add_name(alloc: Global, names: &mut Seq<Text>, name: &[u8]) -> Result<(), NoMemory>
+fn push_name(alloc: Global, names: &mut Seq<Text>, name: &[u8]) -> Result<(), NoMemory>
     ensures { OnOk result (names.new ≡ names.old ++ name.now ∷ []) }
 {
     let text = Text::copy(alloc, name)?;
@@ -15,13 +15,13 @@ fn add_name(alloc: Global, names: &mut Seq<Text>, name: &[u8]) -> Result<(), NoM
 }
 
 /// Adds a name at the end, where there is one.
-fn add_some_name(alloc: Global, names: &mut Seq<Text>, name: Option<&[u8]>) -> Result<(), NoMemory>
+fn push_some_name(alloc: Global, names: &mut Seq<Text>, name: Option<&[u8]>) -> Result<(), NoMemory>
     ensures { OnOk result (names.new ≡ names.old ++ present name.entry) }
 {
     match name {
         None => Ok(()),
         Some(name) => {
-            add_name(alloc, names, name)?;
+            push_name(alloc, names, name)?;
             Ok(())
         }
     }
@@ -37,8 +37,8 @@ pub fn port_names(
     ensures { IfOk result (λ names. names ≡ net.now ∷ (present instance.entry ++ port.now ∷ [])) }
 {
     let mut names = Seq::empty(alloc);
-    add_name(alloc, &mut names, net)?;
-    add_some_name(alloc, &mut names, instance)?;
-    add_name(alloc, &mut names, port)?;
+    push_name(alloc, &mut names, net)?;
+    push_some_name(alloc, &mut names, instance)?;
+    push_name(alloc, &mut names, port)?;
     Ok(names)
 }

@@ -11,7 +11,7 @@ use nl_base::NoMemory;
 use std::alloc::Global;
 
 /// Adds the port that the item is, where it is one.
-fn add_port<'a>(ports: &mut Vec<&'a Port>, item: &'a InterfaceItem) -> Result<(), NoMemory>
+fn push_port<'a>(ports: &mut Vec<&'a Port>, item: &'a InterfaceItem) -> Result<(), NoMemory>
     ensures { OnOk result (seen ports.new.items ≡ seen ports.old.items ++ option_to_list (port_in item.now)) }
 {
     match item {
@@ -24,22 +24,22 @@ fn add_port<'a>(ports: &mut Vec<&'a Port>, item: &'a InterfaceItem) -> Result<()
 }
 
 /// Adds the ports of an interface.
-fn add_interface<'a>(ports: &mut Vec<&'a Port>, items: &'a [InterfaceItem]) -> Result<(), NoMemory>
+fn push_interface<'a>(ports: &mut Vec<&'a Port>, items: &'a [InterfaceItem]) -> Result<(), NoMemory>
     ensures { OnOk result (seen ports.new.items ≡ seen ports.old.items ++ filter_map port_in items.now) }
 {
     for item in items {
-        add_port(ports, item)?;
+        push_port(ports, item)?;
     }
     Ok(())
 }
 
 /// Adds the ports of the view that the item is, where it is one.
-fn add_view_ports<'a>(ports: &mut Vec<&'a Port>, item: &'a CellItem) -> Result<(), NoMemory>
+fn push_view_ports<'a>(ports: &mut Vec<&'a Port>, item: &'a CellItem) -> Result<(), NoMemory>
     ensures { OnOk result (seen ports.new.items ≡ seen ports.old.items ++ flat_map interface_ports (option_to_list (view_in item.now))) }
 {
     match item {
         CellItem::View(view) => {
-            add_interface(ports, view.interface.items())?;
+            push_interface(ports, view.interface.items())?;
             Ok(())
         }
         _ => Ok(()),
@@ -52,13 +52,13 @@ pub fn ports_of<'a>(alloc: Global, cell: &'a Cell) -> Result<Vec<&'a Port>, NoMe
 {
     let mut made = Vec::new(alloc);
     for item in cell.items.items() {
-        add_view_ports(&mut made, item)?;
+        push_view_ports(&mut made, item)?;
     }
     Ok(made)
 }
 
 /// Adds the items.
-fn add_items<'a>(
+fn push_items<'a>(
     list: &mut Vec<&'a ContentsItem>,
     items: &'a [ContentsItem],
 ) -> Result<(), NoMemory>
@@ -71,12 +71,12 @@ fn add_items<'a>(
 }
 
 /// Adds the contents that the item is, where it is some.
-fn add_contents<'a>(list: &mut Vec<&'a ContentsItem>, item: &'a ViewItem) -> Result<(), NoMemory>
+fn push_contents<'a>(list: &mut Vec<&'a ContentsItem>, item: &'a ViewItem) -> Result<(), NoMemory>
     ensures { OnOk result (seen list.new.items ≡ seen list.old.items ++ contents_in item.now) }
 {
     match item {
         ViewItem::Contents(items) => {
-            add_items(list, items.items())?;
+            push_items(list, items.items())?;
             Ok(())
         }
         _ => Ok(()),
@@ -84,17 +84,17 @@ fn add_contents<'a>(list: &mut Vec<&'a ContentsItem>, item: &'a ViewItem) -> Res
 }
 
 /// Adds the contents of a view.
-fn add_view_contents<'a>(list: &mut Vec<&'a ContentsItem>, view: &'a View) -> Result<(), NoMemory>
+fn push_view_contents<'a>(list: &mut Vec<&'a ContentsItem>, view: &'a View) -> Result<(), NoMemory>
     ensures { OnOk result (seen list.new.items ≡ seen list.old.items ++ contents view.now) }
 {
     for item in view.items.items() {
-        add_contents(list, item)?;
+        push_contents(list, item)?;
     }
     Ok(())
 }
 
 /// Adds the contents of the view that the item is, where it is one.
-fn add_cell_contents<'a>(
+fn push_cell_contents<'a>(
     list: &mut Vec<&'a ContentsItem>,
     item: &'a CellItem,
 ) -> Result<(), NoMemory>
@@ -102,7 +102,7 @@ fn add_cell_contents<'a>(
 {
     match item {
         CellItem::View(view) => {
-            add_view_contents(list, view)?;
+            push_view_contents(list, view)?;
             Ok(())
         }
         _ => Ok(()),
@@ -115,13 +115,13 @@ pub fn contents_of<'a>(alloc: Global, cell: &'a Cell) -> Result<Vec<&'a Contents
 {
     let mut made = Vec::new(alloc);
     for item in cell.items.items() {
-        add_cell_contents(&mut made, item)?;
+        push_cell_contents(&mut made, item)?;
     }
     Ok(made)
 }
 
 /// Adds the instance that the item is, where it is one.
-fn add_instance<'a>(
+fn push_instance<'a>(
     instances: &mut Vec<&'a Instance>,
     item: &'a ContentsItem,
 ) -> Result<(), NoMemory>
@@ -145,13 +145,13 @@ pub fn instances_in<'a>(
 {
     let mut made = Vec::new(alloc);
     for item in items {
-        add_instance(&mut made, item)?;
+        push_instance(&mut made, item)?;
     }
     Ok(made)
 }
 
 /// Adds the net that the item is, where it is one.
-fn add_net<'a>(nets: &mut Vec<&'a Net>, item: &'a ContentsItem) -> Result<(), NoMemory>
+fn push_net<'a>(nets: &mut Vec<&'a Net>, item: &'a ContentsItem) -> Result<(), NoMemory>
     ensures { OnOk result (seen nets.new.items ≡ seen nets.old.items ++ option_to_list (net_in item.now)) }
 {
     match item {
@@ -169,7 +169,7 @@ pub fn nets_in<'a>(alloc: Global, items: &[&'a ContentsItem]) -> Result<Vec<&'a 
 {
     let mut made = Vec::new(alloc);
     for item in items {
-        add_net(&mut made, item)?;
+        push_net(&mut made, item)?;
     }
     Ok(made)
 }

@@ -1,12 +1,12 @@
 // What the ports of a cell break.
 ghost use Rattle.std.specs.Prelude.{◌≡◌, IfOk};
 ghost use Rattle.edif_lookup.specs.Refusals.{in_order, lowest};
-ghost use Rattle.edif_design.specs.CellRules.{is_bad_size, port_breaks, port_ident, port_name, port_refusals, size_of};
+ghost use Rattle.edif_design.specs.CellRules.{is_bad_size, port_refusals_by, port_ident, port_name, port_refusals, size_of};
 ghost use Rattle.edif_rules.specs.Lists.{seen};
 
 use crate::port_names::{port_ident, port_name, port_size};
 use crate::references::{refused, unbroken};
-use edif_lookup::{Names, lower, two_names};
+use edif_lookup::{NameSet, lower, two_names};
 use edif_values::Port;
 use nl_base::{NoMemory, Refusal, Rule};
 use std::alloc::Global;
@@ -30,7 +30,7 @@ fn port_refusal(
     ident_taken: bool,
     name_taken: bool,
 ) -> Result<Option<Refusal>, NoMemory>
-    ensures { IfOk result (λ found. found ≡ lowest (port_breaks cell.now ident_taken name_taken (port_ident port.now) (port_name port.now) (size_of port.now.name))) }
+    ensures { IfOk result (λ found. found ≡ lowest (port_refusals_by cell.now ident_taken name_taken (port_ident port.now) (port_name port.now) (size_of port.now.name))) }
 {
     if ident_taken {
         let told = two_names(alloc, b"port", port_ident(port))?;
@@ -59,8 +59,8 @@ pub fn ports_refusal(
     ensures { IfOk result (λ found. found ≡ lowest (in_order (port_refusals cell.now) (seen ports.now))) }
 {
     let mut best = unbroken();
-    let mut idents = Names::new(alloc);
-    let mut names = Names::new(alloc);
+    let mut idents = NameSet::new(alloc);
+    let mut names = NameSet::new(alloc);
     for port in ports {
         let ident_taken = idents.note(port_ident(port))?;
         let name_taken = names.note(port_name(port))?;

@@ -2,7 +2,7 @@
 ghost use Rattle.std.specs.Prelude.{◌≡◌, ◌∷◌, ◌++◌, true, [], None, IfOk, OnOk};
 ghost use Rattle.edif_lookup.specs.Refusals.{broken, if_some, lowest};
 ghost use Rattle.edif_design.specs.CellRules.{bit_of, index_names, is_wide, member_refusals, port_name, size_of};
-ghost use Rattle.edif_rules.specs.Breaks.{bit_breaks, found_breaks, names_of, port_breaks_at, taken_breaks};
+ghost use Rattle.edif_rules.specs.RefRefusals.{bit_refusals_by, found_refusals, names_of, port_refusals_at, taken_refusals};
 ghost use Rattle.edif_rules.specs.Scopes.{lists_of, port_at};
 ghost use Rattle.edif_rules.specs.Spots.{node_of_bit};
 
@@ -154,7 +154,7 @@ fn no_bit(
 }
 
 /// Adds the index of the bit, where its port has a range.
-fn add_index(
+fn push_index(
     alloc: Global,
     told: &mut Seq<Text>,
     indexes: Option<Indexes>,
@@ -199,14 +199,14 @@ fn taken_bit(
     taken: &TakenBits,
     spot: BitSpot,
 ) -> Result<Option<Refusal>, NoMemory>
-    ensures { IfOk result (λ found. found ≡ lowest (taken_breaks names.now.cell.now (names_of (lists_of scope.now) names.now.net.now spot.instance (port_name meant.now)) meant.now taken.now (node_of_bit spot.instance spot.port) spot.bit)) }
+    ensures { IfOk result (λ found. found ≡ lowest (taken_refusals names.now.cell.now (names_of (lists_of scope.now) names.now.net.now spot.instance (port_name meant.now)) meant.now taken.now (node_of_bit spot.instance spot.port) spot.bit)) }
 {
     if !taken.has(spot) {
         return Ok(unbroken());
     }
     let mut told = told_names(alloc, scope, names, spot.instance, meant)?;
     let (_, indexes) = name_and_indexes(meant);
-    add_index(alloc, &mut told, indexes, spot.bit)?;
+    push_index(alloc, &mut told, indexes, spot.bit)?;
     let found = refused(alloc, Rule::E11, names.cell, told)?;
     Ok(found)
 }
@@ -222,7 +222,7 @@ fn bit_refusal(
     port: u32,
     member: Option<i64>,
 ) -> Result<Option<Refusal>, NoMemory>
-    ensures { IfOk result (λ found. found ≡ lowest (bit_breaks names.now.cell.now (names_of (lists_of scope.now) names.now.net.now instance (port_name meant.now)) meant.now taken.now (node_of_bit instance port) member)) }
+    ensures { IfOk result (λ found. found ≡ lowest (bit_refusals_by names.now.cell.now (names_of (lists_of scope.now) names.now.net.now instance (port_name meant.now)) meant.now taken.now (node_of_bit instance port) member)) }
 {
     match bit_of(port_size(meant), member) {
         None => {
@@ -252,7 +252,7 @@ fn port_refusal(
     port: u32,
     member: Option<i64>,
 ) -> Result<Option<Refusal>, NoMemory>
-    ensures { IfOk result (λ found. found ≡ lowest (port_breaks_at (lists_of scope.now) names.now.cell.now names.now.net.now taken.now instance port member (port_at (lists_of scope.now) instance port))) }
+    ensures { IfOk result (λ found. found ≡ lowest (port_refusals_at (lists_of scope.now) names.now.cell.now names.now.net.now taken.now instance port member (port_at (lists_of scope.now) instance port))) }
 {
     match port_at(scope, instance, port) {
         None => Ok(unbroken()),
@@ -264,7 +264,7 @@ fn port_refusal(
 }
 
 /// The refusal of a reference that leads here.
-#[tactic(auto, unfolding(crate::specs::Breaks::found_breaks))]
+#[tactic(auto, unfolding(crate::specs::RefRefusals::found_refusals))]
 pub(crate) fn found_refusal(
     alloc: Global,
     scope: &CellScope<'_, '_>,
@@ -273,7 +273,7 @@ pub(crate) fn found_refusal(
     reference: &PortRef,
     found: Target,
 ) -> Result<Option<Refusal>, NoMemory>
-    ensures { IfOk result (λ made. made ≡ lowest (found_breaks (lists_of scope.now) names.now.cell.now names.now.net.now taken.now reference.now found)) }
+    ensures { IfOk result (λ made. made ≡ lowest (found_refusals (lists_of scope.now) names.now.cell.now names.now.net.now taken.now reference.now found)) }
 {
     match found {
         Target::Port(instance, port) => {

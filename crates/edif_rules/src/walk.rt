@@ -7,11 +7,11 @@ ghost use Rattle.edif_values.specs.declared.view.ContentsItem.{ContentsItem};
 ghost use Rattle.edif_design.specs.CellRules.{cell_refusals, contents_refusals};
 ghost use Rattle.edif_design.specs.Parts.{ports};
 ghost use Rattle.edif_design.specs.References.{file_cells, linked_cell, numbers_meant, place_in};
-ghost use Rattle.edif_rules.specs.Breaks.{ref_node};
+ghost use Rattle.edif_rules.specs.RefRefusals.{ref_node};
 ghost use Rattle.edif_rules.specs.Lists.{seen};
 ghost use Rattle.edif_rules.specs.Idents.{instance_ident};
 ghost use Rattle.edif_rules.specs.Scopes.{IsScope, lists_of};
-ghost use Rattle.edif_rules.specs.Walks.{AddsBits, AddsName, HasMet, instance_breaks, instance_original, net_breaks, net_ident};
+ghost use Rattle.edif_rules.specs.Walks.{AddsBits, AddsName, HasMet, instance_refusals_by, instance_original, net_refusals_by, net_ident};
 
 use crate::bits::TakenBits;
 use crate::found::CellScope;
@@ -22,7 +22,7 @@ use crate::ports::ports_refusal;
 use crate::references::{NetNames, unbroken};
 use crate::tables::{InstanceTable, PortTable};
 use edif_design::FileTables;
-use edif_lookup::{Names, lower};
+use edif_lookup::{NameSet, lower};
 use edif_values::{Cell, ContentsItem, Instance, Net, original};
 use nl_base::{NoMemory, Refusal, Rule};
 use std::alloc::Global;
@@ -31,9 +31,9 @@ use std::alloc::Global;
 /// nets have.
 #[derive(Drop)]
 struct Met<'a> {
-    instances: Names<'a>,
-    originals: Names<'a>,
-    nets: Names<'a>,
+    instances: NameSet<'a>,
+    originals: NameSet<'a>,
+    nets: NameSet<'a>,
     taken: TakenBits,
 }
 
@@ -46,7 +46,7 @@ fn meet_instance<'a>(
     met: &mut Met<'a>,
     instance: &'a Instance,
 ) -> Result<Option<Refusal>, NoMemory>
-    ensures refusal { IfOk result (λ found. found ≡ lowest (instance_breaks tables.now home cell.now (is_in (instance_ident instance.now) met.old.instances) (is_in (instance_original instance.now) met.old.originals) instance.now)) }
+    ensures refusal { IfOk result (λ found. found ≡ lowest (instance_refusals_by tables.now home cell.now (is_in (instance_ident instance.now) met.old.instances) (is_in (instance_original instance.now) met.old.originals) instance.now)) }
     ensures ident { OnOk result (AddsName met.old.instances (instance_ident instance.now) met.new.instances) }
     ensures original { OnOk result (AddsName met.old.originals (instance_original instance.now) met.new.originals) }
     ensures nets { OnOk result (met.new.nets ≡ met.old.nets) }
@@ -66,7 +66,7 @@ fn meet_net<'a>(
     met: &mut Met<'a>,
     net: &'a Net,
 ) -> Result<Option<Refusal>, NoMemory>
-    ensures refusal { IfOk result (λ found. found ≡ lowest (net_breaks (lists_of scope.now) cell.now (is_in (net_ident net.now) met.old.nets) met.old.taken net.now)) }
+    ensures refusal { IfOk result (λ found. found ≡ lowest (net_refusals_by (lists_of scope.now) cell.now (is_in (net_ident net.now) met.old.nets) met.old.taken net.now)) }
     ensures ident { OnOk result (AddsName met.old.nets (net_ident net.now) met.new.nets) }
     ensures bits { OnOk result (AddsBits met.old.taken (filter_map (ref_node (lists_of scope.now)) net.now.joined) met.new.taken) }
     ensures instances { OnOk result (met.new.instances ≡ met.old.instances) }
@@ -125,9 +125,9 @@ fn contents_refusal(
 {
     let mut best = unbroken();
     let mut met = Met {
-        instances: Names::new(alloc),
-        originals: Names::new(alloc),
-        nets: Names::new(alloc),
+        instances: NameSet::new(alloc),
+        originals: NameSet::new(alloc),
+        nets: NameSet::new(alloc),
         taken: TakenBits::new(alloc),
     };
     for item in items {

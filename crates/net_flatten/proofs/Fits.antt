@@ -27,7 +27,7 @@ use Rattle.net_flatten.proofs.Sums.{once_filter}
 use Rattle.net_flatten_cells.proofs.FlatLaws.{inner_leaf}
 use Rattle.net_flatten_cells.proofs.OrderLaws.{StandOnce, order_all, order_once}
 use Rattle.net_flatten_refusals.specs.Named.{HaveOwnJoinedNames}
-use Rattle.net_flatten_rules.specs.FlatDesign.{cell_at, cell_or_none, face, flat_cells, flat_top, inner, join_at, joins_from, leaf_cells, leaf_instance, no_cell, node_of, numbered_net, place_in, stands_at, wired}
+use Rattle.net_flatten_rules.specs.FlatDesign.{cell_at, cell_or_none, stub, flat_cells, flat_top, inner, join_at, joins_from, leaf_cells, leaf_instance, no_cell, node_of, numbered_net, place_in, stands_at, wired}
 use Rattle.net_flatten_same.proofs.Lists.{mapped_at}
 use Rattle.net_graph.proofs.ListLaws.{element_there}
 use Rattle.net_graph.proofs.OrderLaws.{StandsIn, contained, front_or_last, get_front, get_last}
@@ -94,8 +94,8 @@ module _ (names : ConstantNames) (design : Design) (hier : IsHier design) (few :
   abbrev pub numbers : List ℕ
   numbers = leaf_cells design.order flat.spots leaves
 
-  abbrev pub the_face : ℕ → HCell
-  the_face number = face (cell_or_none design.cells number)
+  abbrev pub the_stub : ℕ → HCell
+  the_stub number = stub (cell_or_none design.cells number)
 
   abbrev pub the_leaf : ℕ → HInst
   the_leaf leaf = leaf_instance design.cells flat.spots paths numbers leaf
@@ -108,27 +108,27 @@ module _ (names : ConstantNames) (design : Design) (hier : IsHier design) (few :
 
   -- ---- which cells there are
 
-  faces_long : length (map the_face numbers) ≡ length numbers
-  faces_long = length-map numbers the_face
+  stubs_long : length (map the_stub numbers) ≡ length numbers
+  stubs_long = length-map numbers the_stub
 
   pub long : length cells ≡ length numbers + 1
-  long = let a = length-append (map the_face numbers) (the_top ∷ []) in let l = faces_long in omega (arith, a, l)
+  long = let a = length-append (map the_stub numbers) (the_top ∷ []) in let l = stubs_long in omega (arith, a, l)
 
   pub top_there : IsCell cells (length numbers) the_top
-  top_there = subst (λ n. slice_get cells n ≡ Some the_top) faces_long (get_last (map the_face numbers) the_top)
+  top_there = subst (λ n. slice_get cells n ≡ Some the_top) stubs_long (get_last (map the_stub numbers) the_top)
 
-  pub face_there : (place number : ℕ) → slice_get numbers place ≡ Some number → IsCell cells place (the_face number)
-  face_there place number e = get_front (map the_face numbers) (the_top ∷ []) place (the_face number) (map_there the_face numbers place number e)
+  pub stub_there : (place number : ℕ) → slice_get numbers place ≡ Some number → IsCell cells place (the_stub number)
+  stub_there place number e = get_front (map the_stub numbers) (the_top ∷ []) place (the_stub number) (map_there the_stub numbers place number e)
 
-  pub record IsFace (place : ℕ) (cell : HCell) : Type 0 where
+  pub record IsStub (place : ℕ) (cell : HCell) : Type 0 where
     pub number : ℕ
     pub is_there : slice_get numbers place ≡ Some number
-    pub is : the_face number ≡ cell
+    pub is : the_stub number ≡ cell
 
-  pub face_or_top : (place : ℕ) (cell : HCell) → IsCell cells place cell → IsFace place cell ⊎ ((place ≡ length numbers) × (the_top ≡ cell))
-  face_or_top place cell e = elim (front_or_last (map the_face numbers) the_top place cell e) as (λ _. IsFace place cell ⊎ ((place ≡ length numbers) × (the_top ≡ cell))) [
-    | inl f ↦ let (number, there, is) = mapped_at the_face numbers place cell f in inl (record { number = number; is_there = there; is = is })
-    | inr f ↦ inr (f.0 ∙ faces_long, f.1)
+  pub stub_or_top : (place : ℕ) (cell : HCell) → IsCell cells place cell → IsStub place cell ⊎ ((place ≡ length numbers) × (the_top ≡ cell))
+  stub_or_top place cell e = elim (front_or_last (map the_stub numbers) the_top place cell e) as (λ _. IsStub place cell ⊎ ((place ≡ length numbers) × (the_top ≡ cell))) [
+    | inl f ↦ let (number, there, is) = mapped_at the_stub numbers place cell f in inl (record { number = number; is_there = there; is = is })
+    | inr f ↦ inr (f.0 ∙ stubs_long, f.1)
   ]
 
   -- ---- the numbers of the cells, and the leaves
@@ -177,7 +177,7 @@ module _ (names : ConstantNames) (design : Design) (hier : IsHier design) (few :
   top_ports : ports_at design.cells flat.spots 0 ≡ the_top.ports
   top_ports = ports_read design.cells flat.spots 0 (cell_or_none design.cells design.top) (record { spot = top_spot design.top; is_spot = facts.first; is_cell = top_cell })
 
-  leaf_ports : (leaf : ℕ) → Contains leaves leaf → ports_at design.cells flat.spots leaf ≡ (the_face (cell_at flat.spots leaf)).ports
+  leaf_ports : (leaf : ℕ) → Contains leaves leaf → ports_at design.cells flat.spots leaf ≡ (the_stub (cell_at flat.spots leaf)).ports
   leaf_ports leaf c =
       let h : IsLeafSpot names design.cells flat.spots leaf = leaf_spot leaf c in
       ports_read design.cells flat.spots leaf (cell_or_none design.cells (cell_at flat.spots leaf)) (record {
@@ -190,8 +190,8 @@ module _ (names : ConstantNames) (design : Design) (hier : IsHier design) (few :
   pin_there leaf c i port bit there lt = record {
     the_instance = the_leaf leaf;
     is_there = map_there the_leaf leaves (place_in leaves leaf) leaf (place_there leaves leaf c);
-    below = the_face (cell_at flat.spots leaf);
-    is_below = face_there (place_in numbers (cell_at flat.spots leaf)) (cell_at flat.spots leaf) (place_there numbers (cell_at flat.spots leaf) (leaf_number leaf c));
+    below = the_stub (cell_at flat.spots leaf);
+    is_below = stub_there (place_in numbers (cell_at flat.spots leaf)) (cell_at flat.spots leaf) (place_there numbers (cell_at flat.spots leaf) (leaf_number leaf c));
     is_bit = record { the_port = port; is_there = subst (λ ps. slice_get ps i ≡ Some port) (leaf_ports leaf c) there; within = lt };
   }
 
@@ -237,8 +237,8 @@ module _ (names : ConstantNames) (design : Design) (hier : IsHier design) (few :
 
   -- ---- each cell is good
 
-  face_good : (number : ℕ) → Contains numbers number → IsGoodCell cells (the_face number)
-  face_good number c =
+  stub_good : (number : ℕ) → Contains numbers number → IsGoodCell cells (the_stub number)
+  stub_good number c =
       let good : IsGoodCell design.cells (cell_or_none design.cells number) = hier.valid.good_cells number (cell_or_none design.cells number) (number_cell number c) in
       record {
         instances_in_range = λ place item e. absurd (cc);
@@ -272,15 +272,15 @@ module _ (names : ConstantNames) (design : Design) (hier : IsHier design) (few :
         }
 
     pub good : (place : ℕ) (cell : HCell) → IsCell cells place cell → IsGoodCell cells cell
-    good place cell e = elim (face_or_top place cell e) as (λ _. IsGoodCell cells cell) [
-      | inl f ↦ subst (IsGoodCell cells) f.is (face_good f.number (contains_there numbers place f.number f.is_there))
+    good place cell e = elim (stub_or_top place cell e) as (λ _. IsGoodCell cells cell) [
+      | inl f ↦ subst (IsGoodCell cells) f.is (stub_good f.number (contains_there numbers place f.number f.is_there))
       | inr t ↦ subst (IsGoodCell cells) t.1 top_good
     ]
 
   -- ---- reach
 
-  face_above : (place : ℕ) → place < length numbers → IsAbove (cells_below cells) (length numbers) place
-  face_above place lt =
+  stub_above : (place : ℕ) → place < length numbers → IsAbove (cells_below cells) (length numbers) place
+  stub_above place lt =
       let (number, there) = element_there numbers place lt in
       let (leaf, member, same) = number_leaf number (contains_there numbers place number there) in
       let s : StandsIn leaves leaf = contained leaves leaf member in
@@ -294,7 +294,7 @@ module _ (names : ConstantNames) (design : Design) (hier : IsHier design) (few :
 
   pub all_reached : (place : ℕ) → place < length cells → IsReached (cells_below cells) (length numbers) place
   all_reached place lt = elim (last_or_less place (length numbers) (let l = long in omega (arith, lt, l))) as (λ _. IsReached (cells_below cells) (length numbers) place) [
-    | inl less ↦ linked_by (face_above place less)
+    | inl less ↦ linked_by (stub_above place less)
     | inr e ↦ subst (IsReached (cells_below cells) (length numbers)) (sym e) (linked_itself (IsAbove (cells_below cells)) (length numbers))
   ]
 
@@ -302,7 +302,7 @@ module _ (names : ConstantNames) (design : Design) (hier : IsHier design) (few :
   only_top_above outer inner above =
       let (cell, is_cell, are_numbers) = mapped_at below_of cells outer above.numbers above.are_below in
       let there : slice_get (below_of cell) above.place ≡ Some inner = subst (λ ns. slice_get ns above.place ≡ Some inner) (sym are_numbers) above.is_there in
-      elim (face_or_top outer cell is_cell) as (λ _. (outer ≡ length numbers) × (inner < length numbers)) [
+      elim (stub_or_top outer cell is_cell) as (λ _. (outer ≡ length numbers) × (inner < length numbers)) [
         | inl f ↦ absurd (nothing_below (subst (λ (c : HCell). slice_get (below_of c) above.place ≡ Some inner) (sym f.is) there))
         | inr t ↦
             let (instance, is_instance, is_inner) = mapped_at (λ (i : HInst). i.cell) the_top.instances above.place inner (subst (λ (c : HCell). slice_get (below_of c) above.place ≡ Some inner) (sym t.1) there) in

@@ -19,7 +19,7 @@ use Rattle.flat_numbers.proofs.Linking.{contains_there}
 use Rattle.flat_numbers.proofs.SpotLaws.{spot_facts}
 use Rattle.flat_numbers.specs.Spots.{top_spot}
 use Rattle.flat_numbers.specs.declared.spots.Spot.{Spot}
-use Rattle.net_flatten.proofs.Fits.{cells, leaves, numbers, number_leaf, numbers_once, leaf_spot, the_face, the_top}
+use Rattle.net_flatten.proofs.Fits.{cells, leaves, numbers, number_leaf, numbers_once, leaf_spot, the_stub, the_top}
 use Rattle.net_flatten.proofs.Sums.{once_filter, sum_at_most, sum_filtered, sum_mapped, sum_within, valued_few}
 use Rattle.net_flatten_rules.proofs.MarkLaws.{inner_within}
 use Rattle.net_flatten_cells.proofs.NetLaws.{groups_few}
@@ -37,10 +37,10 @@ use Rattle.net_hier.specs.declared.cells.HPort.{HPort}
 
 -- ---- bits and weights
 
-face_light : (cells : List HCell) (number : ℕ) → port_bits (cell_or_none cells number) ≤ bits_of (slice_get cells number)
-face_light [] number = omega arith
-face_light (cell ∷ cells) zero = omega arith
-face_light (cell ∷ cells) (suc number) = face_light cells number
+stub_light : (cells : List HCell) (number : ℕ) → port_bits (cell_or_none cells number) ≤ bits_of (slice_get cells number)
+stub_light [] number = omega arith
+stub_light (cell ∷ cells) zero = omega arith
+stub_light (cell ∷ cells) (suc number) = stub_light cells number
 
 pins_light : (cells : List HCell) (spots : List Spot) (leaf : ℕ) → sum_by (λ (port : HPort). width_of port.range) (ports_at cells spots leaf) ≤ weight cells (cell_at spots leaf)
 pins_light cells spots leaf = of_spot (slice_get spots leaf)
@@ -109,13 +109,13 @@ module _ (names : ConstantNames) (design : Design) (hier : IsHier design) (few :
   pub numbers_short : length ns ≤ 2000000
   numbers_short = let l = numbers_light in let o = weighs_one design.cells ns in omega (arith, l, o)
 
-  face_units : (number : ℕ) → cell_units (the_face names design hier few flat are paths number) ≤ weigh number
-  face_units number = let l = face_light design.cells number in omega (arith, l)
+  stub_units : (number : ℕ) → cell_units (the_stub names design hier few flat are paths number) ≤ weigh number
+  stub_units number = let l = stub_light design.cells number in omega (arith, l)
 
-  faces_light : sum_by cell_units (map (the_face names design hier few flat are paths) ns) ≤ 2000000
-  faces_light =
-      let m = sum_mapped cell_units (the_face names design hier few flat are paths) ns in
-      let a = sum_at_most (λ number. cell_units (the_face names design hier few flat are paths number)) weigh ns face_units in
+  stubs_light : sum_by cell_units (map (the_stub names design hier few flat are paths) ns) ≤ 2000000
+  stubs_light =
+      let m = sum_mapped cell_units (the_stub names design hier few flat are paths) ns in
+      let a = sum_at_most (λ number. cell_units (the_stub names design hier few flat are paths number)) weigh ns stub_units in
       let l = numbers_light in
       omega (arith, m, a, l)
 
@@ -124,7 +124,7 @@ module _ (names : ConstantNames) (design : Design) (hier : IsHier design) (few :
       let s = spots_light in
       let there = map_there (λ (s : Spot). s.cell) flat.spots 0 (top_spot design.top) (spot_facts design.cells design.top flat.spots are.are_spots).first in
       let p = part_of_sum weigh (map (λ (s : Spot). s.cell) flat.spots) 0 design.top there in
-      let l = face_light design.cells design.top in
+      let l = stub_light design.cells design.top in
       omega (arith, s, p, l)
 
   -- the pins of the leaves
@@ -208,9 +208,9 @@ module _ (names : ConstantNames) (design : Design) (hier : IsHier design) (few :
 
   pub units_few : units (cells names design hier few flat are paths) ≤ 33554432
   units_few =
-      let a = sum_by-append cell_units (map (the_face names design hier few flat are paths) ns) (tc ∷ []) in
+      let a = sum_by-append cell_units (map (the_stub names design hier few flat are paths) ns) (tc ∷ []) in
       let c = sum_by-cons cell_units tc [] in
-      let f = faces_light in
+      let f = stubs_light in
       let t = top_light in
       let n = nets_few in
       let j = joins_few in

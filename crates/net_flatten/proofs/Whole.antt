@@ -8,7 +8,7 @@ use Rattle.flat_classes.specs.Terminals.{AreFlatClasses, FlatValue}
 use Rattle.flat_classes.specs.declared.flat.FlatFault.{FlatFault}
 use Rattle.flat_classes.specs.declared.flat.FlatFault.TheVariants as faults
 use Rattle.flat_classes.specs.Ways.{ArePaths}
-use Rattle.net_flatten.proofs.Fits.{all_reached, face_or_top, good, leaves, long, numbers, the_leaf}
+use Rattle.net_flatten.proofs.Fits.{all_reached, stub_or_top, good, leaves, long, numbers, the_leaf}
 use Rattle.net_flatten.proofs.UnitLaws.{numbers_short}
 use Rattle.net_flatten.specs.Flattening.{IsFlattenError, IsFlattening, flatten_fault}
 use Rattle.net_flatten.specs.declared.flattening.FlattenError.{FlattenError}
@@ -40,7 +40,7 @@ module _ (names : ConstantNames) (design : Design) (hier : IsHier design) (few :
   top_is = let l = is_long in omega (arith, l)
 
   few_in : (place : ℕ) (cell : HCell) → slice_get ks place ≡ Some cell → length cell.instances ≤ count_limit
-  few_in place cell e = elim (face_or_top names design hier few flat are paths place cell e) as (λ _. length cell.instances ≤ count_limit) [
+  few_in place cell e = elim (stub_or_top names design hier few flat are paths place cell e) as (λ _. length cell.instances ≤ count_limit) [
     | inl f ↦ subst (λ (c : HCell). length c.instances ≤ count_limit) f.is (omega arith)
     | inr t ↦
         let f = inner_few names design flat are hier few in

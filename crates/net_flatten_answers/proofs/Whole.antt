@@ -7,7 +7,7 @@ use Rattle.net_flatten_answers.proofs.Classes.{HasClasses, classes_there}
 use Rattle.net_flatten_answers.proofs.Orders.{postorder_there}
 use Rattle.net_flatten_answers.specs.Answered.{AreOfDesign, IsAnswered, flattened, refused}
 use Rattle.net_flatten_one.specs.Parts.{HasParts}
-use Rattle.net_flatten_rules.specs.FlatDesign.{cell_or_none, face, flat_cells, flat_top, inner, leaf_cells}
+use Rattle.net_flatten_rules.specs.FlatDesign.{cell_or_none, stub, flat_cells, flat_top, inner, leaf_cells}
 use Rattle.net_flatten_rules.specs.Rules.{first_of, refusals}
 use Rattle.net_flatten_rules.specs.declared.refusal.Broken.{Broken}
 use Rattle.net_hier.proofs.Building.{good_in_range}
@@ -28,15 +28,15 @@ design_there cells top props are =
     )
 
 module _ (names : ConstantNames) (design : Design) (few : IsFewFlat design) (has : HasClasses names design) where
-  abbrev faces : List HCell
-  faces = map (λ number. face (cell_or_none design.cells number)) (leaf_cells design.order has.flat.spots (inner has.flat.leaves))
+  abbrev stubs : List HCell
+  stubs = map (λ number. stub (cell_or_none design.cells number)) (leaf_cells design.order has.flat.spots (inner has.flat.leaves))
 
   -- the flattened design, whose order nothing asks for
   abbrev flat_design : Design
-  flat_design = record { cells = flat_cells design has.paths has.flat; top = length faces; props = design.props; order = [] }
+  flat_design = record { cells = flat_cells design has.paths has.flat; top = length stubs; props = design.props; order = [] }
 
-  last : suc (length faces) ≡ length (flat_cells design has.paths has.flat)
-  last = let a = length-append faces (flat_top design has.paths has.flat ∷ []) in omega (arith, a)
+  last : suc (length stubs) ≡ length (flat_cells design has.paths has.flat)
+  last = let a = length-append stubs (flat_top design has.paths has.flat ∷ []) in omega (arith, a)
 
   answered_by : (found : Option Broken) → first_of (refusals design has.paths has.flat) ≡ found → IsAnswered names design
   answered_by None e = flattened flat_design (record {

@@ -8,10 +8,10 @@ ghost use Rattle.net_hier.specs.Constants.{ConstantNames};
 ghost use Rattle.net_hier.specs.Paths.{Path};
 
 use crate::copies::{copy_of, ports_copy, props_copy};
-use crate::faces::faces_of;
 use crate::instances::leaf_instances;
 use crate::nets::{flat_joins, nets_of};
 use crate::places::Places;
+use crate::stubs::stubs_of;
 use flat_classes::Flat;
 use net_flatten_rules::{inner_leaves, leaf_cells};
 use net_hier::{HCell, Hier};
@@ -62,7 +62,7 @@ pub fn flat_cells(alloc: Global, hier: &Hier, flat: &Flat) -> Result<Seq<HCell>,
 {
     let leaves = inner_leaves(alloc, flat.leaves())?;
     let numbers = leaf_cells(alloc, hier, flat.spots(), leaves.as_slice())?;
-    let mut cells = faces_of(alloc, hier.cells(), numbers.as_slice())?;
+    let mut cells = stubs_of(alloc, hier.cells(), numbers.as_slice())?;
     let places = Places::of(alloc, hier.cells().len(), numbers)?;
     let leaves = Places::of(alloc, flat.spots().len(), leaves)?;
     cells.push(flat_top(alloc, hier, flat, &places, &leaves)?)?;

@@ -11,9 +11,9 @@
 
 pub mod cells;
 pub mod copies;
-pub mod faces;
 pub mod instances;
 pub mod nets;
 pub mod places;
+pub mod stubs;
 
 pub use cells::flat_cells;

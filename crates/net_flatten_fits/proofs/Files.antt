@@ -32,7 +32,7 @@ use Rattle.vlog_design_laws.proofs.Lists.{all_such}
 use Rattle.vlog_design_laws.proofs.ShortNames.{short_names}
 use Rattle.vlog_design_laws.proofs.SoundValues.{sound}
 use Rattle.vlog_design_laws.specs.Designs.{IsVlogDesign}
-use Rattle.vlog_kept.proofs.Modules.{file_is_value}
+use Rattle.vlog_bounds.proofs.Modules.{file_is_value}
 use Rattle.vlog_modules.specs.Text.{VlogReads}
 use Rattle.vlog_values.specs.Values.{IsVlogValue}
 use Rattle.vlog_values.specs.declared.module.VlogFile.{VlogFile}

@@ -19,7 +19,7 @@ use Rattle.net_flatten_fits.proofs.Lists.{all_made, all_with, at_or, item_at}
 use Rattle.net_flatten_fits.specs.Named.{HaveByteNames, IsCellByBytes, IsInstanceByBytes, IsNamedByBytes, IsPortByBytes}
 use Rattle.net_flatten_refusals.specs.Named as kept
 use Rattle.net_flatten_refusals.proofs.ShortLaws.{short_design, short_names}
-use Rattle.net_flatten_rules.specs.FlatDesign.{cell_or_none, face, flat_cells, flat_top, inner, leaf_cells, leaf_instance, no_cell, numbered_net, props_of, wired}
+use Rattle.net_flatten_rules.specs.FlatDesign.{cell_or_none, stub, flat_cells, flat_top, inner, leaf_cells, leaf_instance, no_cell, numbered_net, props_of, wired}
 use Rattle.net_flatten_rules.specs.Joined.{instance_at, joined, name_at, names_before}
 use Rattle.net_hier.specs.Constants.{ConstantNames}
 use Rattle.net_hier.specs.Design.{Design}
@@ -97,8 +97,8 @@ module _ (names : ConstantNames) (design : Design) (named : IsNamedByBytes desig
   cell_bytes : (number : ℕ) → IsCellByBytes (cell_or_none design.cells number)
   cell_bytes number = at_or IsCellByBytes design.cells number no_cell (record { name = tt; props = tt; ports = tt; instances = tt }) named.cells
 
-  face_ready : (number : ℕ) → IsReady (face (cell_or_none design.cells number))
-  face_ready number = let h = cell_bytes number in record { bytes = record { name = h.name; props = h.props; ports = h.ports; instances = tt }; nets = tt }
+  stub_ready : (number : ℕ) → IsReady (stub (cell_or_none design.cells number))
+  stub_ready number = let h = cell_bytes number in record { bytes = record { name = h.name; props = h.props; ports = h.ports; instances = tt }; nets = tt }
 
   instances_bytes : AllByRecursion (λ (cell : HCell). AllByRecursion IsInstanceByBytes cell.instances) design.cells
   instances_bytes = all_such IsCellByBytes (λ (cell : HCell). AllByRecursion IsInstanceByBytes cell.instances) (λ cell h. h.instances) design.cells named.cells
@@ -123,8 +123,8 @@ module _ (names : ConstantNames) (design : Design) (named : IsNamedByBytes desig
       }
 
   cells_ready : AllByRecursion IsReady (flat_cells design paths flat)
-  cells_ready = all_append IsReady (map (λ number. face (cell_or_none design.cells number)) (leaf_cells design.order flat.spots (inner flat.leaves))) (flat_top design paths flat ∷ [])
-      (all_made IsReady (λ number. face (cell_or_none design.cells number)) face_ready (leaf_cells design.order flat.spots (inner flat.leaves))) (top_ready, tt)
+  cells_ready = all_append IsReady (map (λ number. stub (cell_or_none design.cells number)) (leaf_cells design.order flat.spots (inner flat.leaves))) (flat_top design paths flat ∷ [])
+      (all_made IsReady (λ number. stub (cell_or_none design.cells number)) stub_ready (leaf_cells design.order flat.spots (inner flat.leaves))) (top_ready, tt)
 
 -- ---- short names
 

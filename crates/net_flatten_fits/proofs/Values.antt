@@ -5,7 +5,7 @@ use Rattle.flat_classes.specs.Terminals.{FlatValue}
 use Rattle.net_flatten.specs.Flattening.{IsFlattening}
 use Rattle.net_flatten_fits.proofs.Instances.{instance_good}
 use Rattle.net_flatten_fits.proofs.Lists.{all_made, at_or}
-use Rattle.net_flatten_rules.specs.FlatDesign.{cell_or_none, face, flat_cells, flat_top, inner, leaf_cells, leaf_instance, no_cell, numbered_net, props_of, wired}
+use Rattle.net_flatten_rules.specs.FlatDesign.{cell_or_none, stub, flat_cells, flat_top, inner, leaf_cells, leaf_instance, no_cell, numbered_net, props_of, wired}
 use Rattle.net_flatten_rules.specs.Joined.{instance_at}
 use Rattle.net_hier.specs.Constants.{ConstantNames}
 use Rattle.net_hier.specs.Design.{Design}
@@ -24,8 +24,8 @@ module _ (design : Design) (sound : IsSound design) (paths : List Path) (flat : 
   cell_sound : (number : ℕ) → IsSoundCell (cell_or_none design.cells number)
   cell_sound number = at_or IsSoundCell design.cells number no_cell (record { props = tt; ports = tt; instances = tt; nets = tt }) sound.cells
 
-  face_sound : (number : ℕ) → IsSoundCell (face (cell_or_none design.cells number))
-  face_sound number = record { props = (cell_sound number).props; ports = (cell_sound number).ports; instances = tt; nets = tt }
+  stub_sound : (number : ℕ) → IsSoundCell (stub (cell_or_none design.cells number))
+  stub_sound number = record { props = (cell_sound number).props; ports = (cell_sound number).ports; instances = tt; nets = tt }
 
   -- the instance for a leaf has the properties of the last instance of its path
   leaf_sound : (leaf : ℕ) → AreSoundProps (props_of (instance_at design.cells flat.spots leaf))
@@ -42,8 +42,8 @@ module _ (design : Design) (sound : IsSound design) (paths : List Path) (flat : 
   }
 
   cells_sound : AllByRecursion IsSoundCell (flat_cells design paths flat)
-  cells_sound = all_append IsSoundCell (map (λ number. face (cell_or_none design.cells number)) (leaf_cells design.order flat.spots (inner flat.leaves))) (flat_top design paths flat ∷ [])
-      (all_made IsSoundCell (λ number. face (cell_or_none design.cells number)) face_sound (leaf_cells design.order flat.spots (inner flat.leaves))) (top_sound, tt)
+  cells_sound = all_append IsSoundCell (map (λ number. stub (cell_or_none design.cells number)) (leaf_cells design.order flat.spots (inner flat.leaves))) (flat_top design paths flat ∷ [])
+      (all_made IsSoundCell (λ number. stub (cell_or_none design.cells number)) stub_sound (leaf_cells design.order flat.spots (inner flat.leaves))) (top_sound, tt)
 
 pub flattened_sound : (names : ConstantNames) (design flat : Design) → IsSound design → IsFlattening names design flat → IsSound flat
 flattened_sound names design flat sound is = record {

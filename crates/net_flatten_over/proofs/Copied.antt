@@ -12,7 +12,7 @@ use Rattle.net_hier.specs.declared.cells.HInst.{HInst}
 use Rattle.net_hier.specs.declared.cells.HPort.{HPort}
 use Rattle.net_hier.specs.declared.nodes.Node.{Node}
 use Rattle.net_hier.specs.declared.nodes.Node.TheVariants.{Port, Pin, Net, Zero, One}
-use Rattle.net_hier.proofs.Pairs.{BelowPair, below_pair, face_there, leaf_forth, lt_or_le}
+use Rattle.net_hier.proofs.Pairs.{BelowPair, below_pair, signature_there, leaf_forth, lt_or_le}
 use Rattle.net_hier.proofs.Partners.{partner_has_paths, valid_has_paths}
 use Rattle.net_hier.proofs.PathLaws.{element_there, same_element}
 use Rattle.net_hier.proofs.Theorem.{same_design}
@@ -63,9 +63,9 @@ flat_alone names design flat same place instance cell t = leaf_stays cell (λ f.
 -- ports have names of their own where those of another cell with the same ports have
 own_ports : (cell other : HCell) → SamePorts cell other → HaveOwnNames (λ port. port.name) cell.ports → HaveOwnNames (λ port. port.name) other.ports
 own_ports cell other same own place oplace item oitem there othere e =
-    let (x, xthere, face) = face_there other cell (sym same) place item there in
-    let (y, ythere, oface) = face_there other cell (sym same) oplace oitem othere in
-    own place oplace x y xthere ythere (ap (λ f. f.name) face ∙ (e ∙ sym (ap (λ f. f.name) oface)))
+    let (x, xthere, signature) = signature_there other cell (sym same) place item there in
+    let (y, ythere, osignature) = signature_there other cell (sym same) oplace oitem othere in
+    own place oplace x y xthere ythere (ap (λ f. f.name) signature ∙ (e ∙ sym (ap (λ f. f.name) osignature)))
 
 -- of the ports of a constant cell there is one
 one_port : (names : ConstantNames) (value : Bool) (cell : HCell) → IsConstantCell names value cell → HaveOwnNames (λ port. port.name) cell.ports
@@ -102,26 +102,26 @@ module _ (names : ConstantNames) (flat other : Design) (n : Option ℕ) (valid :
     copied : {place number onumber : ℕ} {instance : HInst} {below : HCell} → TopInstance flat place instance below → IsCell flat.cells number below → SameCell names flat other n number onumber below cell → Instance cell
     added : {value : Bool} → IsConstantCell names value cell → Instance cell
 
-  instance_is : (place : ℕ) (twin : HInst) (cell : HCell) → TopInstance other place twin cell → Instance cell
-  instance_is place twin cell t =
+  instance_is : (place : ℕ) (counterpart : HInst) (cell : HCell) → TopInstance other place counterpart cell → Instance cell
+  instance_is place counterpart cell t =
       let p : TopPair t.top = top_pair t.top t.is_top in
       elim (lt_or_le place (length p.top.instances)) [
         | inl lt ↦
             let (x, there) = element_there p.top.instances place lt in
             let b : BelowPair names flat other n paths opaths same p.top t.top place x = below_pair names flat other n paths opaths same flat.top other.top p.top t.top p.is_top p.same_top place x there in
-            let e : b.twin ≡ twin = same_element t.top.instances place b.twin twin b.twin_there t.is_there in
-            let q : b.obelow ≡ cell = same_element other.cells twin.cell b.obelow cell (subst (λ i. IsCell other.cells i.cell b.obelow) e b.is_obelow) t.is_of in
-            copied (record { top = p.top; is_top = p.is_top; is_there = there; is_of = b.is_below }) b.is_below (subst (SameCell names flat other n x.cell b.twin.cell b.below) q b.same_below)
+            let e : b.counterpart ≡ counterpart = same_element t.top.instances place b.counterpart counterpart b.counterpart_there t.is_there in
+            let q : b.obelow ≡ cell = same_element other.cells counterpart.cell b.obelow cell (subst (λ i. IsCell other.cells i.cell b.obelow) e b.is_obelow) t.is_of in
+            copied (record { top = p.top; is_top = p.is_top; is_there = there; is_of = b.is_below }) b.is_below (subst (SameCell names flat other n x.cell b.counterpart.cell b.below) q b.same_below)
         | inr le ↦
-            let (v, is_added) = p.same_top.added_alone place le (slice_get_within t.top.instances place twin t.is_there) in
+            let (v, is_added) = p.same_top.added_alone place le (slice_get_within t.top.instances place counterpart t.is_there) in
             let c : IsConstantInstance names other.cells t.top v place = (p.same_top.added_after v place is_added).1 in
-            let e : c.the_instance ≡ twin = same_element t.top.instances place c.the_instance twin c.is_there t.is_there in
-            let q : c.below ≡ cell = same_element other.cells twin.cell c.below cell (subst (λ i. IsCell other.cells i.cell c.below) e c.is_below) t.is_of in
+            let e : c.the_instance ≡ counterpart = same_element t.top.instances place c.the_instance counterpart c.is_there t.is_there in
+            let q : c.below ≡ cell = same_element other.cells counterpart.cell c.below cell (subst (λ i. IsCell other.cells i.cell c.below) e c.is_below) t.is_of in
             added (subst (IsConstantCell names v) q c.is_constant)
       ]
 
   pub copies_alone : HasLeavesAlone flat → HasLeavesAlone other
-  copies_alone alone place twin cell t = by (instance_is place twin cell t)
+  copies_alone alone place counterpart cell t = by (instance_is place counterpart cell t)
     where
       by : Instance cell → IsLeaf cell
       by (copied {place = at} {number = number} {onumber = onumber} {instance = instance} {below = below} is is_cell sc) = leaf_forth names flat other n number onumber below cell sc (alone at instance below is)
@@ -135,7 +135,7 @@ module _ (names : ConstantNames) (flat other : Design) (n : Option ℕ) (valid :
   copies_own_names = record {
     has_paths = opaths;
     top_ports = λ otop is. let p : TopPair otop = top_pair otop is in own_ports p.top otop p.same_top.same_ports (valid.good_cells flat.top p.top p.is_top).port_names;
-    instance_ports = λ place twin cell t. copied_ports cell (instance_is place twin cell t);
+    instance_ports = λ place counterpart cell t. copied_ports cell (instance_is place counterpart cell t);
   }
 
 pub valid_own_names : (design : Design) → IsValid design → HasOwnNames design

@@ -13,19 +13,19 @@ use Rattle.net_hier.specs.declared.cells.HCell.{HCell}
 use Rattle.net_hier.specs.declared.cells.HInst.{HInst}
 use Rattle.net_hier.specs.declared.cells.HPort.{HPort}
 use Rattle.net_hier.specs.declared.cells.HProp.{HProp}
-use Rattle.net_hier.proofs.Pairs.{face_there, no_element}
+use Rattle.net_hier.proofs.Pairs.{signature_there, no_element}
 use Rattle.net_hier.proofs.PathLaws.{one_cell, one_number, same_element}
-use Rattle.net_flatten_rules.specs.SameFlat.{IsTop, SameFace, TopInstance}
+use Rattle.net_flatten_rules.specs.SameFlat.{IsTop, SameInterface, TopInstance}
 
 pub same_along : (a b c : List HProp) → SameValues a b → SameValues b c → SameValues a c
 same_along a b c ab bc name value = (λ h. (bc name value).0 ((ab name value).0 h), λ h. (ab name value).1 ((bc name value).1 h))
 
-pub face_along : (a b c : HCell) → SameFace a b → SameFace b c → SameFace a c
-face_along a b c ab bc = record {
+pub interface_along : (a b c : HCell) → SameInterface a b → SameInterface b c → SameInterface a c
+interface_along a b c ab bc = record {
   same_ports = ab.same_ports ∙ bc.same_ports;
-  same_port_props = λ place port twin there othere.
-      let (middle, mthere, face) = face_there a b ab.same_ports place port there in
-      same_along port.props middle.props twin.props (ab.same_port_props place port middle there mthere) (bc.same_port_props place middle twin mthere othere);
+  same_port_props = λ place port counterpart there othere.
+      let (middle, mthere, signature) = signature_there a b ab.same_ports place port there in
+      same_along port.props middle.props counterpart.props (ab.same_port_props place port middle there mthere) (bc.same_port_props place middle counterpart mthere othere);
 }
 
 -- the path of a cell that stands for no constant
@@ -58,14 +58,14 @@ leaf_props design place instance cell t leaf =
 
 module _ (names : ConstantNames) (a b : Design) (paths : HasPaths b) (forth : (fact : Fact) → IsFact names a fact → IsFact names b fact) (path : Path) (free : ¬ IsConstantPath names a path)
     (cell other : HCell) (at : CellAt a path cell) (oat : CellAt b path other) where
-  port_value : HaveOwnNames (λ port. port.name) other.ports → (place : ℕ) (port twin : HPort) → slice_get cell.ports place ≡ Some port → slice_get other.ports place ≡ Some twin → port.name ≡ twin.name →
-      (name : List ℕ) (value : PropValue) → HasLastValue port.props name value → HasLastValue twin.props name value
-  port_value own place port twin there othere same name value h =
+  port_value : HaveOwnNames (λ port. port.name) other.ports → (place : ℕ) (port counterpart : HPort) → slice_get cell.ports place ≡ Some port → slice_get other.ports place ≡ Some counterpart → port.name ≡ counterpart.name →
+      (name : List ℕ) (value : PropValue) → HasLastValue port.props name value → HasLastValue counterpart.props name value
+  port_value own place port counterpart there othere same name value h =
       let f : PortFact b path port.name name value = (forth (OfPort path port.name name value) (free, record { cell = cell; at = at; number = place; the_port = port; is_there = there; is_named = refl; is_value = h })).1 in
       let e : f.cell ≡ other = one_cell b paths path f.cell other f.at oat in
       let found : slice_get other.ports f.number ≡ Some f.the_port = subst (λ c. slice_get c.ports f.number ≡ Some f.the_port) e f.is_there in
-      let number : f.number ≡ place = own f.number place f.the_port twin found othere (f.is_named ∙ same) in
-      let p : f.the_port ≡ twin = same_element other.ports place f.the_port twin (subst (λ n. slice_get other.ports n ≡ Some f.the_port) number found) othere in
+      let number : f.number ≡ place = own f.number place f.the_port counterpart found othere (f.is_named ∙ same) in
+      let p : f.the_port ≡ counterpart = same_element other.ports place f.the_port counterpart (subst (λ n. slice_get other.ports n ≡ Some f.the_port) number found) othere in
       subst (λ t. HasLastValue t.props name value) p f.is_value
 
   cell_value : (name : List ℕ) (value : PropValue) → HasLastValue (cell_props a at.number cell) name value → HasLastValue (cell_props b oat.number other) name value
@@ -75,33 +75,33 @@ module _ (names : ConstantNames) (a b : Design) (paths : HasPaths b) (forth : (f
       let e : f.cell ≡ other = same_element b.cells oat.number f.cell other (subst (λ m. IsCell b.cells m f.cell) n f.is_cell) oat.is_cell in
       subst₂ (λ m c. HasLastValue (cell_props b m c) name value) n e f.is_value
 
-  instance_value : (place oplace : ℕ) (instance twin : HInst) → slice_get cell.instances place ≡ Some instance → slice_get other.instances oplace ≡ Some twin → instance.name ≡ twin.name →
-      ((constant : Bool) → ¬ IsConstantInstance names a.cells cell constant place) → (name : List ℕ) (value : PropValue) → HasLastValue instance.props name value → HasLastValue twin.props name value
-  instance_value place oplace instance twin there othere same none name value h =
+  instance_value : (place oplace : ℕ) (instance counterpart : HInst) → slice_get cell.instances place ≡ Some instance → slice_get other.instances oplace ≡ Some counterpart → instance.name ≡ counterpart.name →
+      ((constant : Bool) → ¬ IsConstantInstance names a.cells cell constant place) → (name : List ℕ) (value : PropValue) → HasLastValue instance.props name value → HasLastValue counterpart.props name value
+  instance_value place oplace instance counterpart there othere same none name value h =
       let f : InstanceFact names b path instance.name name value =
       (forth (OfInstance path instance.name name value) (free, record { cell = cell; at = at; number = place; the_instance = instance; is_there = there; is_named = refl; no_constant = none; is_value = h })).1 in
       let e : f.cell ≡ other = one_cell b paths path f.cell other f.at oat in
       let found : slice_get other.instances f.number ≡ Some f.the_instance = subst (λ c. slice_get c.instances f.number ≡ Some f.the_instance) e f.is_there in
-      let number : f.number ≡ oplace = paths.own_instances oat.number other oat.is_cell f.number oplace f.the_instance twin found othere (f.is_named ∙ same) in
-      let p : f.the_instance ≡ twin = same_element other.instances oplace f.the_instance twin (subst (λ n. slice_get other.instances n ≡ Some f.the_instance) number found) othere in
+      let number : f.number ≡ oplace = paths.own_instances oat.number other oat.is_cell f.number oplace f.the_instance counterpart found othere (f.is_named ∙ same) in
+      let p : f.the_instance ≡ counterpart = same_element other.instances oplace f.the_instance counterpart (subst (λ n. slice_get other.instances n ≡ Some f.the_instance) number found) othere in
       subst (λ t. HasLastValue t.props name value) p f.is_value
 
 -- the cells at a path of two designs with equal facts
 module _ (names : ConstantNames) (a b : Design) (paths : HasPaths a) (opaths : HasPaths b) (facts : (fact : Fact) → IsFact names a fact ↔ IsFact names b fact) (path : Path) (free : ¬ IsConstantPath names a path)
     (ofree : ¬ IsConstantPath names b path) (cell other : HCell) (at : CellAt a path cell) (oat : CellAt b path other) where
-  pub same_port_values : HaveOwnNames (λ port. port.name) cell.ports → HaveOwnNames (λ port. port.name) other.ports → (place : ℕ) (port twin : HPort) → slice_get cell.ports place ≡ Some port → slice_get other.ports place ≡ Some twin → port.name ≡ twin.name → SameValues port.props twin.props
-  same_port_values own oown place port twin there othere same name value = (
-    port_value names a b opaths (λ f. (facts f).0) path free cell other at oat oown place port twin there othere same name value,
-    port_value names b a paths (λ f. (facts f).1) path ofree other cell oat at own place twin port othere there (sym same) name value,
+  pub same_port_values : HaveOwnNames (λ port. port.name) cell.ports → HaveOwnNames (λ port. port.name) other.ports → (place : ℕ) (port counterpart : HPort) → slice_get cell.ports place ≡ Some port → slice_get other.ports place ≡ Some counterpart → port.name ≡ counterpart.name → SameValues port.props counterpart.props
+  same_port_values own oown place port counterpart there othere same name value = (
+    port_value names a b opaths (λ f. (facts f).0) path free cell other at oat oown place port counterpart there othere same name value,
+    port_value names b a paths (λ f. (facts f).1) path ofree other cell oat at own place counterpart port othere there (sym same) name value,
   )
 
-  pub same_face : HaveOwnNames (λ port. port.name) cell.ports → HaveOwnNames (λ port. port.name) other.ports → SamePorts cell other → SameFace cell other
-  same_face own oown same = record {
+  pub same_interface : HaveOwnNames (λ port. port.name) cell.ports → HaveOwnNames (λ port. port.name) other.ports → SamePorts cell other → SameInterface cell other
+  same_interface own oown same = record {
     same_ports = same;
-    same_port_props = λ place port twin there othere.
-        let (found, fthere, face) = face_there cell other same place port there in
-        let e : found ≡ twin = same_element other.ports place found twin fthere othere in
-        same_port_values own oown place port twin there othere (sym (ap (λ f. f.name) face) ∙ ap (λ t. t.name) e);
+    same_port_props = λ place port counterpart there othere.
+        let (found, fthere, signature) = signature_there cell other same place port there in
+        let e : found ≡ counterpart = same_element other.ports place found counterpart fthere othere in
+        same_port_values own oown place port counterpart there othere (sym (ap (λ f. f.name) signature) ∙ ap (λ t. t.name) e);
   }
 
   pub same_cell_values : SameValues (cell_props a at.number cell) (cell_props b oat.number other)
@@ -110,9 +110,9 @@ module _ (names : ConstantNames) (a b : Design) (paths : HasPaths a) (opaths : H
     cell_value names b a paths (λ f. (facts f).1) path ofree other cell oat at name value,
   )
 
-  pub same_instance_values : (place oplace : ℕ) (instance twin : HInst) → slice_get cell.instances place ≡ Some instance → slice_get other.instances oplace ≡ Some twin → instance.name ≡ twin.name →
-      ((constant : Bool) → ¬ IsConstantInstance names a.cells cell constant place) → ((constant : Bool) → ¬ IsConstantInstance names b.cells other constant oplace) → SameValues instance.props twin.props
-  same_instance_values place oplace instance twin there othere same none onone name value = (
-    instance_value names a b opaths (λ f. (facts f).0) path free cell other at oat place oplace instance twin there othere same none name value,
-    instance_value names b a paths (λ f. (facts f).1) path ofree other cell oat at oplace place twin instance othere there (sym same) onone name value,
+  pub same_instance_values : (place oplace : ℕ) (instance counterpart : HInst) → slice_get cell.instances place ≡ Some instance → slice_get other.instances oplace ≡ Some counterpart → instance.name ≡ counterpart.name →
+      ((constant : Bool) → ¬ IsConstantInstance names a.cells cell constant place) → ((constant : Bool) → ¬ IsConstantInstance names b.cells other constant oplace) → SameValues instance.props counterpart.props
+  same_instance_values place oplace instance counterpart there othere same none onone name value = (
+    instance_value names a b opaths (λ f. (facts f).0) path free cell other at oat place oplace instance counterpart there othere same none name value,
+    instance_value names b a paths (λ f. (facts f).1) path ofree other cell oat at oplace place counterpart instance othere there (sym same) onone name value,
   )

@@ -13,13 +13,13 @@ use Rattle.net_hier.specs.declared.cells.HInst.{HInst}
 use Rattle.net_hier.specs.declared.cells.HProp.{HProp}
 use Rattle.flat_numbers.specs.declared.spots.Spot.{Spot}
 use Rattle.flat_classes.specs.Terminals.{FlatValue}
-use Rattle.net_flatten_rules.specs.FlatDesign.{cell_or_none, face, flat_cells, flat_top, inner, leaf_cells, leaf_instance, no_cell, props_of}
+use Rattle.net_flatten_rules.specs.FlatDesign.{cell_or_none, stub, flat_cells, flat_top, inner, leaf_cells, leaf_instance, no_cell, props_of}
 use Rattle.net_flatten_rules.specs.Joined.{instance_at, name_at}
-use Rattle.net_flatten_rules.specs.Rules.{IsFirst, first_of, is_long, long, long_face, long_in_cell, long_in_design, long_instances, long_object, long_props, names_twice, object_of, refusals, refused}
+use Rattle.net_flatten_rules.specs.Rules.{IsFirst, first_of, is_long, long, long_stub, long_in_cell, long_in_design, long_instances, long_object, long_props, names_twice, object_of, refusals, refused}
 use Rattle.net_flatten_rules.specs.declared.long.Long.{Long}
 use Rattle.net_flatten_rules.specs.declared.refusal.Broken.{Broken}
 use Rattle.net_flatten_rules.specs.declared.refusal.FlattenRule.TheVariants.{F2}
-use Rattle.net_flatten_refusals.specs.LongNames.{long_leaf, refused_face, refused_faces, refused_in, refused_leaves, refused_names, refused_top}
+use Rattle.net_flatten_refusals.specs.LongNames.{long_leaf, refused_stub, refused_stubs, refused_in, refused_leaves, refused_names, refused_top}
 use Rattle.net_flatten_refusals.proofs.Lists.{first_behind, first_mapped, first_there}
 
 -- ---- the refusal of the first object
@@ -89,12 +89,12 @@ module _ (cell : List ℕ) (props : List HProp) (i : ℕ) (d : HProp) where
   prop_none le = sym (ap (λ l. first_of (refusals_of l)) (drop_of_length-le props {i = i} le))
 
 -- ---- the whole list in its parts
-faces_are : (cells : List HCell) (numbers : List ℕ) → flat_map long_in_cell (map (λ number. face (cell_or_none cells number)) numbers) ≡ refused_faces cells numbers
-faces_are cells [] = refl
-faces_are cells (number ∷ numbers) =
+stubs_are : (cells : List HCell) (numbers : List ℕ) → flat_map long_in_cell (map (λ number. stub (cell_or_none cells number)) numbers) ≡ refused_stubs cells numbers
+stubs_are cells [] = refl
+stubs_are cells (number ∷ numbers) =
     let cell : HCell = cell_or_none cells number in
-    ap (λ l. map (refused F2 cell.name) l ++ flat_map long_in_cell (map (λ n. face (cell_or_none cells n)) numbers)) (append-nil (long_face cell))
-    ∙ ap (λ l. refused_face cell ++ l) (faces_are cells numbers)
+    ap (λ l. map (refused F2 cell.name) l ++ flat_map long_in_cell (map (λ n. stub (cell_or_none cells n)) numbers)) (append-nil (long_stub cell))
+    ∙ ap (λ l. refused_stub cell ++ l) (stubs_are cells numbers)
 
 leaves_are : (cells : List HCell) (spots : List Spot) (paths : List Path) (numbers : List ℕ) (cell : List ℕ) (leaves : List ℕ) →
     map (refused F2 cell) (long_instances (map (leaf_instance cells spots paths numbers) leaves)) ≡ refused_leaves cells spots paths cell leaves
@@ -109,17 +109,17 @@ top_are design paths flat =
     let top : HCell = cell_or_none design.cells design.top in
     let leaves : List ℕ = inner flat.leaves in
     let numbers : List ℕ = leaf_cells design.order flat.spots leaves in
-    map-append (refused F2 top.name) (long_face top) (long_instances (map (leaf_instance design.cells flat.spots paths numbers) leaves))
-    ∙ ap (λ l. refused_face top ++ l) (leaves_are design.cells flat.spots paths numbers top.name leaves)
+    map-append (refused F2 top.name) (long_stub top) (long_instances (map (leaf_instance design.cells flat.spots paths numbers) leaves))
+    ∙ ap (λ l. refused_stub top ++ l) (leaves_are design.cells flat.spots paths numbers top.name leaves)
 
 pub names_are : (design : Design) (paths : List Path) (flat : FlatValue) → refused_names design flat.spots paths (inner flat.leaves) ≡ flat_map long_in_cell (flat_cells design paths flat) ++ long_in_design design
 names_are design paths flat =
     let numbers : List ℕ = leaf_cells design.order flat.spots (inner flat.leaves) in
-    let faces : List HCell = map (λ number. face (cell_or_none design.cells number)) numbers in
+    let stubs : List HCell = map (λ number. stub (cell_or_none design.cells number)) numbers in
     let top : HCell = flat_top design paths flat in
-    let all : flat_map long_in_cell (faces ++ top ∷ []) ≡ refused_faces design.cells numbers ++ refused_top design flat.spots paths (inner flat.leaves) =
-    flat_map-append long_in_cell faces (top ∷ []) ∙ ((λ j. faces_are design.cells numbers j ++ append-nil (long_in_cell top) j) ∙ ap (λ l. refused_faces design.cells numbers ++ l) (top_are design paths flat)) in
-    sym (ap (λ l. l ++ long_in_design design) all ∙ append_assoc (refused_faces design.cells numbers) (refused_top design flat.spots paths (inner flat.leaves)) (long_in_design design))
+    let all : flat_map long_in_cell (stubs ++ top ∷ []) ≡ refused_stubs design.cells numbers ++ refused_top design flat.spots paths (inner flat.leaves) =
+    flat_map-append long_in_cell stubs (top ∷ []) ∙ ((λ j. stubs_are design.cells numbers j ++ append-nil (long_in_cell top) j) ∙ ap (λ l. refused_stubs design.cells numbers ++ l) (top_are design paths flat)) in
+    sym (ap (λ l. l ++ long_in_design design) all ∙ append_assoc (refused_stubs design.cells numbers) (refused_top design flat.spots paths (inner flat.leaves)) (long_in_design design))
 
 pub rest_first : (design : Design) (paths : List Path) (flat : FlatValue) → None ≡ first_of (names_twice design paths flat) →
     first_of (refused_names design flat.spots paths (inner flat.leaves)) ≡ first_of (refusals design paths flat)

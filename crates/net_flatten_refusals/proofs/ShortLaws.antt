@@ -11,7 +11,7 @@ use Rattle.net_hier.specs.declared.cells.HProp.{HProp}
 use Rattle.flat_classes.specs.Terminals.{FlatValue}
 use Rattle.net_flatten_rules.specs.FlatDesign.{flat_cells, inner}
 use Rattle.net_flatten_rules.specs.Joined.{name_at}
-use Rattle.net_flatten_rules.specs.Rules.{is_long, long, long_face, long_in_cell, long_in_design, long_instances, long_names, long_object, long_ports, long_props, names_twice, refusals, refused, repeated}
+use Rattle.net_flatten_rules.specs.Rules.{is_long, long, long_stub, long_in_cell, long_in_design, long_instances, long_names, long_object, long_ports, long_props, names_twice, refusals, refused, repeated}
 use Rattle.net_flatten_rules.specs.declared.refusal.FlattenRule.TheVariants.{F1, F2}
 use Rattle.net_flatten_refusals.specs.Named.{HasShortNames, HaveOwnJoinedNames, HaveShortNames, IsShort, IsShortInstance, IsShortPort}
 use Rattle.net_flatten_refusals.proofs.Lists.{NoneRepeated, both_empty, each_empty, map_empty, none_pass, none_repeated}
@@ -41,13 +41,13 @@ short_instance instance e =
 
 short_cell : (cell : HCell) → long_names cell ≡ [] → HasShortNames cell
 short_cell cell e =
-    let parts = both_empty (long_face cell) (long_instances cell.instances) e in
-    let face = both_empty (long_object (codes "cell") cell.name cell.props) (long_ports cell.ports) parts.0 in
-    let own = both_empty (long (codes "cell") cell.name) (long_props cell.props) face.0 in
+    let parts = both_empty (long_stub cell) (long_instances cell.instances) e in
+    let stub = both_empty (long_object (codes "cell") cell.name cell.props) (long_ports cell.ports) parts.0 in
+    let own = both_empty (long (codes "cell") cell.name) (long_props cell.props) stub.0 in
     record {
       name = short_object (codes "cell") cell.name own.0;
       props = short_props cell.props own.1;
-      ports = λ place port at. short_port port (each_empty (λ (p : HPort). long_object (codes "port") p.name p.props) cell.ports face.1 place port at);
+      ports = λ place port at. short_port port (each_empty (λ (p : HPort). long_object (codes "port") p.name p.props) cell.ports stub.1 place port at);
       instances = λ place instance at. short_instance instance (each_empty (λ (i : HInst). long_object (codes "instance") i.name i.props) cell.instances parts.1 place instance at);
     }
 

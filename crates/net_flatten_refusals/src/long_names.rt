@@ -2,14 +2,14 @@
 ghost use Rattle.std.specs.Prelude.{ℕ, ◌≡◌, ◌≢◌, ◌<◌, ◌++◌, List, All, length, IfOk};
 ghost use Rattle.flat_numbers.specs.Spots.{AreSpots};
 ghost use Rattle.flat_classes.specs.Ways.{ArePaths};
-ghost use Rattle.net_flatten_refusals.specs.LongNames.{long_leaf, refused_face, refused_faces, refused_in, refused_leaves, refused_names, refused_top};
+ghost use Rattle.net_flatten_refusals.specs.LongNames.{long_leaf, refused_stub, refused_stubs, refused_in, refused_leaves, refused_names, refused_top};
 ghost use Rattle.net_flatten_rules.specs.Rules.{IsFirst, first_of, long_in_design};
 ghost use Rattle.net_hier.specs.Paths.{Path};
 
 use crate::repeats::name_at;
 use flat_classes::Spot;
 use net_flatten_rules::{
-    Broken, FlattenRule, Long, in_face, in_props, instance_at, is_long, leaf_cells, refuse_one,
+    Broken, FlattenRule, Long, in_props, in_stub, instance_at, is_long, leaf_cells, refuse_one,
     refuse_two,
 };
 use net_hier::{HCell, Hier};
@@ -84,22 +84,22 @@ fn long_in_leaves(
 }
 
 /// That of a cell, its properties and its ports.
-fn long_in_face(alloc: Global, cell: &HCell) -> Result<Option<Broken>, NoMemory>
-    ensures { IfOk result (λ broken. broken ≡ first_of (refused_face cell.now)) }
+fn long_in_stub(alloc: Global, cell: &HCell) -> Result<Option<Broken>, NoMemory>
+    ensures { IfOk result (λ broken. broken ≡ first_of (refused_stub cell.now)) }
 {
-    let broken = refuse_long(alloc, cell.name.bytes(), in_face(cell))?;
+    let broken = refuse_long(alloc, cell.name.bytes(), in_stub(cell))?;
     Ok(broken)
 }
 
 /// The first of those of the cells of these numbers.
-fn long_in_faces(alloc: Global, hier: &Hier, numbers: &[u32]) -> Result<Option<Broken>, NoMemory>
+fn long_in_stubs(alloc: Global, hier: &Hier, numbers: &[u32]) -> Result<Option<Broken>, NoMemory>
     requires { All (λ number. number < length hier.now.cells) numbers.now }
     ensures { IfOk result (λ broken.
-        broken ≡ first_of (refused_faces hier.now.cells numbers.now)) }
+        broken ≡ first_of (refused_stubs hier.now.cells numbers.now)) }
 {
     let cells = hier.cells();
     for number in numbers {
-        if let Some(broken) = long_in_face(alloc, &cells[*number as usize])? {
+        if let Some(broken) = long_in_stub(alloc, &cells[*number as usize])? {
             return Ok(Some(broken));
         }
     }
@@ -121,7 +121,7 @@ fn long_in_top(
         (refused_top hier.now spots.now paths leaves.now)) }
 {
     let top = &hier.cells()[hier.top() as usize];
-    if let Some(broken) = long_in_face(alloc, top)? {
+    if let Some(broken) = long_in_stub(alloc, top)? {
         return Ok(Some(broken));
     }
     long_in_leaves(alloc, hier, spots, top.name.bytes(), leaves)
@@ -180,7 +180,7 @@ pub fn first_long(
 {
     let _cells = hier.cells();
     let numbers = leaf_cells(alloc, hier, spots, leaves)?;
-    if let Some(broken) = long_in_faces(alloc, hier, numbers.as_slice())? {
+    if let Some(broken) = long_in_stubs(alloc, hier, numbers.as_slice())? {
         return Ok(Some(broken));
     }
     let broken = long_in_rest(alloc, hier, spots, leaves)?;

@@ -42,8 +42,8 @@ place_in [] number = 0
 place_in (first ∷ rest) number = if first == number then 0 else suc (place_in rest number)
 
 -- a cell with its name, ports and properties alone
-abbrev pub face : HCell → HCell
-face cell = record { name = cell.name; ports = cell.ports; instances = []; nets = []; joins = []; props = cell.props }
+abbrev pub stub : HCell → HCell
+stub cell = record { name = cell.name; ports = cell.ports; instances = []; nets = []; joins = []; props = cell.props }
 
 abbrev pub no_cell : HCell
 no_cell = record { name = []; ports = []; instances = []; nets = []; joins = []; props = [] }
@@ -103,7 +103,7 @@ flat_top design paths flat = let top = cell_or_none design.cells design.top in
 
 -- the cells at the leaves, and then the top
 abbrev pub flat_cells : Design → List Path → FlatValue → List HCell
-flat_cells design paths flat = map (λ number. face (cell_or_none design.cells number)) (leaf_cells design.order flat.spots (inner flat.leaves)) ++ flat_top design paths flat ∷ []
+flat_cells design paths flat = map (λ number. stub (cell_or_none design.cells number)) (leaf_cells design.order flat.spots (inner flat.leaves)) ++ flat_top design paths flat ∷ []
 
 -- the cells, the top and the properties are those of the flattened design
 pub record IsFlattened (names : ConstantNames) (design : Design) (cells : List HCell) (top : ℕ) (props : List HProp) : Type 0 where

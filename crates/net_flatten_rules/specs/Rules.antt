@@ -54,12 +54,12 @@ abbrev pub long_instances : List HInst → List (List (List ℕ))
 long_instances instances = flat_map (λ instance. long_object (codes "instance") instance.name instance.props) instances
 
 -- the names of a cell, of its properties, and of its ports with their properties
-abbrev pub long_face : HCell → List (List (List ℕ))
-long_face cell = long_object (codes "cell") cell.name cell.props ++ long_ports cell.ports
+abbrev pub long_stub : HCell → List (List (List ℕ))
+long_stub cell = long_object (codes "cell") cell.name cell.props ++ long_ports cell.ports
 
 -- the names of a cell other than its nets' that are too long
 abbrev pub long_names : HCell → List (List (List ℕ))
-long_names cell = long_face cell ++ long_instances cell.instances
+long_names cell = long_stub cell ++ long_instances cell.instances
 
 -- the refusals of a cell's names
 abbrev pub long_in_cell : HCell → List Broken

@@ -37,19 +37,19 @@ pub record TopInstance (design : Design) (place : ℕ) (instance : HInst) (cell 
   pub is_of : IsCell design.cells instance.cell cell
 
 -- two cells have the same ports and properties: the lists of ports by name, range and direction, and last values
-pub record SameFace (cell other : HCell) : Type 0 where
+pub record SameInterface (cell other : HCell) : Type 0 where
   pub same_ports : SamePorts cell other
-  pub same_port_props : (place : ℕ) (port twin : HPort) → slice_get cell.ports place ≡ Some port → slice_get other.ports place ≡ Some twin → SameValues port.props twin.props
+  pub same_port_props : (place : ℕ) (port counterpart : HPort) → slice_get cell.ports place ≡ Some port → slice_get other.ports place ≡ Some counterpart → SameValues port.props counterpart.props
 
 -- the instance stands for the leaf: under its joined name, with the leaf's ports and properties, those of its cell and those of the last instance of its path
-pub record SameLeaf (names : ConstantNames) (path : Path) (instance : HInst) (cell : HCell) (twin : HInst) (partner : HCell) : Type 0 where
-  pub same_name : twin.name ≡ joined path
+pub record SameLeaf (names : ConstantNames) (path : Path) (instance : HInst) (cell : HCell) (counterpart : HInst) (partner : HCell) : Type 0 where
+  pub same_name : counterpart.name ≡ joined path
   pub same_cell : cell.name ≡ partner.name
   pub is_leaf : IsLeaf partner
   pub no_constant : ¬ IsAnyConstantCell names partner
-  pub same_face : SameFace cell partner
+  pub same_interface : SameInterface cell partner
   pub same_props : SameValues cell.props partner.props
-  pub same_instance : SameValues instance.props twin.props
+  pub same_instance : SameValues instance.props counterpart.props
 
 -- where a terminal stands in the flat design: a leaf's bits at its joined name
 abbrev pub flat_path : Path → Path
@@ -67,10 +67,10 @@ pub data Partner (names : ConstantNames) (design : Design) : FlatNode → FlatNo
 pub record SameFlat (names : ConstantNames) (design other : Design) : Type 0 where
   pub same_name : (top otop : HCell) → IsTop design top → IsTop other otop → top.name ≡ otop.name
   pub has_leaves : (path : Path) (instance : HInst) (cell : HCell) → InnerLeaf names design path instance cell →
-      (place : ℕ) × (twin : HInst) × (partner : HCell) × TopInstance other place twin partner × SameLeaf names path instance cell twin partner
+      (place : ℕ) × (counterpart : HInst) × (partner : HCell) × TopInstance other place counterpart partner × SameLeaf names path instance cell counterpart partner
   pub one_each : (path opath : Path) (instance oinstance : HInst) (cell ocell : HCell) → InnerLeaf names design path instance cell → InnerLeaf names design opath oinstance ocell → joined path ≡ joined opath → path ≡ opath
-  pub no_more : (place : ℕ) (twin : HInst) (partner : HCell) → TopInstance other place twin partner → ¬ IsAnyConstantCell names partner →
-      IsLeaf partner × (path : Path) × (instance : HInst) × (cell : HCell) × InnerLeaf names design path instance cell × (twin.name ≡ joined path)
-  pub same_top : (top otop : HCell) → IsTop design top → IsTop other otop → SameFace top otop
+  pub no_more : (place : ℕ) (counterpart : HInst) (partner : HCell) → TopInstance other place counterpart partner → ¬ IsAnyConstantCell names partner →
+      IsLeaf partner × (path : Path) × (instance : HInst) × (cell : HCell) × InnerLeaf names design path instance cell × (counterpart.name ≡ joined path)
+  pub same_top : (top otop : HCell) → IsTop design top → IsTop other otop → SameInterface top otop
   pub same_top_props : (top otop : HCell) → IsTop design top → IsTop other otop → SameValues (cell_props design design.top top) (cell_props other other.top otop)
   pub same_connection : (x y ox oy : FlatNode) → Partner names design x ox → Partner names design y oy → IsConnected names design x y ↔ IsConnected names other ox oy

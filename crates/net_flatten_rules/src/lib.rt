@@ -2,7 +2,7 @@
 //
 // The public contract in plain words: the inner leaves are the leaves below the top that are no constant cells. The joined name of
 // one is the names of the instances on the way down from the top, with `/` between them. `joined_name` makes it, and `inner_leaves`
-// lists the inner leaves. `leaf_cells` lists the cells at leaves in the order of the design. `in_face` answers the first name of a cell, its
+// lists the inner leaves. `leaf_cells` lists the cells at leaves in the order of the design. `in_stub` answers the first name of a cell, its
 // properties and its ports that is longer than 1,024 bytes. `specs/` has what a flattened design is, its two rules, and when two
 // designs are the same but for their hierarchy.
 //
@@ -18,5 +18,5 @@ pub mod refusal;
 pub use at_leaves::leaf_cells;
 pub use joined::{instance_at, joined_name};
 pub use leaves::inner_leaves;
-pub use long::{Long, in_face, in_props, is_long};
+pub use long::{Long, in_props, in_stub, is_long};
 pub use refusal::{Broken, FlattenRule, refuse_one, refuse_two};

@@ -1,6 +1,6 @@
 // Names that are too long.
 ghost use Rattle.std.specs.Prelude.{◌≡◌};
-ghost use Rattle.net_flatten_rules.specs.Rules.{IsFirst, is_long, long, long_face, long_object, long_ports, long_props};
+ghost use Rattle.net_flatten_rules.specs.Rules.{IsFirst, is_long, long, long_stub, long_object, long_ports, long_props};
 
 use net_hier::{HCell, HPort, HProp};
 
@@ -66,8 +66,8 @@ fn in_ports(ports: &[HPort]) -> Option<Long<'_>>
 }
 
 /// That of a cell, its properties and its ports.
-pub fn in_face(cell: &HCell) -> Option<Long<'_>>
-    ensures { IsFirst (long_face cell.now) result }
+pub fn in_stub(cell: &HCell) -> Option<Long<'_>>
+    ensures { IsFirst (long_stub cell.now) result }
 {
     if let Some(found) = in_object(b"cell", cell.name.bytes(), cell.props.items()) {
         return Some(found);

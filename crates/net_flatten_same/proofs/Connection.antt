@@ -22,11 +22,11 @@ use Rattle.flat_classes.specs.declared.flat.Terminal.{Terminal}
 use Rattle.flat_classes.specs.declared.flat.Terminal.TheVariants.{Port, Pin, Zero, One}
 use Rattle.flat_classes.proofs.KindLaws.{nothing_in}
 use Rattle.flat_classes.proofs.OneFlat.{place_has_node}
-use Rattle.net_flatten_rules.specs.FlatDesign.{face, join_at, node_of, place_in, wired}
+use Rattle.net_flatten_rules.specs.FlatDesign.{stub, join_at, node_of, place_in, wired}
 use Rattle.net_flatten_rules.specs.Joined.{name_at}
 use Rattle.net_flatten_rules.specs.SameFlat.{IsTop, Partner, TopInstance}
 use Rattle.net_flatten_same.proofs.Ends.{IsInside, Meets, end_is_hub, end_of, hub_of, inside_at, meets, net_is_no_end, net_is_no_hub, pin_listed, same_end, same_hub}
-use Rattle.net_flatten_same.proofs.Flattened.{FromTop, at_is, face_constant, from_top, instance_for, instance_there, leaf_top, other, the_top, top_there}
+use Rattle.net_flatten_same.proofs.Flattened.{FromTop, at_is, stub_constant, from_top, instance_for, instance_there, leaf_top, other, the_top, top_there}
 use Rattle.net_flatten_same.proofs.Leaves.{Flattening, leaf_place, leaf_spot, leaves_of, place_inside}
 use Rattle.net_flatten_same.proofs.Lists.{IsGroup, IsNetJoin, Together, from_joins, from_wired, member_group, to_joins, together}
 
@@ -71,12 +71,12 @@ module _ (names : ConstantNames) (design : Design) (f : Flattening names design)
 
   pin_step : (leaf port bit : ℕ) (c : Contains (leaves_of f.flat) leaf) → IsPortBit (leaf_spot names design f leaf c).spot.cell port bit → FlatLink names flat_design (At [] (PinNode (place_in (leaves_of f.flat) leaf) port bit)) (At (name_at f.paths leaf ∷ []) (PortNode port bit))
   pin_step leaf port bit c b =
-      let t : TopInstance flat_design (place_in (leaves_of f.flat) leaf) (instance_for names design f order leaf) (face (leaf_spot names design f leaf c).spot.cell) =
+      let t : TopInstance flat_design (place_in (leaves_of f.flat) leaf) (instance_for names design f order leaf) (stub (leaf_spot names design f leaf c).spot.cell) =
       leaf_top names design f order (place_in (leaves_of f.flat) leaf) leaf (place_inside names design f leaf c) (leaf_spot names design f leaf c) in
       by_pin top_path (record {
         the_instance = instance_for names design f order leaf;
         is_there = instance_there names design f order (place_in (leaves_of f.flat) leaf) leaf (place_inside names design f leaf c);
-        below = face (leaf_spot names design f leaf c).spot.cell;
+        below = stub (leaf_spot names design f leaf c).spot.cell;
         is_below = t.is_of;
         is_bit = record { the_port = b.the_port; is_there = b.is_there; within = b.within };
       })
@@ -195,19 +195,19 @@ module _ (names : ConstantNames) (design : Design) (f : Flattening names design)
   top_pin path cell instance port bit p q pin =
       let t : TopInstance flat_design instance pin.the_instance pin.below = record { top = cell; is_top = subst (IsTop flat_design) (sym q) (top_there names design f order); is_there = pin.is_there; is_of = pin.is_below } in
       let r : FromTop names design f order instance pin.the_instance pin.below = from_top names design f order instance pin.the_instance pin.below t in
-      let b : IsPortBit (face r.at.spot.cell) port bit = subst (λ c. IsPortBit c port bit) r.partner_is pin.is_bit in
+      let b : IsPortBit (stub r.at.spot.cell) port bit = subst (λ c. IsPortBit c port bit) r.partner_is pin.is_bit in
       let there = pin_listed names design f r.leaf r.at.spot.cell port bit r.is_leaf r.at.spot.of_cell (record { the_port = b.the_port; is_there = b.is_there; within = b.within }) in
       let h : IsInside names design f (Pin r.leaf port bit) = inside_at names design f there.place (Pin r.leaf port bit) there.is_there in
       pin_keeps r.leaf port bit (At path (PinNode instance port bit)) (At (pin.the_instance.name ∷ path) (PortNode port bit)) h
       (subst₂ (λ u n. At u (PinNode n port bit) ≡ hub_of names design f (Pin r.leaf port bit)) (sym p) (leaf_place names design f instance r.leaf r.is_there) refl)
-      (subst₂ (λ (u : Path) (i : HInst). At (i.name ∷ u) (PortNode port bit) ≡ end_of names design f (Pin r.leaf port bit)) (sym p) (sym r.twin_is) refl)
+      (subst₂ (λ (u : Path) (i : HInst). At (i.name ∷ u) (PortNode port bit) ≡ end_of names design f (Pin r.leaf port bit)) (sym p) (sym r.counterpart_is) refl)
 
   -- the top has no instance of a constant cell
   no_constant : (cell : HCell) (instance : ℕ) (value : Bool) → cell ≡ the_top names design f order → ¬ IsConstantInstance names flat_design.cells cell value instance
   no_constant cell instance value q c =
       let t : TopInstance flat_design instance c.the_instance c.below = record { top = cell; is_top = subst (IsTop flat_design) (sym q) (top_there names design f order); is_there = c.is_there; is_of = c.is_below } in
       let r : FromTop names design f order instance c.the_instance c.below = from_top names design f order instance c.the_instance c.below t in
-      r.at.spot.no_constant (face_constant names r.at.spot.cell r.at.spot.is_leaf (subst (IsAnyConstantCell names) r.partner_is (value, c.is_constant)))
+      r.at.spot.no_constant (stub_constant names r.at.spot.cell r.at.spot.is_leaf (subst (IsAnyConstantCell names) r.partner_is (value, c.is_constant)))
 
   link_keeps : (z w : FlatNode) → FlatLink names flat_design z w → Keeps z w
   link_keeps z w (by_join {path = path} {cell = cell} {x = x} {y = y} at step) = elim (at_is names design f order path cell at) [

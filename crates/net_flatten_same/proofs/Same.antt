@@ -12,7 +12,7 @@ use Rattle.flat_classes.specs.Terminals.{AreFlatClasses, FlatValue}
 use Rattle.flat_classes.proofs.OneFlat.{one_flat}
 use Rattle.flat_classes.specs.Ways.{ArePaths}
 use Rattle.flat_report.proofs.OneReport.{one_paths}
-use Rattle.net_flatten_rules.specs.FlatDesign.{IsFlattened, cell_or_none, face, flat_cells, inner}
+use Rattle.net_flatten_rules.specs.FlatDesign.{IsFlattened, cell_or_none, stub, flat_cells, inner}
 use Rattle.net_flatten_rules.specs.Joined.{name_at}
 use Rattle.net_flatten_rules.specs.Rules.{long_in_cell, long_in_design, names_twice, refusals, refused, repeated}
 use Rattle.net_flatten_rules.specs.SameFlat.{SameFlat}
@@ -41,7 +41,7 @@ module _ (names : ConstantNames) (design : Design) (f : Flattening names design)
   last_cell : (cells : List HCell) (top : ℕ) → cells ≡ (other names design f order).cells → suc top ≡ length cells → top ≡ (other names design f order).top
   last_cell cells top e last =
       let n : length cells ≡ length (front names design f order) + 1 = ap length e ∙ length-append (front names design f order) (the_top names design f order ∷ []) in
-      let m : length (front names design f order) ≡ length (numbers_of design f.flat) = length-map (numbers_of design f.flat) (λ number. face (cell_or_none design.cells number)) in
+      let m : length (front names design f order) ≡ length (numbers_of design f.flat) = length-map (numbers_of design f.flat) (λ number. stub (cell_or_none design.cells number)) in
       one_more top (length (numbers_of design f.flat)) (last ∙ (n ∙ ap (λ k. k + 1) m))
 
 -- the same of a design with equal cells, top and properties

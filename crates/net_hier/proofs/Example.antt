@@ -167,8 +167,8 @@ same_tied = record {
   same_name = refl;
   same_ports = refl;
   same_props = λ name value. (λ h. h, λ h. h);
-  same_port_props = λ place port twin e f.
-      let p : port ≡ twin = same_element tied_cell.ports place port twin e f in
+  same_port_props = λ place port counterpart e f.
+      let p : port ≡ counterpart = same_element tied_cell.ports place port counterpart e f in
       subst (λ w. SameValues port.props w.props) p (λ name value. (λ h. h, λ h. h));
   same_instances = λ place instance h. absurd (no_element [] place instance refl h);
   added = the_added;

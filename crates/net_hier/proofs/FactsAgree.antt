@@ -8,7 +8,7 @@ use Rattle.net_hier.specs.Paths.{Path, CellAt}
 use Rattle.net_hier.specs.SameCells.{SameCells}
 use Rattle.net_hier.specs.Valid.{HasPaths}
 use Rattle.net_hier.proofs.PathLaws.{element_there, one_cell, one_number, same_element}
-use Rattle.net_hier.proofs.Pairs.{face_there, lt_or_le, PairAt, behind_constant, constant_back, constant_forth, instance_back, instance_forth, leads_forth, pair_here, pair_of, pair_there, path_back, pin_back, pin_forth, port_bit_same}
+use Rattle.net_hier.proofs.Pairs.{signature_there, lt_or_le, PairAt, behind_constant, constant_back, constant_forth, instance_back, instance_forth, leads_forth, pair_here, pair_of, pair_there, path_back, pin_back, pin_forth, port_bit_same}
 use Rattle.net_hier.specs.declared.cells.HCell.{HCell}
 use Rattle.net_hier.specs.declared.cells.HInst.{HInst}
 use Rattle.net_hier.specs.Facts.{Fact, OfCell, OfPort, OfInstance, OfPortBit, OfPinBit, IsFact, IsConstantPath, CellFact, PortFact, InstanceFact, PortBitFact, PinBitFact, HasLastValue, cell_props}
@@ -74,27 +74,27 @@ module _ (names : ConstantNames) (design other : Design) (n : Option ℕ) (valid
   fact_forth (OfPort path port name value) h =
       let f : PortFact design path port name value = h.1 in
       let (partner, pair) = pair_of names design other n valid ovalid same path f.cell f.at in
-      let (twin, there, face) = face_there f.cell partner pair.same.same_ports f.number f.the_port f.is_there in
+      let (counterpart, there, signature) = signature_there f.cell partner pair.same.same_ports f.number f.the_port f.is_there in
       let has : PortFact other path port name value = record {
         cell = partner;
         at = pair_there pair;
         number = f.number;
-        the_port = twin;
+        the_port = counterpart;
         is_there = there;
-        is_named = ap (λ w. w.name) face ∙ f.is_named;
-        is_value = (pair.same.same_port_props f.number f.the_port twin f.is_there there name value).0 f.is_value;
+        is_named = ap (λ w. w.name) signature ∙ f.is_named;
+        is_value = (pair.same.same_port_props f.number f.the_port counterpart f.is_there there name value).0 f.is_value;
       } in
       (kept_forth path f.cell f.at h.0, has)
   fact_forth (OfInstance path instance name value) h =
       let f : InstanceFact names design path instance name value = h.1 in
       let (partner, pair) = pair_of names design other n valid ovalid same path f.cell f.at in
-      let (twin, there, si) = pair.same.same_instances f.number f.the_instance f.is_there in
+      let (counterpart, there, si) = pair.same.same_instances f.number f.the_instance f.is_there in
       let lt : f.number < length f.cell.instances = slice_get_within f.cell.instances f.number f.the_instance f.is_there in
       let has : InstanceFact names other path instance name value = record {
         cell = partner;
         at = pair_there pair;
         number = f.number;
-        the_instance = twin;
+        the_instance = counterpart;
         is_there = there;
         is_named = sym si.same_name ∙ f.is_named;
         no_constant = λ v c. f.no_constant v (instance_back names design other n valid ovalid same path f.cell partner pair v f.number lt c);
@@ -141,15 +141,15 @@ module _ (names : ConstantNames) (design other : Design) (n : Option ℕ) (valid
   fact_back (OfPort path port name value) h =
       let f : PortFact other path port name value = h.1 in
       let (cell, pair) = pair_back path f.cell f.at h.0 in
-      let (twin, there, face) = face_there f.cell cell (sym pair.same.same_ports) f.number f.the_port f.is_there in
+      let (counterpart, there, signature) = signature_there f.cell cell (sym pair.same.same_ports) f.number f.the_port f.is_there in
       let has : PortFact design path port name value = record {
         cell = cell;
         at = pair_here pair;
         number = f.number;
-        the_port = twin;
+        the_port = counterpart;
         is_there = there;
-        is_named = ap (λ w. w.name) face ∙ f.is_named;
-        is_value = (pair.same.same_port_props f.number twin f.the_port there f.is_there name value).1 f.is_value;
+        is_named = ap (λ w. w.name) signature ∙ f.is_named;
+        is_value = (pair.same.same_port_props f.number counterpart f.the_port there f.is_there name value).1 f.is_value;
       } in
       (kept_back path cell f.cell pair h.0, has)
   fact_back (OfInstance path instance name value) h =
@@ -157,8 +157,8 @@ module _ (names : ConstantNames) (design other : Design) (n : Option ℕ) (valid
       let (cell, pair) = pair_back path f.cell f.at h.0 in
       let lt : f.number < length cell.instances = not_added path cell f.cell pair f.number f.the_instance f.is_there f.no_constant in
       let (found, there) = element_there cell.instances f.number lt in
-      let (twin, tthere, si) = pair.same.same_instances f.number found there in
-      let e : twin ≡ f.the_instance = same_element f.cell.instances f.number twin f.the_instance tthere f.is_there in
+      let (counterpart, tthere, si) = pair.same.same_instances f.number found there in
+      let e : counterpart ≡ f.the_instance = same_element f.cell.instances f.number counterpart f.the_instance tthere f.is_there in
       let has : InstanceFact names design path instance name value = record {
         cell = cell;
         at = pair_here pair;

@@ -5,7 +5,7 @@ use Rattle.net_hier.specs.Constants.{ConstantNames, AreConstantNames}
 use Rattle.net_hier.specs.Design.{Design, IsCell}
 use Rattle.net_hier.specs.Paths.{Path, CellAt, HasInstance, LeadsTo}
 use Rattle.net_hier.specs.SameCells.{AddedAsNeeded, NeedsConstant, stand_or, IsPartner, SameCell, SameCells, SameInstance, stand_in}
-use Rattle.net_hier.specs.SameDesign.{SamePorts, face_of}
+use Rattle.net_hier.specs.SameDesign.{SamePorts, signature_of}
 use Rattle.net_hier.specs.Valid.{HasPaths}
 use Rattle.net_hier.proofs.PathLaws.{element_there, cell_there, one_cell, one_number, same_element}
 use Rattle.net_hier.specs.declared.cells.HCell.{HCell}
@@ -72,16 +72,16 @@ some_or_none (Some x) none = absurd (none x refl)
 some_or_none None none = refl
 
 -- ports
-pub face_there : (cell other : HCell) → SamePorts cell other → (place : ℕ) (port : HPort) → slice_get cell.ports place ≡ Some port →
-    (twin : HPort) × (slice_get other.ports place ≡ Some twin) × (face_of twin ≡ face_of port)
-face_there cell other same place port there =
-    mapped_some face_of (slice_get other.ports place) (face_of port)
-    (sym (slice_get-map face_of other.ports place) ∙ (ap (λ fs. slice_get fs place) (sym same) ∙ (slice_get-map face_of cell.ports place ∙ ap (option_map face_of) there)))
+pub signature_there : (cell other : HCell) → SamePorts cell other → (place : ℕ) (port : HPort) → slice_get cell.ports place ≡ Some port →
+    (counterpart : HPort) × (slice_get other.ports place ≡ Some counterpart) × (signature_of counterpart ≡ signature_of port)
+signature_there cell other same place port there =
+    mapped_some signature_of (slice_get other.ports place) (signature_of port)
+    (sym (slice_get-map signature_of other.ports place) ∙ (ap (λ fs. slice_get fs place) (sym same) ∙ (slice_get-map signature_of cell.ports place ∙ ap (option_map signature_of) there)))
 
 pub port_bit_same : (cell other : HCell) → SamePorts cell other → (port bit : ℕ) → IsPortBit cell port bit → IsPortBit other port bit
 port_bit_same cell other same port bit h =
-    let (twin, there, face) = face_there cell other same port h.the_port h.is_there in
-    record { the_port = twin; is_there = there; within = subst (λ f. bit < width_of f.range) (sym face) h.within }
+    let (counterpart, there, signature) = signature_there cell other same port h.the_port h.is_there in
+    record { the_port = counterpart; is_there = there; within = subst (λ f. bit < width_of f.range) (sym signature) h.within }
 
 -- the only bit of a constant cell
 pub constant_bit_there : (names : ConstantNames) (value : Bool) (cell : HCell) → IsConstantCell names value cell → IsPortBit cell 0 0
@@ -174,7 +174,7 @@ module _ (names : ConstantNames) (design other : Design) (n : Option ℕ) where
       let c : IsConstantInstance names other.cells partner v place = (same.added_after v place e).1 in no_element partner.instances place c.the_instance leaf.no_instances c.is_there) in
       record {
         no_instances = empty_list cell.instances (λ i lt. let (x, there) = element_there cell.instances i lt in
-            let (twin, tthere, s) = same.same_instances i x there in no_element partner.instances i twin leaf.no_instances tthere);
+            let (counterpart, tthere, s) = same.same_instances i x there in no_element partner.instances i counterpart leaf.no_instances tthere);
         apart = λ x y hx hy link.
             leaf.apart x y (same_bit cell partner same.same_ports x hx) (same_bit cell partner same.same_ports y hy)
             (subst₂ (IsLocallyConnected partner) (stands_itself same.added none x) (stands_itself same.added none y)
@@ -183,50 +183,50 @@ module _ (names : ConstantNames) (design other : Design) (n : Option ℕ) where
 
   pub constant_forth : (number onumber : ℕ) (cell partner : HCell) (value : Bool) → SameCell names design other n number onumber cell partner → IsConstantCell names value cell → IsConstantCell names value partner
   constant_forth number onumber cell partner value same c =
-      let (twin, only, face) = one_of_map face_of partner.ports (face_of c.port) (sym same.same_ports ∙ ap (map face_of) c.only_port) in
+      let (counterpart, only, signature) = one_of_map signature_of partner.ports (signature_of c.port) (sym same.same_ports ∙ ap (map signature_of) c.only_port) in
       record {
         is_leaf = leaf_forth number onumber cell partner same c.is_leaf;
         is_named = sym same.same_name ∙ c.is_named;
-        port = twin;
+        port = counterpart;
         only_port = only;
-        port_named = ap (λ f. f.name) face ∙ c.port_named;
-        is_scalar = ap (λ f. f.range) face ∙ c.is_scalar;
-        is_output = ap (λ f. f.dir) face ∙ c.is_output;
+        port_named = ap (λ f. f.name) signature ∙ c.port_named;
+        is_scalar = ap (λ f. f.range) signature ∙ c.is_scalar;
+        is_output = ap (λ f. f.dir) signature ∙ c.is_output;
       }
 
   pub constant_back : (number onumber : ℕ) (cell partner : HCell) (value : Bool) → SameCell names design other n number onumber cell partner → IsConstantCell names value partner → IsConstantCell names value cell
   constant_back number onumber cell partner value same c =
-      let (twin, only, face) = one_of_map face_of cell.ports (face_of c.port) (same.same_ports ∙ ap (map face_of) c.only_port) in
+      let (counterpart, only, signature) = one_of_map signature_of cell.ports (signature_of c.port) (same.same_ports ∙ ap (map signature_of) c.only_port) in
       record {
         is_leaf = leaf_back number onumber cell partner same c.is_leaf;
         is_named = same.same_name ∙ c.is_named;
-        port = twin;
+        port = counterpart;
         only_port = only;
-        port_named = ap (λ f. f.name) face ∙ c.port_named;
-        is_scalar = ap (λ f. f.range) face ∙ c.is_scalar;
-        is_output = ap (λ f. f.dir) face ∙ c.is_output;
+        port_named = ap (λ f. f.name) signature ∙ c.port_named;
+        is_scalar = ap (λ f. f.range) signature ∙ c.is_scalar;
+        is_output = ap (λ f. f.dir) signature ∙ c.is_output;
       }
 
 -- paths
 module _ (names : ConstantNames) (design other : Design) (n : Option ℕ) (valid : HasPaths design) (ovalid : HasPaths other) (same : SameCells names design other n) where
   -- an instance has a partner, and their cells are partners
   pub record BelowPair (cell partner : HCell) (place : ℕ) (instance : HInst) : Type 0 where
-    pub twin : HInst
-    pub twin_there : slice_get partner.instances place ≡ Some twin
-    pub same_instance : SameInstance design n instance twin
+    pub counterpart : HInst
+    pub counterpart_there : slice_get partner.instances place ≡ Some counterpart
+    pub same_instance : SameInstance design n instance counterpart
     pub below : HCell
     pub is_below : IsCell design.cells instance.cell below
     pub obelow : HCell
-    pub is_obelow : IsCell other.cells twin.cell obelow
-    pub same_below : SameCell names design other n instance.cell twin.cell below obelow
+    pub is_obelow : IsCell other.cells counterpart.cell obelow
+    pub same_below : SameCell names design other n instance.cell counterpart.cell below obelow
 
   pub below_pair : (number onumber : ℕ) (cell partner : HCell) → IsCell design.cells number cell → SameCell names design other n number onumber cell partner →
       (place : ℕ) (instance : HInst) → slice_get cell.instances place ≡ Some instance → BelowPair cell partner place instance
   below_pair number onumber cell partner is_cell sc place instance there =
-      let (twin, twin_there, si) = sc.same_instances place instance there in
+      let (counterpart, counterpart_there, si) = sc.same_instances place instance there in
       let (below, is_below) = element_there design.cells instance.cell (valid.instances_in_range number cell is_cell place instance there) in
-      let (obelow, is_obelow, sb) = same.same_cells instance.cell twin.cell below si.same_cell is_below in
-      record { twin = twin; twin_there = twin_there; same_instance = si; below = below; is_below = is_below; obelow = obelow; is_obelow = is_obelow; same_below = sb }
+      let (obelow, is_obelow, sb) = same.same_cells instance.cell counterpart.cell below si.same_cell is_below in
+      record { counterpart = counterpart; counterpart_there = counterpart_there; same_instance = si; below = below; is_below = is_below; obelow = obelow; is_obelow = is_obelow; same_below = sb }
 
   pub leads_forth : (path : Path) (number : ℕ) → LeadsTo design.cells design.top path number → (onumber : ℕ) × LeadsTo other.cells other.top path onumber × IsPartner design n number onumber
   leads_forth [] number leads = (other.top, refl, subst (λ m. IsPartner design n m other.top) (sym leads) same.same_top)
@@ -234,9 +234,9 @@ module _ (names : ConstantNames) (design other : Design) (n : Option ℕ) (valid
       let i : HasInstance design.cells leads.0 name number = leads.2 in
       let (oouter, oleads, partners) = leads_forth path leads.0 leads.1 in
       let (partner, is_ocell, sc) = same.same_cells leads.0 oouter i.cell partners i.is_cell in
-      let (twin, there, si) = sc.same_instances i.number i.instance i.is_there in
-      let has : HasInstance other.cells oouter name twin.cell = record { cell = partner; is_cell = is_ocell; number = i.number; instance = twin; is_there = there; is_named = sym si.same_name ∙ i.is_named; is_of = refl } in
-      (twin.cell, (oouter, oleads, has), subst (λ m. IsPartner design n m twin.cell) i.is_of si.same_cell)
+      let (counterpart, there, si) = sc.same_instances i.number i.instance i.is_there in
+      let has : HasInstance other.cells oouter name counterpart.cell = record { cell = partner; is_cell = is_ocell; number = i.number; instance = counterpart; is_there = there; is_named = sym si.same_name ∙ i.is_named; is_of = refl } in
+      (counterpart.cell, (oouter, oleads, has), subst (λ m. IsPartner design n m counterpart.cell) i.is_of si.same_cell)
 
   pub pair_of : (path : Path) (cell : HCell) → CellAt design path cell → (partner : HCell) × PairAt names design other n path cell partner
   pair_of path cell at =
@@ -250,26 +250,26 @@ module _ (names : ConstantNames) (design other : Design) (n : Option ℕ) (valid
       let b : BelowPair cell partner instance h.the_instance = below_pair pair.number pair.onumber cell partner pair.is_cell pair.same instance h.the_instance h.is_there in
       let e : h.below ≡ b.below = same_element design.cells h.the_instance.cell h.below b.below h.is_below b.is_below in
       record {
-        the_instance = b.twin;
-        is_there = b.twin_there;
+        the_instance = b.counterpart;
+        is_there = b.counterpart_there;
         below = b.obelow;
         is_below = b.is_obelow;
         is_bit = port_bit_same b.below b.obelow b.same_below.same_ports port bit (subst (λ c. IsPortBit c port bit) e h.is_bit);
       }
 
-  pub pin_name : (path : Path) (cell partner : HCell) → PairAt names design other n path cell partner → (place : ℕ) (instance twin : HInst) → slice_get cell.instances place ≡ Some instance → slice_get partner.instances place ≡ Some twin →
-      twin.name ≡ instance.name
-  pin_name path cell partner pair place instance twin there tthere =
+  pub pin_name : (path : Path) (cell partner : HCell) → PairAt names design other n path cell partner → (place : ℕ) (instance counterpart : HInst) → slice_get cell.instances place ≡ Some instance → slice_get partner.instances place ≡ Some counterpart →
+      counterpart.name ≡ instance.name
+  pin_name path cell partner pair place instance counterpart there tthere =
       let (found, fthere, si) = pair.same.same_instances place instance there in
-      ap (λ i. i.name) (same_element partner.instances place twin found tthere fthere) ∙ sym si.same_name
+      ap (λ i. i.name) (same_element partner.instances place counterpart found tthere fthere) ∙ sym si.same_name
 
   pub pin_back : (path : Path) (cell partner : HCell) → PairAt names design other n path cell partner → (instance port bit : ℕ) → instance < length cell.instances →
       IsPinBit other.cells partner instance port bit → IsPinBit design.cells cell instance port bit
   pin_back path cell partner pair instance port bit lt h =
       let (x, there) = element_there cell.instances instance lt in
       let b : BelowPair cell partner instance x = below_pair pair.number pair.onumber cell partner pair.is_cell pair.same instance x there in
-      let p : h.the_instance ≡ b.twin = same_element partner.instances instance h.the_instance b.twin h.is_there b.twin_there in
-      let e : h.below ≡ b.obelow = same_element other.cells b.twin.cell h.below b.obelow (subst (λ i. IsCell other.cells i.cell h.below) p h.is_below) b.is_obelow in
+      let p : h.the_instance ≡ b.counterpart = same_element partner.instances instance h.the_instance b.counterpart h.is_there b.counterpart_there in
+      let e : h.below ≡ b.obelow = same_element other.cells b.counterpart.cell h.below b.obelow (subst (λ i. IsCell other.cells i.cell h.below) p h.is_below) b.is_obelow in
       record {
         the_instance = x;
         is_there = there;
@@ -283,11 +283,11 @@ module _ (names : ConstantNames) (design other : Design) (n : Option ℕ) (valid
       let b : BelowPair cell partner instance h.the_instance = below_pair pair.number pair.onumber cell partner pair.is_cell pair.same instance h.the_instance h.is_there in
       let e : h.below ≡ b.below = same_element design.cells h.the_instance.cell h.below b.below h.is_below b.is_below in
       record {
-        the_instance = b.twin;
-        is_there = b.twin_there;
+        the_instance = b.counterpart;
+        is_there = b.counterpart_there;
         below = b.obelow;
         is_below = b.is_obelow;
-        is_constant = constant_forth names design other n h.the_instance.cell b.twin.cell b.below b.obelow value b.same_below (subst (IsConstantCell names value) e h.is_constant);
+        is_constant = constant_forth names design other n h.the_instance.cell b.counterpart.cell b.below b.obelow value b.same_below (subst (IsConstantCell names value) e h.is_constant);
       }
 
   pub instance_back : (path : Path) (cell partner : HCell) → PairAt names design other n path cell partner → (value : Bool) (instance : ℕ) → instance < length cell.instances →
@@ -295,14 +295,14 @@ module _ (names : ConstantNames) (design other : Design) (n : Option ℕ) (valid
   instance_back path cell partner pair value instance lt h =
       let (x, there) = element_there cell.instances instance lt in
       let b : BelowPair cell partner instance x = below_pair pair.number pair.onumber cell partner pair.is_cell pair.same instance x there in
-      let p : h.the_instance ≡ b.twin = same_element partner.instances instance h.the_instance b.twin h.is_there b.twin_there in
-      let e : h.below ≡ b.obelow = same_element other.cells b.twin.cell h.below b.obelow (subst (λ i. IsCell other.cells i.cell h.below) p h.is_below) b.is_obelow in
+      let p : h.the_instance ≡ b.counterpart = same_element partner.instances instance h.the_instance b.counterpart h.is_there b.counterpart_there in
+      let e : h.below ≡ b.obelow = same_element other.cells b.counterpart.cell h.below b.obelow (subst (λ i. IsCell other.cells i.cell h.below) p h.is_below) b.is_obelow in
       record {
         the_instance = x;
         is_there = there;
         below = b.below;
         is_below = b.is_below;
-        is_constant = constant_back names design other n x.cell b.twin.cell b.below b.obelow value b.same_below (subst (IsConstantCell names value) e h.is_constant);
+        is_constant = constant_back names design other n x.cell b.counterpart.cell b.below b.obelow value b.same_below (subst (IsConstantCell names value) e h.is_constant);
       }
 
   -- the path of an added instance leads to a constant cell
@@ -325,8 +325,8 @@ module _ (names : ConstantNames) (design other : Design) (n : Option ℕ) (valid
       elim (lt_or_le i.number (length cell.instances)) [
         | inl lt ↦
             let (x, xthere) = element_there cell.instances i.number lt in
-            let (twin, tthere, si) = sc.same_instances i.number x xthere in
-            let p : twin ≡ i.instance = same_element partner.instances i.number twin i.instance tthere there in
+            let (counterpart, tthere, si) = sc.same_instances i.number x xthere in
+            let p : counterpart ≡ i.instance = same_element partner.instances i.number counterpart i.instance tthere there in
             let has : HasInstance design.cells number name x.cell = record { cell = cell; is_cell = is_cell; number = i.number; instance = x; is_there = xthere; is_named = si.same_name ∙ (ap (λ w. w.name) p ∙ i.is_named); is_of = refl } in
             inl (x.cell, (number, leads, has), subst (λ m. IsPartner design n x.cell m) (ap (λ w. w.cell) p ∙ i.is_of) si.same_cell)
         | inr le ↦
@@ -374,8 +374,8 @@ module _ (names : ConstantNames) (design other : Design) (n : Option ℕ) (valid
       let e : leads.0 ≡ behind.pair.number = one_number design valid behind.above leads.0 behind.pair.number leads.1 behind.pair.leads in
       let c : i.cell ≡ behind.cell = same_element design.cells behind.pair.number i.cell behind.cell (subst (λ m. IsCell design.cells m i.cell) e i.is_cell) behind.pair.is_cell in
       let there : slice_get behind.cell.instances i.number ≡ Some i.instance = subst (λ w. slice_get w.instances i.number ≡ Some i.instance) c i.is_there in
-      let (twin, tthere, si) = behind.pair.same.same_instances i.number i.instance there in
-      let p : i.number ≡ behind.place = ovalid.own_instances behind.pair.onumber behind.partner behind.pair.is_ocell i.number behind.place twin behind.instance tthere behind.is_there (sym si.same_name ∙ i.is_named) in
+      let (counterpart, tthere, si) = behind.pair.same.same_instances i.number i.instance there in
+      let p : i.number ≡ behind.place = ovalid.own_instances behind.pair.onumber behind.partner behind.pair.is_ocell i.number behind.place counterpart behind.instance tthere behind.is_there (sym si.same_name ∙ i.is_named) in
       let after : length behind.cell.instances ≤ behind.place = (behind.pair.same.added_after behind.value behind.place behind.is_added).0 in
       let within : i.number < length behind.cell.instances = slice_get_within behind.cell.instances i.number i.instance there in
       omega arith

@@ -1,13 +1,13 @@
 -- The other of two designs that are the same cell by cell has a cell for each path, where its instances have names of their own.
-use Rattle.std.proofs.Common.{◌≡◌, ℕ, zero, suc, ◌+◌, ◌-◌, ◌<◌, ◌≤◌, ◌⊎◌, inl, inr, List, [], ◌∷◌, ◌++◌, refl, sym, ◌∙◌, ap, subst, slice_get, Some, None, Option, length, Bool, arith}
+use Rattle.std.proofs.Common.{◌≡◌, ℕ, ◌+◌, ◌-◌, ◌<◌, ◌≤◌, inl, inr, List, [], sym, ◌∙◌, ap, subst, slice_get, Some, None, Option, length, Bool, arith}
 use Rattle.std.proofs.lemmas.Option.{slice_get_within}
 use Rattle.net_graph.specs.Graph.{HasList, Visits, VisitsEach, again, first, none, next}
 use Rattle.net_graph.proofs.OrderLaws.{front_or_last}
 use Rattle.net_hier.specs.Cells.{IsConstantCell}
 use Rattle.net_hier.specs.Constants.{ConstantNames}
 use Rattle.net_hier.specs.Design.{Design, IsCell, cells_below}
-use Rattle.net_hier.specs.SameCells.{AddedAsNeeded, HasFirstCells, IsPartner, SameCell, SameCells, first_cells}
-use Rattle.net_hier.specs.Valid.{Each, HasPaths, HaveOwnInstances, HaveOwnNames, IsValid}
+use Rattle.net_hier.specs.SameCells.{HasFirstCells, IsPartner, SameCell, SameCells, first_cells}
+use Rattle.net_hier.specs.Valid.{Each, HasPaths, HaveOwnInstances, IsValid}
 use Rattle.net_hier.specs.declared.cells.HCell.{HCell}
 use Rattle.net_hier.specs.declared.cells.HInst.{HInst}
 use Rattle.net_hier.proofs.Building.{list_of}
@@ -83,23 +83,23 @@ module _ (names : ConstantNames) (design other : Design) (n : Option ℕ) (valid
   first_alone (Some m) h onumber cell is_ocell lt = h.1.first onumber cell lt is_ocell
 
   instance_within : (onumber : ℕ) (partner : HCell) → HasPartner onumber partner → Each (λ instance. instance.cell < length other.cells) partner.instances
-  instance_within onumber partner h place twin there = elim (lt_or_le place (length h.cell.instances)) [
+  instance_within onumber partner h place counterpart there = elim (lt_or_le place (length h.cell.instances)) [
     | inl lt ↦
         let (x, xthere) = element_there h.cell.instances place lt in
         let (found, fthere, si) = h.same_cell.same_instances place x xthere in
-        let e : found ≡ twin = same_element partner.instances place found twin fthere there in
+        let e : found ≡ counterpart = same_element partner.instances place found counterpart fthere there in
         subst (λ i. i.cell < length other.cells) e (partner_within x.cell found.cell si.same_cell)
     | inr le ↦
-        let (v, added) = h.same_cell.added_alone place le (slice_get_within partner.instances place twin there) in
+        let (v, added) = h.same_cell.added_alone place le (slice_get_within partner.instances place counterpart there) in
         let c = (h.same_cell.added_after v place added).1 in
-        let e : c.the_instance ≡ twin = same_element partner.instances place c.the_instance twin c.is_there there in
+        let e : c.the_instance ≡ counterpart = same_element partner.instances place c.the_instance counterpart c.is_there there in
         subst (λ i. i.cell < length other.cells) e (slice_get_within other.cells c.the_instance.cell c.below c.is_below)
   ]
 
   in_range : (onumber : ℕ) (cell : HCell) → IsCell other.cells onumber cell → Each (λ instance. instance.cell < length other.cells) cell.instances
-  in_range onumber cell is_ocell place twin there = elim (lt_or_le onumber (first_cells n)) [
-    | inl lt ↦ let c = first_alone n same.first onumber cell is_ocell lt in absurd (no_element cell.instances place twin c.1.is_leaf.no_instances there)
-    | inr le ↦ instance_within onumber cell (partner_of onumber cell is_ocell le) place twin there
+  in_range onumber cell is_ocell place counterpart there = elim (lt_or_le onumber (first_cells n)) [
+    | inl lt ↦ let c = first_alone n same.first onumber cell is_ocell lt in absurd (no_element cell.instances place counterpart c.1.is_leaf.no_instances there)
+    | inr le ↦ instance_within onumber cell (partner_of onumber cell is_ocell le) place counterpart there
   ]
 
   -- the other design has paths, where its instances have names of their own
@@ -108,16 +108,16 @@ module _ (names : ConstantNames) (design other : Design) (n : Option ℕ) (valid
 
 module _ (names : ConstantNames) (design other : Design) (valid : IsValid design) (same : SameCells names design other None) where
   -- where no instance is added the names of the instances are those of the design
-  not_added : (onumber : ℕ) (partner : HCell) (h : HasPartner names design other None valid same onumber partner) (place : ℕ) (twin : HInst) → slice_get partner.instances place ≡ Some twin →
-      (x : HInst) × (slice_get h.cell.instances place ≡ Some x) × (x.name ≡ twin.name)
-  not_added onumber partner h place twin there = elim (lt_or_le place (length h.cell.instances)) [
+  not_added : (onumber : ℕ) (partner : HCell) (h : HasPartner names design other None valid same onumber partner) (place : ℕ) (counterpart : HInst) → slice_get partner.instances place ≡ Some counterpart →
+      (x : HInst) × (slice_get h.cell.instances place ≡ Some x) × (x.name ≡ counterpart.name)
+  not_added onumber partner h place counterpart there = elim (lt_or_le place (length h.cell.instances)) [
     | inl lt ↦
         let (x, xthere) = element_there h.cell.instances place lt in
         let (found, fthere, si) = h.same_cell.same_instances place x xthere in
-        let e : found ≡ twin = same_element partner.instances place found twin fthere there in
+        let e : found ≡ counterpart = same_element partner.instances place found counterpart fthere there in
         (x, xthere, si.same_name ∙ ap (λ i. i.name) e)
     | inr le ↦
-        let (v, added) = h.same_cell.added_alone place le (slice_get_within partner.instances place twin there) in
+        let (v, added) = h.same_cell.added_alone place le (slice_get_within partner.instances place counterpart there) in
         let e : h.same_cell.added v ≡ None = h.same_cell.as_needed v in
         absurd (let clash : None ≡ Some place = sym e ∙ added in cc)
   ]

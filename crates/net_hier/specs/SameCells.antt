@@ -46,18 +46,18 @@ AddedAsNeeded None cells cell added = (value : Bool) → added value ≡ None
 AddedAsNeeded (Some n) cells cell added = (value : Bool) → IsSome (added value) ↔ NeedsConstant cells cell value
 
 -- an instance and the one of the same place in the partner
-pub record SameInstance (design : Design) (n : Option ℕ) (instance twin : HInst) : Type 0 where
-  pub same_name : instance.name ≡ twin.name
-  pub same_cell : IsPartner design n instance.cell twin.cell
-  pub same_props : SameValues instance.props twin.props
+pub record SameInstance (design : Design) (n : Option ℕ) (instance counterpart : HInst) : Type 0 where
+  pub same_name : instance.name ≡ counterpart.name
+  pub same_cell : IsPartner design n instance.cell counterpart.cell
+  pub same_props : SameValues instance.props counterpart.props
 
 -- a cell and its partner agree
 pub record SameCell (names : ConstantNames) (design other : Design) (n : Option ℕ) (number onumber : ℕ) (cell partner : HCell) : Type 0 where
   pub same_name : cell.name ≡ partner.name
   pub same_ports : SamePorts cell partner
   pub same_props : SameValues (cell_props design number cell) (cell_props other onumber partner)
-  pub same_port_props : (place : ℕ) (port twin : HPort) → slice_get cell.ports place ≡ Some port → slice_get partner.ports place ≡ Some twin → SameValues port.props twin.props
-  pub same_instances : (place : ℕ) (instance : HInst) → slice_get cell.instances place ≡ Some instance → (twin : HInst) × (slice_get partner.instances place ≡ Some twin) × SameInstance design n instance twin
+  pub same_port_props : (place : ℕ) (port counterpart : HPort) → slice_get cell.ports place ≡ Some port → slice_get partner.ports place ≡ Some counterpart → SameValues port.props counterpart.props
+  pub same_instances : (place : ℕ) (instance : HInst) → slice_get cell.instances place ≡ Some instance → (counterpart : HInst) × (slice_get partner.instances place ≡ Some counterpart) × SameInstance design n instance counterpart
   -- the number of the partner's added instance for each constant
   pub added : Bool → Option ℕ
   pub as_needed : AddedAsNeeded n design.cells cell added

@@ -10,17 +10,17 @@ use Rattle.net_hier.specs.declared.cells.HCell.{HCell}
 use Rattle.net_hier.specs.declared.cells.HPort.{HPort}
 
 -- what two designs compare of a port
-pub record Face : Type 0 where
+pub record PortSignature : Type 0 where
   pub name : List ℕ
   pub range : Option Bounds
   pub dir : Dir
 
-abbrev pub face_of : HPort → Face
-face_of port = record { name = port.name; range = port.range; dir = port.dir }
+abbrev pub signature_of : HPort → PortSignature
+signature_of port = record { name = port.name; range = port.range; dir = port.dir }
 
 -- the ports of two cells are the same by name, range and direction
 abbrev pub SamePorts : HCell → HCell → Type 0
-SamePorts cell other = map face_of cell.ports ≡ map face_of other.ports
+SamePorts cell other = map signature_of cell.ports ≡ map signature_of other.ports
 
 -- the path leads to a leaf of this name that is no constant cell
 pub record HasLeaf (names : ConstantNames) (design : Design) (path : Path) (name : List ℕ) : Type 0 where

@@ -17,7 +17,7 @@ use Rattle.netlist_cli.specs.Statuses.{status_of}
 use Rattle.netlist_cli.specs.Lines.{line}
 use Rattle.netlist_cli.specs.Outcomes.{Meaning, Verdict, fine, breaks, breaks_of_tool, exceeds, exceeds_flat, Outcome, faulty, too_long, judged, status_due, IsWriting, Says, Gives}
 use Rattle.netlist_cli.specs.Meanings.{meaning_of}
-use Rattle.netlist_cli.specs.Runs.{PutsText, WroteText, BrokeOff, EndsUnread, HasFewCells, IsCause, Fails, IsTold, LeavesInput, ReadsNothing, TakesFrom, TellsFailure, FitsBytes, IsDecided, Does, DoesAsked, Performs}
+use Rattle.netlist_cli.specs.Runs.{PutsText, WroteText, BrokeOff, EndsUnread, HasFewCells, IsCause, Fails, IsTold, LeavesInput, ReadsNothing, TakesFrom, TellsFailure, FitsBytes, IsDecided, Does, DoesWords, DoesCommand}
 use Rattle.netlist_cli.proofs.Told.{if_told, any_told}
 use Rattle.netlist_cli.proofs.Results.{IsSettled, settled_of, one_outcome}
 
@@ -236,11 +236,11 @@ module _ {S O : Type 0} (supply : S → Supply) (receipt : O → Receipt) (words
   after = supply b
 
   abbrev performed : Option Command → Result (Unit {0}) Failure → Type 0
-  performed asked r = Performs receipt supply asked a b old new r
+  performed asked r = DoesCommand receipt supply asked a b old new r
 
   -- what was done for the words
-  abbrev pub does_asked : Result (Unit {0}) Failure → Type 0
-  does_asked r = DoesAsked receipt supply words a b old new r
+  abbrev pub does_words : Result (Unit {0}) Failure → Type 0
+  does_words r = DoesWords receipt supply words a b old new r
 
   no_command : IsNoCommand words → b ≡ a → new ≡ old → RunsTo supply receipt words a b old new statuses.Usage
   no_command none e d = record {
@@ -269,7 +269,7 @@ module _ {S O : Type 0} (supply : S → Supply) (receipt : O → Receipt) (words
   }
 
   -- the same for a status that is known to be the one of the answer
-  pub run_ends_as : (r : Result (Unit {0}) Failure) (status : Status) → does_asked r → status ≡ ending r → RunsTo supply receipt words a b old new status
+  pub run_ends_as : (r : Result (Unit {0}) Failure) (status : Status) → does_words r → status ≡ ending r → RunsTo supply receipt words a b old new status
   run_ends_as r status h e = subst (λ (z : Status). RunsTo supply receipt words a b old new z) (sym e) (run_ends h.asked r h.is_asked h.performed)
 
   fails : (asked : Option Command) (f : Failure) → IsAsked words asked → performed asked (Err f) → Fails words before after f
@@ -277,7 +277,7 @@ module _ {S O : Type 0} (supply : S → Supply) (receipt : O → Receipt) (words
   fails (Some c) f is h = record { usage = λ none. absurd (none c is); cause = for_command words c is _ (cause_so receipt (meaning_of c) before after old new f h.0) }
 
   -- a failure that was told has its cause
-  pub tells : {E : Type 0} (told_by : E → Receipt) (f : Failure) (status : Status) (eold enew : E) → does_asked (Err f) → status ≡ status_of f
+  pub tells : {E : Type 0} (told_by : E → Receipt) (f : Failure) (status : Status) (eold enew : E) → does_words (Err f) → status ≡ status_of f
       → IsTold told_by eold enew (line f) → TellsFailure told_by words before after eold enew status
   tells told_by f status eold enew h e told = record { failure = f; is_status = e; cause = fails h.asked f h.is_asked h.performed; told = told }
 

@@ -15,8 +15,8 @@ use Rattle.net_hier.specs.declared.cells.HProp.{HProp}
 use Rattle.to_spice_rules.proofs.One.{broken, one_refusal}
 use Rattle.to_verilog_rules.specs.Rules.{first_V}
 use Rattle.vlog_design.specs.Names.{Name}
-use Rattle.vlog_kept.proofs.Modules.{file_is_value}
-use Rattle.vlog_kept.proofs.SizeLaw.{file_within}
+use Rattle.vlog_bounds.proofs.Modules.{file_is_value}
+use Rattle.vlog_bounds.proofs.SizeLaw.{file_within}
 use Rattle.vlog_tokens.specs.Proper.{AreBytes}
 use Rattle.netlist_words.specs.declared.command.Command.{Command}
 use Rattle.netlist_words.specs.declared.command.Command.TheVariants as commands

@@ -133,12 +133,12 @@ IsFailureOf IsSaid failures.NoMemory = ⊤
 IsFailureOf IsSaid f = ⊥
 
 -- What is done for a command, if there is one.
-abbrev pub Performs : {S O : Type 0} → (O → Receipt) → (S → Supply) → Option Command → S → S → O → O → Result (Unit {0}) Failure → Type 0
-Performs receipt supply None a b old new result = (result ≡ Err failures.Usage) × (b ≡ a) × (new ≡ old)
-Performs receipt supply (Some c) a b old new result = Does receipt (meaning_of c) (supply a) (supply b) old new result × (ReadsNothing c → (b ≡ a) × EndsUnread result)
+abbrev pub DoesCommand : {S O : Type 0} → (O → Receipt) → (S → Supply) → Option Command → S → S → O → O → Result (Unit {0}) Failure → Type 0
+DoesCommand receipt supply None a b old new result = (result ≡ Err failures.Usage) × (b ≡ a) × (new ≡ old)
+DoesCommand receipt supply (Some c) a b old new result = Does receipt (meaning_of c) (supply a) (supply b) old new result × (ReadsNothing c → (b ≡ a) × EndsUnread result)
 
 -- What is done for the command that the words ask for, if any.
-pub record DoesAsked {S O : Type 0} (receipt : O → Receipt) (supply : S → Supply) (words : List (List ℕ)) (a b : S) (old new : O) (result : Result (Unit {0}) Failure) : Type 0 where
+pub record DoesWords {S O : Type 0} (receipt : O → Receipt) (supply : S → Supply) (words : List (List ℕ)) (a b : S) (old new : O) (result : Result (Unit {0}) Failure) : Type 0 where
   pub asked : Option Command
   pub is_asked : IsAsked words asked
-  pub performed : Performs receipt supply asked a b old new result
+  pub performed : DoesCommand receipt supply asked a b old new result

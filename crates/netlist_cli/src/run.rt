@@ -2,7 +2,7 @@ ghost use Rattle.std.specs.Prelude.{◌≡◌, ◌≢◌, ◌↔◌, Ok, Err, So
 ghost use Rattle.nl_io.specs.Causes.{Rose};
 ghost use Rattle.netlist_words.specs.Commands.{IfCommand, IsNoCommand};
 ghost use Rattle.netlist_cli.specs.Meanings.{meaning_of};
-ghost use Rattle.netlist_cli.specs.Runs.{BrokeOff, Does, DoesAsked, EndsUnread, FitsBytes, HasFewCells, IsDecided, LeavesInput, Performs, ReadsNothing, TakesFrom, TellsFailure, WroteText};
+ghost use Rattle.netlist_cli.specs.Runs.{BrokeOff, Does, DoesWords, EndsUnread, FitsBytes, HasFewCells, IsDecided, LeavesInput, DoesCommand, ReadsNothing, TakesFrom, TellsFailure, WroteText};
 
 use crate::checking::check;
 use crate::failure::Failure;
@@ -22,7 +22,7 @@ use nl_io::{Sink, Source};
 use std::alloc::Global;
 
 /// Carries out a command.
-fn carry_out<S: Source, O: Sink>(
+fn dispatch<S: Source, O: Sink>(
     alloc: Global,
     command: &Command,
     input: &mut S,
@@ -52,21 +52,21 @@ fn carry_out<S: Source, O: Sink>(
 }
 
 /// Carries out the command that is asked for, if there is one.
-fn carry_out_asked<S: Source, O: Sink>(
+fn dispatch_asked<S: Source, O: Sink>(
     alloc: Global,
     asked: &Option<Command>,
     input: &mut S,
     output: &mut O,
 ) -> Result<(), Failure>
     requires { IfSome asked.now HasFewCells }
-    ensures performs { Performs O.receipt (S.supply)
+    ensures performs { DoesCommand O.receipt (S.supply)
         asked.now input.old input.new output.old output.new result }
     ensures taken { TakesFrom
         (S.supply input.old) (S.supply input.new) }
 {
     match asked {
         Some(command) => {
-            let result = carry_out(alloc, command, input, output);
+            let result = dispatch(alloc, command, input, output);
             result
         }
         None => Err(Failure::Usage),
@@ -74,20 +74,20 @@ fn carry_out_asked<S: Source, O: Sink>(
 }
 
 /// Does what the words ask for.
-fn perform<S: Source, O: Sink>(
+fn do_words<S: Source, O: Sink>(
     alloc: Global,
     words: &Seq<Text>,
     input: &mut S,
     output: &mut O,
 ) -> Result<(), Failure>
-    ensures performs { DoesAsked O.receipt (S.supply)
+    ensures performs { DoesWords O.receipt (S.supply)
         words.now input.old input.new output.old output.new result }
     ensures taken { TakesFrom
         (S.supply input.old) (S.supply input.new) }
 {
     match Command::of(alloc, words) {
         Ok(asked) => {
-            let result = carry_out_asked(alloc, &asked, input, output);
+            let result = dispatch_asked(alloc, &asked, input, output);
             result
         }
         Err(_) => Err(Failure::NoMemory),
@@ -131,7 +131,7 @@ pub fn run<S: Source, O: Sink, E: Sink>(
         (λ bs. IsDecided (meaning_of c) bs
         (Rose (O.receipt output.old).faults (O.receipt output.new).faults) result)) }
 {
-    match perform(alloc, words, input, output) {
+    match do_words(alloc, words, input, output) {
         Ok(()) => Status::Done,
         Err(failure) => report(&failure, errors),
     }

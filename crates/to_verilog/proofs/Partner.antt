@@ -13,7 +13,7 @@ use Rattle.vlog_written.proofs.Members.{nothing_there}
 use Rattle.net_hier.specs.Cells.{IsBitOrConstant, IsPinBit, width_of}
 use Rattle.net_hier.specs.Design.{Design, IsCell}
 use Rattle.net_hier.specs.Facts.{HasLastValue, HasNetValue, SameValues, cell_props}
-use Rattle.net_hier.specs.SameDesign.{face_of}
+use Rattle.net_hier.specs.SameDesign.{signature_of}
 use Rattle.net_hier.specs.Valid.{IsGoodCell, IsNode, IsValid}
 use Rattle.net_hier.specs.declared.cells.HCell.{HCell}
 use Rattle.net_hier.specs.declared.cells.HInst.{HInst}
@@ -28,7 +28,7 @@ use Rattle.to_verilog_props.specs.Written.{given_params}
 use Rattle.to_verilog_props.proofs.Meanings.{attributes_keep, given_keep, given_once}
 use Rattle.vlog_design.specs.Design.{attr_props}
 use Rattle.vlog_design.specs.Names.{Name}
-use Rattle.vlog_partners.specs.Partners.{AreSides, HasAssignOf, HasWire, IsHubAssign, IsInstanceFor, IsModuleFor, IsPinOf, IsWritten, each_hub, face_of_plain, no_hub, one_hub}
+use Rattle.vlog_partners.specs.Partners.{AreSides, HasAssignOf, HasWire, IsHubAssign, IsInstanceFor, IsModuleFor, IsPinOf, IsWritten, each_hub, signature_of_plain, no_hub, one_hub}
 use Rattle.vlog_partners.proofs.Lists.{distinct_both, distinct_names, none_shared, own_names}
 use Rattle.vlog_plain.specs.Plain.{IsNodeExpr}
 use Rattle.vlog_values.specs.declared.expression.Expr.{Expr}
@@ -310,7 +310,7 @@ module _ (design : Design) (params : NameSet) (number : ℕ) (cell : HCell) (val
   pub is_for : IsModuleFor design number cell p
   is_for = record {
     same_name = refl;
-    same_ports = sym (same_names plain_port face_of_plain face_of (λ port. refl) cell.ports);
+    same_ports = sym (same_names plain_port signature_of_plain signature_of (λ port. refl) cell.ports);
     same_port_props = port_values;
     same_props = attributes_keep (cell_props design number cell);
     distinct = are_distinct;

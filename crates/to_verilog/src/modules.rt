@@ -16,7 +16,7 @@ use net_hier::{HCell, Hier};
 use net_live::add_props;
 use nl_base::{NoMemory, Seq, Text};
 use std::alloc::Global;
-use to_verilog_items::{add_assigns, add_instances, header_of};
+use to_verilog_items::{header_of, push_assigns, push_instances};
 use to_verilog_props::attrs_of;
 use to_verilog_wires::Wiring;
 use vlog_values::{Attr, ItemV, Module};
@@ -54,8 +54,8 @@ fn items_over(
         ++ map instance_item (instances_of cells.now cell.now wiring.now params.now)) }
 {
     let mut items = decls;
-    add_assigns(alloc, cell.ports.items(), wiring, &mut items)?;
-    add_instances(alloc, cells, cell, wiring, params, &mut items)?;
+    push_assigns(alloc, cell.ports.items(), wiring, &mut items)?;
+    push_instances(alloc, cells, cell, wiring, params, &mut items)?;
     Ok(items)
 }
 

@@ -159,7 +159,7 @@ fn is_open(groups: &Groups, pin: &Node) -> bool
 }
 
 /// Adds the bits of the port of an instance, of so many bits, that are in no class that is written.
-fn add_open_pins(
+fn push_open_pins(
     groups: &Groups,
     instance: u32,
     port: u32,
@@ -183,7 +183,7 @@ fn add_open_pins(
 }
 
 /// Adds the bits of the port of an instance that are in no class that is written.
-fn add_open_bits(
+fn push_open_bits(
     hier: &Hier,
     cell: &HCell,
     groups: &Groups,
@@ -196,7 +196,7 @@ fn add_open_bits(
     match *port {
         Node::Pin { instance, port, .. } => {
             let width = pin_width(hier, cell, instance, port);
-            add_open_pins(groups, instance, port, width, roots)?;
+            push_open_pins(groups, instance, port, width, roots)?;
             Ok(())
         }
         Node::Port { .. } => Ok(()),
@@ -221,7 +221,7 @@ fn first_written(groups: &Groups, class: u32) -> Option<Node>
 }
 
 /// Adds the first node of each class that is written.
-fn add_first_members(groups: &Groups, roots: &mut Vec<Node>) -> Result<(), NoMemory>
+fn push_first_members(groups: &Groups, roots: &mut Vec<Node>) -> Result<(), NoMemory>
     ensures added { OnOk result (roots.new.items ≡ roots.old.items ++ first_members groups.now) }
 {
     for class in 0..groups.count() {
@@ -246,10 +246,10 @@ pub fn roots_of(
         (root_list hier.now.cells cell.now groups.now ports.now.keys) roots.items) }
 {
     let mut roots = Vec::new(alloc);
-    add_first_members(groups, &mut roots)?;
+    push_first_members(groups, &mut roots)?;
     for number in 0..ports.len() {
         if let Some(port) = ports.get_index(number) {
-            add_open_bits(hier, cell, groups, port, &mut roots)?;
+            push_open_bits(hier, cell, groups, port, &mut roots)?;
         }
     }
     roots.sort()?;

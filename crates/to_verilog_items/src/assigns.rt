@@ -164,7 +164,7 @@ fn assign_item(alloc: Global, set: Assignment) -> Result<ItemV, NoMemory>
 }
 
 /// Adds the assign of a node with a hub.
-fn add_assign(
+fn push_assign(
     alloc: Global,
     ports: &[HPort],
     wiring: &Wiring,
@@ -186,7 +186,7 @@ fn add_assign(
 }
 
 /// Adds the assigns of nodes.
-fn add_assigns_among(
+fn push_assigns_among(
     alloc: Global,
     ports: &[HPort],
     wiring: &Wiring,
@@ -197,13 +197,13 @@ fn add_assigns_among(
         ++ map assign_item (assigns_among ports.now wiring.now nodes.now)) }
 {
     for node in nodes {
-        add_assign(alloc, ports, wiring, node, items)?;
+        push_assign(alloc, ports, wiring, node, items)?;
     }
     Ok(())
 }
 
 /// Adds the assigns of a class, where that is written.
-fn add_class(
+fn push_class(
     alloc: Global,
     ports: &[HPort],
     wiring: &Wiring,
@@ -216,14 +216,14 @@ fn add_class(
 {
     let groups = wiring.groups();
     if groups.is_live(class) {
-        add_assigns_among(alloc, ports, wiring, groups.members(class), items)?;
+        push_assigns_among(alloc, ports, wiring, groups.members(class), items)?;
         return Ok(());
     }
     Ok(())
 }
 
 /// Adds the assigns of the classes that are written.
-pub fn add_assigns(
+pub fn push_assigns(
     alloc: Global,
     ports: &[HPort],
     wiring: &Wiring,
@@ -233,7 +233,7 @@ pub fn add_assigns(
         ++ map assign_item (assigns_of ports.now wiring.now)) }
 {
     for class in 0..wiring.groups().count() {
-        add_class(alloc, ports, wiring, class, items)?;
+        push_class(alloc, ports, wiring, class, items)?;
     }
     Ok(())
 }

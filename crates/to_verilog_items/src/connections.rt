@@ -30,7 +30,7 @@ fn pin_expr(
 }
 
 /// Adds what stands for a pin bit.
-fn add_pin(
+fn push_pin(
     alloc: Global,
     ports: &[HPort],
     wiring: &Wiring,
@@ -69,7 +69,7 @@ fn pin_exprs(
             port,
             bit,
         };
-        add_pin(alloc, ports, wiring, &pin, &mut exprs)?;
+        push_pin(alloc, ports, wiring, &pin, &mut exprs)?;
     }
     Ok(exprs)
 }

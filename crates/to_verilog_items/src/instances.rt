@@ -81,7 +81,7 @@ fn statement_of(
 }
 
 /// Adds the statements of the instances of a cell, one for each.
-pub fn add_instances(
+pub fn push_instances(
     alloc: Global,
     cells: &[HCell],
     cell: &HCell,

@@ -12,7 +12,7 @@ use net_hier::{HInst, HProp};
 use net_live::last_of;
 use nl_base::{NoMemory, PropValue};
 use std::alloc::Global;
-use vlog_design::names::Names as LentNames;
+use vlog_design::names::NameSet;
 use vlog_rules::lists::name_set;
 
 /// An instance and the name of one of its properties.
@@ -53,7 +53,7 @@ fn flags_named<'a>(
 }
 
 /// The first property whose name is one of these.
-fn prop_named<'a>(props: &'a [HProp], names: &LentNames) -> Option<&'a [u8]>
+fn prop_named<'a>(props: &'a [HProp], names: &NameSet) -> Option<&'a [u8]>
     ensures { option_copied result ≡ find (has_name names.now) (map (λ prop. prop.name) props.now) }
 {
     for prop in props {

@@ -7,7 +7,7 @@ ghost use Rattle.vlog_design.specs.Tables.{names_of};
 use net_hier::{HCell, HInst, HPort};
 use nl_base::NoMemory;
 use std::alloc::Global;
-use vlog_design::names::Names;
+use vlog_design::names::NameSet;
 use vlog_rules::lists::name_set;
 use vlog_rules::repeats::first_repeated;
 
@@ -46,7 +46,7 @@ pub fn cell_twice<'a>(alloc: Global, cells: &'a [HCell]) -> Result<Option<&'a [u
 }
 
 /// The first port whose name is one of these.
-fn port_named<'a>(ports: &'a [HPort], names: &Names) -> Option<&'a [u8]>
+fn port_named<'a>(ports: &'a [HPort], names: &NameSet) -> Option<&'a [u8]>
     ensures { option_copied result ≡ find (has_name names.now) (map (λ port. port.name) ports.now) }
 {
     for port in ports {

@@ -10,7 +10,7 @@ use Rattle.net_hier.specs.Cells.{width_of}
 use Rattle.net_hier.specs.declared.cells.HNet.{HNet}
 use Rattle.vlog_design.specs.Design.{attr_props, module_nets, net_name, wire_nets}
 use Rattle.vlog_design.specs.Names.{Name, Signal, Wire, decl_wires, has_name, implicit_names, net_decl, net_decls, net_signals, port_names, port_range, port_signals, signal_named, signals, wires}
-use Rattle.vlog_design.specs.declared.signals.Place.TheVariants.{AtPort, AtNet}
+use Rattle.vlog_design.specs.declared.signals.SignalAt.TheVariants.{AtPort, AtNet}
 use Rattle.vlog_values.specs.declared.declaration.NetDecl.{NetDecl}
 use Rattle.vlog_values.specs.declared.module.Module.{Module}
 use Rattle.vlog_rules.specs.Redeclared.{is_port}

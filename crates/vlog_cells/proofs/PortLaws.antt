@@ -10,7 +10,7 @@ use Rattle.vlog_design.specs.Design.{attr_props, attrs_if, attrs_in_header, attr
 use Rattle.vlog_design.specs.Names.{Name, Signal, declared_in_header, declared_in_item, declared_port, has_name, header_decls, net_signals, port_decl, port_decls, port_names, port_range, port_signals, signal_named, signals, wires}
 use Rattle.vlog_design.specs.Rules.{declared_twice}
 use Rattle.vlog_design.specs.declared.signals.Kind.TheVariants.{Direction, NetDeclaration}
-use Rattle.vlog_design.specs.declared.signals.Place.TheVariants.{AtPort}
+use Rattle.vlog_design.specs.declared.signals.SignalAt.TheVariants.{AtPort}
 use Rattle.vlog_values.specs.declared.expression.Attr.{Attr}
 use Rattle.vlog_values.specs.declared.declaration.PortDecl.{PortDecl}
 use Rattle.vlog_values.specs.declared.module.Header.{Header}

@@ -3,8 +3,8 @@ use Rattle.std.specs.Prelude.{ℕ, Bool, false, not, nat_le, List, [], ◌∷◌
 use Rattle.std.specs.Option.{option_map_or}
 use Rattle.net_hier.specs.declared.cells.HNet.{HNet}
 use Rattle.vlog_design.specs.Names.{Name, Signal, Wire, signal_named}
-use Rattle.vlog_design.specs.declared.signals.Place.{Place}
-use Rattle.vlog_design.specs.declared.signals.Place.TheVariants.{AtPort, AtNet}
+use Rattle.vlog_design.specs.declared.signals.SignalAt.{SignalAt}
+use Rattle.vlog_design.specs.declared.signals.SignalAt.TheVariants.{AtPort, AtNet}
 use Rattle.vlog_rules.specs.Redeclared.{is_port}
 use Rattle.vlog_values.specs.declared.declaration.NetDecl.{NetDecl}
 use Rattle.vlog_cells.specs.declared.nets.WireOf.{WireOf}
@@ -30,7 +30,7 @@ abbrev pub wires_in : List Signal → List NetDecl → List Wire
 wires_in table = flat_map (wires_by table)
 
 -- a net of this number or a later one
-abbrev pub is_late : ℕ → Place → Bool
+abbrev pub is_late : ℕ → SignalAt → Bool
 is_late from (AtPort number) = false
 is_late from (AtNet first) = nat_le from first
 

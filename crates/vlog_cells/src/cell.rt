@@ -15,14 +15,14 @@ use crate::properties::attrs_made;
 use net_hier::{HCell, HInst, Join};
 use nl_base::{NoMemory, Seq, Text};
 use std::alloc::Global;
-use vlog_design::names::Names;
+use vlog_design::names::NameSet;
 use vlog_rules::passes::ModuleScope;
 use vlog_ties::joins::joins_of;
 
 /// The instances of a cell.
 fn cell_instances(
     alloc: Global,
-    names: &Names,
+    names: &NameSet,
     scopes: &[ModuleScope],
     scope: &ModuleScope,
 ) -> Result<Seq<HInst>, NoMemory>
@@ -37,7 +37,7 @@ fn cell_instances(
 /// The joins of a cell.
 fn cell_joins(
     alloc: Global,
-    names: &Names,
+    names: &NameSet,
     scopes: &[ModuleScope],
     scope: &ModuleScope,
 ) -> Result<Seq<Join>, NoMemory>
@@ -55,7 +55,7 @@ fn cell_joins(
 #[tactic(auto, unfolding(vlog_design::specs::Design::module_cell))]
 pub fn cell_of(
     alloc: Global,
-    names: &Names,
+    names: &NameSet,
     scopes: &[ModuleScope],
     scope: &ModuleScope,
 ) -> Result<HCell, NoMemory>

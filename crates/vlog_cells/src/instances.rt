@@ -11,7 +11,7 @@ use crate::properties::{add_attrs, add_params, add_sets};
 use net_hier::{HInst, HProp};
 use nl_base::{NoMemory, Seq, Text};
 use std::alloc::Global;
-use vlog_design::names::Names;
+use vlog_design::names::NameSet;
 use vlog_values::{DefSet, Instances, ItemV, Module, VInst};
 
 /// Adds values by `defparam` under the names of their instances.
@@ -61,7 +61,7 @@ fn sets_in<'a>(alloc: Global, m: &'a Module) -> Result<Groups<'a, &'a DefSet>, N
 }
 
 /// The number of the name, or how many names there are where it is none of them.
-fn number_of(names: &Names, name: &[u8]) -> u32
+fn number_of(names: &NameSet, name: &[u8]) -> u32
     requires { length names.now < 2 ^ 32 }
     ensures { result ≡ position_or_len (bytes_eq name.now) names.now }
 {
@@ -131,7 +131,7 @@ fn add_statement(
 /// Adds the instances of an item.
 fn add_item(
     alloc: Global,
-    names: &Names,
+    names: &NameSet,
     found: &Groups<'_, &DefSet>,
     item: &ItemV,
     made: &mut Seq<HInst>,
@@ -156,7 +156,7 @@ fn add_item(
 /// Adds the instances of items.
 fn add_items(
     alloc: Global,
-    names: &Names,
+    names: &NameSet,
     found: &Groups<'_, &DefSet>,
     items: &[ItemV],
     made: &mut Seq<HInst>,
@@ -171,7 +171,7 @@ fn add_items(
 }
 
 /// The instances of a module. The names are those of the modules of the design.
-pub fn instances_made(alloc: Global, names: &Names, m: &Module) -> Result<Seq<HInst>, NoMemory>
+pub fn instances_made(alloc: Global, names: &NameSet, m: &Module) -> Result<Seq<HInst>, NoMemory>
     requires few { length names.now < 2 ^ 32 }
     ensures { IfOk result (λ made. (modules : List Module) → names.now ≡ map (λ m. m.name) modules → made ≡ module_instances modules m.now) }
 {

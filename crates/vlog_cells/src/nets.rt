@@ -10,7 +10,7 @@ use itoa::Buffer;
 use net_hier::HNet;
 use nl_base::{NoMemory, Range, Seq, Text};
 use std::alloc::Global;
-use vlog_design::signals::Place;
+use vlog_design::signals::SignalAt;
 use vlog_design::table::Table;
 use vlog_values::{Attr, ItemV, Module, NetDecl};
 
@@ -87,8 +87,8 @@ pub fn names_port(table: &Table, name: &[u8]) -> bool
     match table.find(name) {
         None => false,
         Some(slot) => match slot.place {
-            Place::AtPort(_) => true,
-            Place::AtNet(_) => false,
+            SignalAt::AtPort(_) => true,
+            SignalAt::AtNet(_) => false,
         },
     }
 }
@@ -153,12 +153,12 @@ fn add_items(
 }
 
 /// Whether this is a net of the given number or a later one.
-fn is_late(from: u64, place: Place) -> bool
+fn is_late(from: u64, place: SignalAt) -> bool
     ensures { result ≡ is_late from place }
 {
     match place {
-        Place::AtPort(_) => false,
-        Place::AtNet(first) => from <= first,
+        SignalAt::AtPort(_) => false,
+        SignalAt::AtNet(first) => from <= first,
     }
 }
 

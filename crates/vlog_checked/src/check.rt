@@ -14,7 +14,7 @@ use crate::modules::{file_names, first_in_file, first_in_reached};
 use crate::tables::{first_in_tables, scopes_of};
 use nl_base::{NoMemory, Refusal};
 use std::alloc::Global;
-use vlog_design::names::Names;
+use vlog_design::names::NameSet;
 use vlog_reach::reached_modules;
 use vlog_rules::library::ModulePorts;
 use vlog_rules::passes::ModuleScope;
@@ -27,7 +27,7 @@ use vlog_values::{Module, VlogFile};
 #[derive(Drop)]
 pub struct CleanModules<'a> {
     /// The names of the modules.
-    pub names: Names<'a>,
+    pub names: NameSet<'a>,
     /// The modules with the tables of their names.
     pub scopes: Vec<ModuleScope<'a>>,
     /// The number of the top.
@@ -46,7 +46,7 @@ pub enum Checked<'a> {
 }
 
 /// The number of the name, or how many names there are where it is none of them.
-fn number_in(names: &Names, name: &[u8]) -> u32
+fn number_in(names: &NameSet, name: &[u8]) -> u32
     requires { length names.now < 2 ^ 32 }
     ensures { result ≡ position_or_len (bytes_eq name.now) names.now }
 {

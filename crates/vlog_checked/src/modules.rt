@@ -6,7 +6,7 @@ ghost use Rattle.vlog_design.specs.Tables.{modules_of};
 
 use nl_base::{NoMemory, Refusal};
 use std::alloc::Global;
-use vlog_design::names::Names;
+use vlog_design::names::NameSet;
 use vlog_rules::module_rules::{DeclaredTwice, Directions};
 use vlog_rules::modules::{UnknownModules, module_twice, no_top};
 use vlog_rules::passes::{EachStatement, first_in_modules};
@@ -15,7 +15,7 @@ use vlog_scopes::lists::distinct;
 use vlog_values::{Module, VlogFile};
 
 /// The names of the modules of a file, which differ, in their order.
-pub(crate) fn file_names<'a>(alloc: Global, file: &'a VlogFile) -> Result<Names<'a>, NoMemory>
+pub(crate) fn file_names<'a>(alloc: Global, file: &'a VlogFile) -> Result<NameSet<'a>, NoMemory>
     requires { modules_twice file.now ≡ [] }
     ensures { IfOk result (λ names. names ≡ map (λ m. m.name) file.now.modules) }
 {
@@ -42,7 +42,7 @@ pub(crate) fn first_in_file(
 /// of all modules.
 pub(crate) fn first_in_reached(
     alloc: Global,
-    names: Names,
+    names: NameSet,
     all: &[Module],
     modules: &[&Module],
 ) -> Result<Option<Refusal>, NoMemory>

@@ -12,7 +12,7 @@ ghost use Rattle.vlog_values.specs.Sizes.{module_size};
 
 use nl_base::{NoMemory, Refusal};
 use std::alloc::Global;
-use vlog_design::names::Names;
+use vlog_design::names::NameSet;
 use vlog_rules::connections::{ExtraConnections, PortsTwice, UnknownPorts};
 use vlog_rules::library::ModulePorts;
 use vlog_rules::module_rules::{BadSelects, TooWide, UnknownInstances, UnknownNames};
@@ -124,7 +124,7 @@ fn first_in_widths(
 /// The first instance through which a module reaches itself, or else the first value that is given to an instance that is not there.
 fn first_in_instances(
     alloc: Global,
-    names: &Names,
+    names: &NameSet,
     modules: &[&Module],
     top: u32,
 ) -> Result<Option<Refusal>, NoMemory>

@@ -11,8 +11,8 @@ use Rattle.vlog_design.proofs.Steps.{done, flat_map_left, moved}
 use Rattle.vlog_design.specs.Exprs.{constant_bit, node_at, repeated, span_bits}
 use Rattle.vlog_design.specs.Runs.{ArePassed, IsRun, IsWithin, bits_behind, node_after, nodes_from, run_bits, runs_bits}
 use Rattle.vlog_design.specs.declared.runs.Run.{Run}
-use Rattle.vlog_design.specs.declared.signals.Place.{Place}
-use Rattle.vlog_design.specs.declared.signals.Place.TheVariants.{AtPort, AtNet}
+use Rattle.vlog_design.specs.declared.signals.SignalAt.{SignalAt}
+use Rattle.vlog_design.specs.declared.signals.SignalAt.TheVariants.{AtPort, AtNet}
 use Rattle.vlog_values.specs.declared.literal.Bit.{Bit}
 
 -- what is added
@@ -72,7 +72,7 @@ node_here (Net number) = let e : number + 0 ≡ number = omega arith in ap Net e
 node_here Zero = refl
 node_here One = refl
 
-next_at : (place : Place) (bit : ℕ) → node_after (node_at place bit) 1 ≡ node_at place (bit + 1)
+next_at : (place : SignalAt) (bit : ℕ) → node_after (node_at place bit) 1 ≡ node_at place (bit + 1)
 next_at (AtPort number) bit = refl
 next_at (AtNet first) bit = let e : first + bit + 1 ≡ first + (bit + 1) = omega arith in ap Net e
 
@@ -82,7 +82,7 @@ unfolding nodes_from
 without_nodes made first count e = sym (append-nil made) ∙ ap (λ n. made ++ nodes_from first n) (sym e)
 
 -- the bits of a span
-pub nodes_of_span : (place : Place) (first count : ℕ) → nodes_from (node_at place first) count ≡ span_bits place (record { first = first; count = count })
+pub nodes_of_span : (place : SignalAt) (first count : ℕ) → nodes_from (node_at place first) count ≡ span_bits place (record { first = first; count = count })
 unfolding nodes_from
 nodes_of_span place first zero = refl
 nodes_of_span place first (suc count) =

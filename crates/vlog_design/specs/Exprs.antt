@@ -6,8 +6,8 @@ use Rattle.net_hier.specs.declared.nodes.Node.{Node}
 use Rattle.net_hier.specs.declared.nodes.Node.TheVariants.{Port, Net, Zero, One}
 use Rattle.vlog_values.specs.Bits.{literal_bits}
 use Rattle.vlog_design.specs.Names.{Signal, signal_named}
-use Rattle.vlog_design.specs.declared.signals.Place.{Place}
-use Rattle.vlog_design.specs.declared.signals.Place.TheVariants.{AtPort, AtNet}
+use Rattle.vlog_design.specs.declared.signals.SignalAt.{SignalAt}
+use Rattle.vlog_design.specs.declared.signals.SignalAt.TheVariants.{AtPort, AtNet}
 use Rattle.vlog_design.specs.declared.signals.Slot.{Slot}
 use Rattle.vlog_design.specs.Ranges.{selected}
 use Rattle.vlog_design.specs.declared.signals.Span.{Span}
@@ -48,12 +48,12 @@ unfoldable pub width : List Signal → Expr → ℕ
 width signals = fold-Expr ℕ (width_step signals)
 
 -- the node of a bit, by its position from the left
-abbrev pub node_at : Place → ℕ → Node
+abbrev pub node_at : SignalAt → ℕ → Node
 node_at (AtPort number) bit = Port number bit
 node_at (AtNet first) bit = Net (first + bit)
 
 -- the nodes of positions
-abbrev pub span_bits : Place → Span → List (Option Node)
+abbrev pub span_bits : SignalAt → Span → List (Option Node)
 span_bits place span = map (λ bit. Some (node_at place bit)) (range_with_len span.first span.count)
 
 -- the nodes of the bits that a select of a name means

@@ -26,7 +26,7 @@ use Rattle.vlog_values.specs.declared.declaration.PortDecl.{PortDecl}
 use Rattle.vlog_values.specs.declared.statement.VInst.{VInst}
 use Rattle.vlog_design.specs.declared.signals.Kind.{Kind}
 use Rattle.vlog_design.specs.declared.signals.Kind.TheVariants.{InHeader, Direction, NetDeclaration, Instance, Parameter}
-use Rattle.vlog_design.specs.declared.signals.Place.TheVariants.{AtPort, AtNet}
+use Rattle.vlog_design.specs.declared.signals.SignalAt.TheVariants.{AtPort, AtNet}
 use Rattle.vlog_design.specs.declared.signals.Slot.{Slot}
 
 -- names are compared byte for byte

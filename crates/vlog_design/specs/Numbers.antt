@@ -3,12 +3,12 @@ use Rattle.std.specs.Prelude.{ℕ, ◌+◌, ◌≤◌, ◌^◌}
 use Rattle.vlog_values.specs.Bits.{AreDigits}
 use Rattle.net_hier.specs.Cells.{width_of}
 use Rattle.vlog_values.specs.declared.literal.Literal.{Literal}
-use Rattle.vlog_design.specs.declared.signals.Place.{Place}
-use Rattle.vlog_design.specs.declared.signals.Place.TheVariants.{AtPort, AtNet}
+use Rattle.vlog_design.specs.declared.signals.SignalAt.{SignalAt}
+use Rattle.vlog_design.specs.declared.signals.SignalAt.TheVariants.{AtPort, AtNet}
 use Rattle.vlog_design.specs.declared.signals.Slot.{Slot}
 
 -- the number of the first net of a name; the bits of a port are counted by themselves
-abbrev pub first_number : Place → ℕ
+abbrev pub first_number : SignalAt → ℕ
 first_number (AtPort number) = 0
 first_number (AtNet first) = first
 

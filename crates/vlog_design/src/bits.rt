@@ -7,7 +7,7 @@ ghost use Rattle.net_hier.specs.Cells.{width_of};
 ghost use Rattle.vlog_design.specs.Numbers.{HasDigits, HasNumbers, first_number};
 
 use crate::runs::Runs;
-use crate::signals::{Place, Slot, Span};
+use crate::signals::{SignalAt, Slot, Span};
 use crate::table::Table;
 use crate::widths::{position, times};
 use net_hier::Node;
@@ -58,17 +58,17 @@ pub fn select_span(range: Option<Range>, select: Select) -> Option<Span>
 }
 
 /// The node of a bit of a port or net, by its position from the left.
-pub fn node(place: Place, bit: u32) -> Node
+pub fn node(place: SignalAt, bit: u32) -> Node
     requires { first_number place + bit < 2 ^ 32 }
     ensures { result ≡ node_at place bit }
 {
     match place {
-        Place::AtPort(number) => Node::Port { port: number, bit },
-        Place::AtNet(first) => Node::Net(first as u32 + bit),
+        SignalAt::AtPort(number) => Node::Port { port: number, bit },
+        SignalAt::AtNet(first) => Node::Net(first as u32 + bit),
     }
 }
 
-fn push_span(place: Place, span: Span, out: &mut Runs) -> Result<(), NoMemory>
+fn push_span(place: SignalAt, span: Span, out: &mut Runs) -> Result<(), NoMemory>
     requires some { 1 ≤ span.count }
     requires fits { first_number place + (span.first + span.count) ≤ 2 ^ 32 }
     ensures added { OnOk result (out.new ≡ out.old ++ span_bits place span) }

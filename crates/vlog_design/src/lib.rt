@@ -1,6 +1,6 @@
 // What the names and the expressions of a Verilog module mean, and what a file is as a design (IEEE 1364-2005, 4 to 6 and 12).
 //
-// The public contract in plain words: a `Table` is the list of the ports and nets of a module with what they stand for, and `Names` a
+// The public contract in plain words: a `Table` is the list of the ports and nets of a module with what they stand for, and `NameSet` a
 // list of names that differ. `Runs` are bits from the left, of which those that are nothing take no room. `expr_width` answers how many
 // bits an expression has, `push_bits` its port bits, nets and constants from the left, `push_joins` the joins of two sides, and `uses_in`
 // the names in the expressions of a module. The definitions say what the design of a file is (`vlog_design`), and which objects break its

@@ -6,11 +6,11 @@ use std::marker::Model;
 
 /// Names that differ, in the order in which they were added, which contracts see as the list of them.
 #[derive(Drop)]
-pub struct Names<'a> {
+pub struct NameSet<'a> {
     set: IndexSet<&'a [u8]>,
 }
 
-impl<'a> Model for Names<'a> {
+impl<'a> Model for NameSet<'a> {
     ghost use Rattle.std.specs.Prelude.{List, ℕ};
     ghost use Rattle.vlog_design.specs.Tables.{names_of};
 
@@ -22,12 +22,12 @@ impl<'a> Model for Names<'a> {
 ghost use Rattle.std.specs.Prelude.{◌≡◌, [], ◌++◌, ◌∷◌, not, bytes_eq, position, length, if◌then◌else◌, IfOk, OnErr};
 ghost use Rattle.vlog_design.specs.Names.{has_name};
 
-impl<'a> Names<'a> {
+impl<'a> NameSet<'a> {
     /// No names; it takes no memory.
-    pub fn empty(alloc: Global) -> Names<'a>
+    pub fn empty(alloc: Global) -> NameSet<'a>
         ensures { result ≡ [] }
     {
-        Names {
+        NameSet {
             set: IndexSet::new(alloc),
         }
     }

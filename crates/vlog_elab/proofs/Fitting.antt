@@ -17,7 +17,7 @@ use Rattle.vlog_design.specs.Names.{Name, instance_statement, instance_statement
 use Rattle.vlog_design.specs.Numbers.{HasNumbers}
 use Rattle.vlog_design.specs.Reach.{module_number, modules_below, reached}
 use Rattle.vlog_design.specs.Rules.{declared_twice, too_wide}
-use Rattle.vlog_design.specs.declared.signals.Place.TheVariants.{AtPort}
+use Rattle.vlog_design.specs.declared.signals.SignalAt.TheVariants.{AtPort}
 use Rattle.vlog_values.specs.Sizes.{item_size, module_size, vlog_size}
 use Rattle.vlog_values.specs.Values.{IsVlogValue}
 use Rattle.vlog_values.specs.declared.module.ItemV.{ItemV}

@@ -17,7 +17,7 @@ use Rattle.vlog_design.specs.Exprs.{node_at}
 use Rattle.vlog_design.specs.Names.{Name, Signal, Wire, net_signals, port_names, port_range, port_signals, signals, wires}
 use Rattle.vlog_design.specs.Numbers.{HasNumbers, first_number}
 use Rattle.vlog_design.specs.Rules.{too_wide}
-use Rattle.vlog_design.specs.declared.signals.Place.TheVariants.{AtPort, AtNet}
+use Rattle.vlog_design.specs.declared.signals.SignalAt.TheVariants.{AtPort, AtNet}
 use Rattle.vlog_design.specs.declared.signals.Slot.{Slot}
 use Rattle.vlog_values.specs.declared.module.Module.{Module}
 use Rattle.vlog_elab.specs.Units.{module_units, signal_width}

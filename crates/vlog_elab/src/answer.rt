@@ -19,7 +19,7 @@ use net_hier::{HCell, Hier};
 use nl_base::{NoMemory, Refusal, Seq, Text};
 use std::alloc::Global;
 use vlog_checked::{Checked, check_file};
-use vlog_design::names::Names;
+use vlog_design::names::NameSet;
 use vlog_rules::passes::ModuleScope;
 use vlog_values::VlogFile;
 
@@ -63,7 +63,7 @@ fn built(alloc: Global, cells: Seq<HCell>, top: u32) -> Result<Hier, NoMemory>
 // no fewer, pass it.
 fn few_units(
     alloc: Global,
-    names: &Names,
+    names: &NameSet,
     scopes: &[ModuleScope],
     most: u64,
 ) -> Result<(), ResolveError>
@@ -84,7 +84,7 @@ fn few_units(
 // The design of modules whose cells fit and of which none reaches itself.
 fn design_of(
     alloc: Global,
-    names: &Names,
+    names: &NameSet,
     scopes: &[ModuleScope],
     top: u32,
     most: u64,

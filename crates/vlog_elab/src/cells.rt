@@ -10,13 +10,13 @@ use net_hier::HCell;
 use nl_base::{NoMemory, Seq};
 use std::alloc::Global;
 use vlog_cells::cell::cell_of;
-use vlog_design::names::Names;
+use vlog_design::names::NameSet;
 use vlog_rules::passes::ModuleScope;
 
 /// The cells of the modules, in their order.
 pub(crate) fn cells_of(
     alloc: Global,
-    names: &Names,
+    names: &NameSet,
     scopes: &[ModuleScope],
 ) -> Result<Seq<HCell>, NoMemory>
     requires ready { AreReady names.now (modules_in scopes.now) }

@@ -10,7 +10,7 @@ ghost use Rattle.vlog_ties.specs.Ties.{modules_in, most_joins};
 use net_hier::build::UNIT_LIMIT;
 use nl_base::NoMemory;
 use std::alloc::Global;
-use vlog_design::names::Names;
+use vlog_design::names::NameSet;
 use vlog_design::table::Table;
 use vlog_design::widths::range_width;
 use vlog_rules::passes::ModuleScope;
@@ -40,7 +40,7 @@ fn table_bits(table: &Table) -> u64
 // The units of a module, or 2^64-1 where there are more.
 fn units_of_module(
     alloc: Global,
-    names: &Names,
+    names: &NameSet,
     scopes: &[ModuleScope],
     scope: &ModuleScope,
 ) -> Result<u64, NoMemory>
@@ -55,7 +55,7 @@ fn units_of_module(
 /// The units of the cells of the modules, or 2^64-1 where there are more.
 pub(crate) fn units_of(
     alloc: Global,
-    names: &Names,
+    names: &NameSet,
     scopes: &[ModuleScope],
 ) -> Result<u64, NoMemory>
     requires { AreReady names.now (modules_in scopes.now) }

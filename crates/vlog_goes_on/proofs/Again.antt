@@ -4,7 +4,7 @@ use Rattle.std.specs.Prelude.{IfSome}
 use Rattle.nl_bytes.specs.Bytes.{first}
 use Rattle.vlog_tokens.specs.declared.item.Item.{Item}
 use Rattle.vlog_tokens.specs.declared.item.Item.TheVariants.{Blank, Line, Token}
-use Rattle.vlog_tokens.specs.declared.mark.Twin.TheVariants as twins
+use Rattle.vlog_tokens.specs.declared.mark.PairStart.TheVariants as pair_starts
 use Rattle.vlog_tokens.specs.declared.phase.Phase.{Phase}
 use Rattle.vlog_tokens.specs.declared.start.Start.{Start}
 use Rattle.vlog_tokens.specs.declared.start.Start.TheVariants as start
@@ -180,8 +180,8 @@ pub item_again : (s : Start) (b : ℕ) (bs : List ℕ) (x : Piece Item) → item
 item_again start.White b bs x e = alone_again start.White b bs Blank x (λ z. refl) e
 item_again (start.Lexeme p) b bs x e = lexeme_again p b bs x e
 item_again start.Quote b bs x e = string_again b bs x e
-item_again start.Open b bs x e = pair_again start.Open 42 (both_of twins.Open) (single_of twins.Open) b bs x refl (λ z. refl) e
-item_again start.Star b bs x e = pair_again start.Star 41 (both_of twins.Star) (single_of twins.Star) b bs x refl (λ z. refl) e
+item_again start.Open b bs x e = pair_again start.Open 42 (both_of pair_starts.Open) (single_of pair_starts.Open) b bs x refl (λ z. refl) e
+item_again start.Star b bs x e = pair_again start.Star 41 (both_of pair_starts.Star) (single_of pair_starts.Star) b bs x refl (λ z. refl) e
 item_again start.Slash b bs x e = slash_again b bs x e
 item_again start.Mark b bs x e = alone_again start.Mark b bs (Token (Punct b)) x (λ z. refl) e
 item_again start.Sign b bs x e = alone_again start.Sign b bs (Token (Symbol b)) x (λ z. refl) e

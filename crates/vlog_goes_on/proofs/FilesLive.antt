@@ -18,7 +18,7 @@ use Rattle.vlog_values.specs.declared.module.ItemV.{ItemV}
 use Rattle.vlog_exprs.specs.Reasons as say
 use Rattle.vlog_exprs.specs.Reasons.{meant_by, trailing}
 use Rattle.vlog_exprs.specs.Grammar.{name, mark, keyword, choice, group, groups}
-use Rattle.vlog_kept.proofs.Starts.{PortDecls, ParamGroups, SoFar, choose, piece_cases}
+use Rattle.vlog_bounds.proofs.Starts.{PortDecls, ParamGroups, SoFar, choose, piece_cases}
 use Rattle.vlog_modules.specs.Grammar.{dir_words, port_rest, port_decl, with_name, with_decl, port_turn, port_decls, name_header, decl_header, some_header, header, param_group, more_set, with_group, param_turn, param_groups, params_rest, params, ItemStart, at_group, at_module_name, at_word, at_item, item_rest, items, module_rest, module_of, net_type_of, net_type, directive_of, directive, PieceStart, at_piece, piece_rest, pieces, file}
 use Rattle.vlog_lexing.specs.Tokens.{IsWord}
 use Rattle.vlog_writer.specs.Spelling.{is_simple}

@@ -32,7 +32,7 @@ use Rattle.vlog_tokens.specs.Scanning.{Lexeme, scan_at, kept}
 use Rattle.vlog_tokens.specs.Spelling.{comment_at, item_by, item_at, start_of, is_mark, is_symbol, str_of, pair_by, slash_by}
 use Rattle.vlog_tokens.specs.Strings.{Parts, string_at}
 use Rattle.vlog_tokens.specs.Proper.{AreBytes, AreSound, IsProper}
-use Rattle.vlog_kept.proofs.Tokens.{tokens_sound}
+use Rattle.vlog_bounds.proofs.Tokens.{tokens_sound}
 use Rattle.vlog_limits.proofs.Limits.{a_front}
 use Rattle.vlog_lexing.specs.Tokens.{IsWord, is_punctuation}
 use Rattle.vlog_writer.specs.Spelling.{is_simple}

@@ -20,7 +20,7 @@ use Rattle.vlog_tokens.specs.Numbers.{decimal_value}
 use Rattle.vlog_tokens.specs.Language.{with_line}
 use Rattle.vlog_tokens.specs.Parts.{Reaches}
 use Rattle.vlog_tokens.specs.Scanning.{scan_at}
-use Rattle.vlog_tokens.specs.Spelling.{start_of, item_at, item_by, alone, slash_by, twin_by, comment_at, str_of}
+use Rattle.vlog_tokens.specs.Spelling.{start_of, item_at, item_by, alone, slash_by, pair_start_by, comment_at, str_of}
 use Rattle.vlog_tokens.specs.Spelling as marks
 use Rattle.vlog_tokens.specs.Strings.{string_at}
 use Rattle.vlog_tokens.specs.Strings as within

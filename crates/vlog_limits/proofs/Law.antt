@@ -25,7 +25,7 @@ use Rattle.vlog_modules.specs.Grammar.{file}
 use Rattle.vlog_modules.specs.Text.{VlogReads, VlogFault, VlogCut}
 use Rattle.vlog_modules.proofs.Live.{live_file}
 use Rattle.vlog_modules.proofs.Clear.{clear_file}
-use Rattle.vlog_kept.proofs.TokenCount.{read_within}
+use Rattle.vlog_bounds.proofs.TokenCount.{read_within}
 use Rattle.vlog_modules.specs.AnyLength.{VlogSpells, VlogFails}
 use Rattle.grammar_laws.proofs.Ending.{whole_ends}
 use Rattle.grammar_laws.proofs.Existing.{fault_exists}

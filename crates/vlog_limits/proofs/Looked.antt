@@ -7,7 +7,7 @@ use Rattle.readers.specs.Parts.{PartOf}
 use Rattle.readers.specs.Sources.{Ahead}
 use Rattle.vlog_tokens.specs.declared.token.VFound.{VFound}
 use Rattle.vlog_tokens.specs.Language.{all_tokens, vtokens}
-use Rattle.vlog_kept.proofs.TokenCount.{read_within}
+use Rattle.vlog_bounds.proofs.TokenCount.{read_within}
 use Rattle.vlog_lexing.proofs.Limits.{tokens_whole}
 
 module _ {K A : Type 0} (k : K) (part : PartOf K VFound A) (text : List ℕ) (v : A) where

@@ -16,7 +16,7 @@ use Rattle.vlog_tokens.specs.declared.phase.Step.TheVariants.{Keep, Pass, Ends}
 use Rattle.vlog_tokens.specs.declared.phase.Step.TheVariants as steps
 use Rattle.vlog_tokens.specs.declared.start.Start.{Start}
 use Rattle.vlog_tokens.specs.declared.start.Start.TheVariants as starts
-use Rattle.vlog_tokens.specs.declared.mark.Twin.TheVariants as twins
+use Rattle.vlog_tokens.specs.declared.mark.PairStart.TheVariants as pair_starts
 use Rattle.vlog_tokens.specs.declared.string.Escaped.{Escaped}
 use Rattle.vlog_tokens.specs.declared.string.Escaped.TheVariants.{Stands, Octal, NoEscape, NoByte}
 use Rattle.vlog_tokens.specs.Flaws.{Piece, Flaw, flaw, ◌>>=◌}
@@ -121,8 +121,8 @@ by_far : (start : Start) (b : ℕ) (bs : List ℕ) → IsFar 1 (item_by start b 
 by_far starts.White b bs = (omega arith, omega arith, omega arith)
 by_far (starts.Lexeme phase) b bs = finish_far 1 (scan_at phase (kept phase b) 1 bs) (scan_far phase (kept phase b) 1 bs)
 by_far starts.Quote b bs = str_far 1 (string_at Parts [] 1 bs) (string_far Parts [] 1 bs)
-by_far starts.Open b bs = pair_far 42 (both_of twins.Open) (single_of twins.Open) bs
-by_far starts.Star b bs = pair_far 41 (both_of twins.Star) (single_of twins.Star) bs
+by_far starts.Open b bs = pair_far 42 (both_of pair_starts.Open) (single_of pair_starts.Open) bs
+by_far starts.Star b bs = pair_far 41 (both_of pair_starts.Star) (single_of pair_starts.Star) bs
 by_far starts.Slash b bs = slash_far bs
 by_far starts.Mark b bs = (omega arith, omega arith, omega arith)
 by_far starts.Sign b bs = (omega arith, omega arith, omega arith)

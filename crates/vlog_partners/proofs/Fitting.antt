@@ -10,7 +10,7 @@ use Rattle.net_graph.proofs.OrderLaws.{StandsIn, contained, visits_lists}
 use Rattle.net_graph.proofs.WalkLaws.{linked_along, linked_by, linked_itself}
 use Rattle.net_hier.specs.Cells.{width_of}
 use Rattle.net_hier.specs.Design.{Design, below_of, cells_below, top_name}
-use Rattle.net_hier.specs.SameDesign.{Face, face_of}
+use Rattle.net_hier.specs.SameDesign.{PortSignature, signature_of}
 use Rattle.net_hier.specs.Valid.{HaveOwnNames, IsPortWidth, IsValid}
 use Rattle.net_hier.specs.declared.cells.HCell.{HCell}
 use Rattle.net_hier.specs.declared.cells.HInst.{HInst}
@@ -23,7 +23,7 @@ use Rattle.vlog_written.specs.OwnNames.{AreDistinct, instances_named, ports_name
 use Rattle.vlog_written.specs.Written.{PlainInstance, PlainModule, PlainPort}
 use Rattle.vlog_written.proofs.Members.{distinct_left, there_at}
 use Rattle.vlog_plain.specs.Plain.{IsBitExpr, IsOver, IsPinValue, IsPlainConn, IsPlainFile, IsPlainInstance, IsPlainModule, each_bit, one_bit, open_pin}
-use Rattle.vlog_partners.specs.Partners.{IsHubAssign, IsPinOf, each_hub, face_of_plain, no_hub, one_hub}
+use Rattle.vlog_partners.specs.Partners.{IsHubAssign, IsPinOf, each_hub, signature_of_plain, no_hub, one_hub}
 use Rattle.vlog_partners.proofs.Here.{AreModulesFor, Below, Here, all_below, below_at, here_at, here_for, name_below, once}
 use Rattle.vlog_partners.proofs.Lists.{IsMatched, as_long, distinct_names, matched}
 
@@ -40,14 +40,14 @@ sides_bits p set cells cell hubs a = elim a.sides as (λ _. IsBitExpr p set.left
 ]
 
 -- the names of the ports of a cell are those that are written
-face_names : (ports : List HPort) (written : List PlainPort) → map face_of ports ≡ map face_of_plain written → map (λ (port : HPort). port.name) ports ≡ map (λ (port : PlainPort). port.name) written
-face_names ports written e = sym (over_face ports) ∙ (ap (map (λ (face : Face). face.name)) e ∙ over_plain written)
+signature_names : (ports : List HPort) (written : List PlainPort) → map signature_of ports ≡ map signature_of_plain written → map (λ (port : HPort). port.name) ports ≡ map (λ (port : PlainPort). port.name) written
+signature_names ports written e = sym (over_signature ports) ∙ (ap (map (λ (signature : PortSignature). signature.name)) e ∙ over_plain written)
   where
-    over_face : (ports : List HPort) → map (λ (face : Face). face.name) (map face_of ports) ≡ map (λ (port : HPort). port.name) ports
-    over_face [] = refl
-    over_face (port ∷ ports) = ap (λ l. port.name ∷ l) (over_face ports)
+    over_signature : (ports : List HPort) → map (λ (signature : PortSignature). signature.name) (map signature_of ports) ≡ map (λ (port : HPort). port.name) ports
+    over_signature [] = refl
+    over_signature (port ∷ ports) = ap (λ l. port.name ∷ l) (over_signature ports)
 
-    over_plain : (written : List PlainPort) → map (λ (face : Face). face.name) (map face_of_plain written) ≡ map (λ (port : PlainPort). port.name) written
+    over_plain : (written : List PlainPort) → map (λ (signature : PortSignature). signature.name) (map signature_of_plain written) ≡ map (λ (port : PlainPort). port.name) written
     over_plain [] = refl
     over_plain (port ∷ written) = ap (λ l. port.name ∷ l) (over_plain written)
 
@@ -56,30 +56,30 @@ module _ (design : Design) (ps : List PlainModule) (valid : IsValid design) (are
     narrow : (port : PlainPort) → Contains here.p.ports port → width_of port.range ≤ 65536
     narrow port m =
         let s : StandsIn here.p.ports port = contained here.p.ports port m in
-        let f : IsMatched face_of here.cell.ports s.place (face_of_plain port) = matched face_of_plain face_of here.p.ports here.cell.ports (sym here.is_for.same_ports) s.place port s.is_there in
+        let f : IsMatched signature_of here.cell.ports s.place (signature_of_plain port) = matched signature_of_plain signature_of here.p.ports here.cell.ports (sym here.is_for.same_ports) s.place port s.is_there in
         let w : IsPortWidth f.item = (valid.good_cells here.number here.cell here.is_cell).widths s.place f.item f.is_there in
-        let e : width_of port.range ≡ width_of f.item.range = ap (λ (face : Face). width_of face.range) f.is_value in
+        let e : width_of port.range ≡ width_of f.item.range = ap (λ (signature : PortSignature). width_of signature.range) f.is_value in
         omega (arith, w.1, e)
 
     module _ (t : ℕ) (written : PlainInstance) (b : Below design ps place here t written) where
       -- the ports of the cell below are those of the module below
-      pub ports_below : map face_of b.is_for.below.ports ≡ map face_of_plain b.there.p.ports
-      ports_below = ap (λ (c : HCell). map face_of c.ports) b.same_cell ∙ b.there.is_for.same_ports
+      pub ports_below : map signature_of b.is_for.below.ports ≡ map signature_of_plain b.there.p.ports
+      ports_below = ap (λ (c : HCell). map signature_of c.ports) b.same_cell ∙ b.there.is_for.same_ports
 
       pub conn_names : map (λ (conn : NamedConn). conn.port) written.conns ≡ ports_named b.there.p
-      conn_names = b.is_for.each_port ∙ face_names b.is_for.below.ports b.there.p.ports ports_below
+      conn_names = b.is_for.each_port ∙ signature_names b.is_for.below.ports b.there.p.ports ports_below
 
       conn_is : (conn : NamedConn) → Contains written.conns conn → IsPlainConn here.p b.there.p conn
       conn_is conn m =
           let s : StandsIn written.conns conn = contained written.conns conn m in
           let q : IsMatched (λ (port : HPort). port.name) b.is_for.below.ports s.place conn.port = matched (λ (c : NamedConn). c.port) (λ (port : HPort). port.name) written.conns b.is_for.below.ports b.is_for.each_port s.place conn s.is_there in
-          let f : IsMatched face_of_plain b.there.p.ports s.place (face_of q.item) = matched face_of face_of_plain b.is_for.below.ports b.there.p.ports ports_below s.place q.item q.is_there in
+          let f : IsMatched signature_of_plain b.there.p.ports s.place (signature_of q.item) = matched signature_of signature_of_plain b.is_for.below.ports b.there.p.ports ports_below s.place q.item q.is_there in
           record {
             place = s.place;
             port = f.item;
             is_port = f.is_there;
-            is_named = q.is_value ∙ ap (λ (face : Face). face.name) f.is_value;
-            is_value = subst (λ width. IsPinValue here.p width conn.value) (ap (λ (face : Face). width_of face.range) f.is_value)
+            is_named = q.is_value ∙ ap (λ (signature : PortSignature). signature.name) f.is_value;
+            is_value = subst (λ width. IsPinValue here.p width conn.value) (ap (λ (signature : PortSignature). width_of signature.range) f.is_value)
                 (pin_value here.p here.is_for.hubs t s.place (width_of q.item.range) conn.value (b.is_for.pins s.place q.item conn q.is_there s.is_there));
           }
 

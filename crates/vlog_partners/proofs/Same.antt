@@ -10,7 +10,7 @@ use Rattle.net_hier.specs.Constants.{AreConstantNames, ConstantNames}
 use Rattle.net_hier.specs.Design.{Design, IsCell, top_name}
 use Rattle.net_hier.specs.Facts.{SameValues, cell_props}
 use Rattle.net_hier.specs.SameCells.{IsPartner, SameCell, SameCells, SameInstance, stand_in}
-use Rattle.net_hier.specs.SameDesign.{SameDesign, face_of}
+use Rattle.net_hier.specs.SameDesign.{SameDesign, signature_of}
 use Rattle.net_hier.specs.Valid.{HaveOwnNames, IsValid}
 use Rattle.net_hier.specs.declared.cells.HCell.{HCell}
 use Rattle.net_hier.specs.declared.cells.HInst.{HInst}
@@ -32,7 +32,7 @@ use Rattle.vlog_plain.proofs.CellLaws.{cells_are, top_cell}
 use Rattle.vlog_plain.proofs.FirstRule.{no_rule_broken}
 use Rattle.vlog_plain.proofs.Places.{number_of}
 use Rattle.vlog_plain.proofs.Uses.{none_some, some_same}
-use Rattle.vlog_partners.specs.Partners.{face_of_plain}
+use Rattle.vlog_partners.specs.Partners.{signature_of_plain}
 use Rattle.vlog_partners.proofs.Fitting.{file_is, the_top}
 use Rattle.vlog_partners.proofs.Here.{AreModulesFor, Below, Here, below_at, here_for, name_below}
 use Rattle.vlog_partners.proofs.Lists.{IsMatched, as_long}
@@ -44,9 +44,9 @@ made_of f [] place y e = absurd (cc)
 made_of f (x ∷ xs) zero y e = record { item = x; is_there = refl; is_value = sym (some_same (f x) y e) }
 made_of f (x ∷ xs) (suc place) y e = let r = made_of f xs place y e in record { item = r.item; is_there = r.is_there; is_value = r.is_value }
 
-faces : (ports : List PlainPort) → map face_of (map port_in_cell ports) ≡ map face_of_plain ports
-faces [] = refl
-faces (port ∷ ports) = ap (λ l. face_of_plain port ∷ l) (faces ports)
+signatures : (ports : List PlainPort) → map signature_of (map port_in_cell ports) ≡ map signature_of_plain ports
+signatures [] = refl
+signatures (port ∷ ports) = ap (λ l. signature_of_plain port ∷ l) (signatures ports)
 
 -- no constant has an instance of its own
 abbrev none_added : Bool → Option ℕ
@@ -98,9 +98,9 @@ module _ (design : Design) (ps : List PlainModule) (valid : IsValid design) (are
       partner_props =
           ap (λ (more : List HProp). cond (place == other.top) (attr_props here.p.attrs ++ more) (attr_props here.p.attrs)) no_props ∙ same_props_twice (place == other.top) (attr_props here.p.attrs)
 
-      port_props : (number : ℕ) (port twin : HPort) → slice_get here.cell.ports number ≡ Some port → slice_get partner.ports number ≡ Some twin → SameValues port.props twin.props
-      port_props number port twin e f =
-          let w : IsMatched port_in_cell here.p.ports number twin = made_of port_in_cell here.p.ports number twin f in
+      port_props : (number : ℕ) (port counterpart : HPort) → slice_get here.cell.ports number ≡ Some port → slice_get partner.ports number ≡ Some counterpart → SameValues port.props counterpart.props
+      port_props number port counterpart e f =
+          let w : IsMatched port_in_cell here.p.ports number counterpart = made_of port_in_cell here.p.ports number counterpart f in
           subst (λ (t : HPort). SameValues port.props t.props) (sym w.is_value) (here.is_for.same_port_props number port w.item e w.is_there)
 
       same_instance : (t : ℕ) (written : PlainInstance) (b : Below design ps place here t written) → SameInstance design None b.instance (instance_in_cell modules written)
@@ -112,7 +112,7 @@ module _ (design : Design) (ps : List PlainModule) (valid : IsValid design) (are
             same_props = b.is_for.same_props;
           }
 
-      instances : (t : ℕ) (instance : HInst) → slice_get here.cell.instances t ≡ Some instance → (twin : HInst) × (slice_get partner.instances t ≡ Some twin) × SameInstance design None instance twin
+      instances : (t : ℕ) (instance : HInst) → slice_get here.cell.instances t ≡ Some instance → (counterpart : HInst) × (slice_get partner.instances t ≡ Some counterpart) × SameInstance design None instance counterpart
       instances t instance e =
           let w = as_long here.cell.instances here.p.instances here.is_for.as_many t instance e in
           let b : Below design ps place here t w.0 = below_at design ps valid are place here t w.0 w.1 in
@@ -136,7 +136,7 @@ module _ (design : Design) (ps : List PlainModule) (valid : IsValid design) (are
       same_cell : SameCell names design other None here.number place here.cell partner
       same_cell = record {
         same_name = here.is_for.same_name;
-        same_ports = here.is_for.same_ports ∙ sym (faces here.p.ports);
+        same_ports = here.is_for.same_ports ∙ sym (signatures here.p.ports);
         same_props = subst (SameValues (cell_props design here.number here.cell)) (sym partner_props) here.is_for.same_props;
         same_port_props = port_props;
         same_instances = instances;

@@ -9,7 +9,7 @@ use Rattle.net_graph.proofs.OrderLaws.{StandsIn, contained}
 use Rattle.net_hier.specs.Cells.{IsBitOrConstant, IsLocallyConnected, IsPinBit, width_of}
 use Rattle.net_hier.specs.Design.{Design, top_name}
 use Rattle.net_hier.specs.Facts.{HasNetValue}
-use Rattle.net_hier.specs.SameDesign.{face_of, Face}
+use Rattle.net_hier.specs.SameDesign.{signature_of, PortSignature}
 use Rattle.net_hier.specs.Valid.{HaveOwnNames, IsValid}
 use Rattle.net_hier.specs.declared.cells.HCell.{HCell}
 use Rattle.net_hier.specs.declared.cells.HPort.{HPort}
@@ -37,7 +37,7 @@ use Rattle.vlog_plain.proofs.Lists.{same}
 use Rattle.vlog_plain.proofs.Parts.{cell_is}
 use Rattle.vlog_plain.proofs.Places.{found}
 use Rattle.vlog_plain.proofs.Uses.{are_apart}
-use Rattle.vlog_partners.specs.Partners.{HasAssignOf, HasWire, IsHubAssign, IsPinOf, face_of_plain}
+use Rattle.vlog_partners.specs.Partners.{HasAssignOf, HasWire, IsHubAssign, IsPinOf, signature_of_plain}
 use Rattle.vlog_partners.proofs.Fitting.{file_is, module_is, ports_below, the_top}
 use Rattle.vlog_partners.proofs.Here.{AreModulesFor, Below, Here, below_at, name_below}
 use Rattle.vlog_partners.proofs.Lists.{IsMatched, as_long, matched, place_in}
@@ -79,15 +79,15 @@ module _ (design : Design) (ps : List PlainModule) (valid : IsValid design) (are
       conn_at : (c : ℕ) (conn : NamedConn) → slice_get written.conns c ≡ Some conn → IsConnAt c conn
       conn_at c conn e =
           let q : IsMatched (λ (port : HPort). port.name) b.is_for.below.ports c conn.port = matched (λ (x : NamedConn). x.port) (λ (port : HPort). port.name) written.conns b.is_for.below.ports b.is_for.each_port c conn e in
-          let f : IsMatched face_of_plain b.there.p.ports c (face_of q.item) = matched face_of face_of_plain b.is_for.below.ports b.there.p.ports (ports_below design ps valid are place here t written b) c q.item q.is_there in
-          let named : conn.port ≡ f.item.name = q.is_value ∙ ap (λ (face : Face). face.name) f.is_value in
+          let f : IsMatched signature_of_plain b.there.p.ports c (signature_of q.item) = matched signature_of signature_of_plain b.is_for.below.ports b.there.p.ports (ports_below design ps valid are place here t written b) c q.item q.is_there in
+          let named : conn.port ≡ f.item.name = q.is_value ∙ ap (λ (signature : PortSignature). signature.name) f.is_value in
           let name_there : slice_get (ports_named b.there.p) c ≡ Some f.item.name = slice_get-map (λ (port : PlainPort). port.name) b.there.p.ports c ∙ ap (option_map (λ (port : PlainPort). port.name)) f.is_there in
           record {
             the_port = q.item;
             is_port = q.is_there;
             is_known = ap (λ known. has_name known conn.port) (names_of_ports b.there.p) ∙ any_there (bytes_eq conn.port) (ports_named b.there.p) f.item.name (there_mapped (λ (port : PlainPort). port.name) b.there.p.ports f.item (there_at b.there.p.ports c f.item f.is_there)) (same conn.port f.item.name named);
             is_number = ap (port_number below) named ∙ (ap (position_or_len (bytes_eq f.item.name)) (names_of_ports b.there.p) ∙ place_in (ports_named b.there.p) c f.item.name distinct_below name_there);
-            is_width = ap width_of (ap (port_range below) named ∙ range_of_port b.there.p c f.item distinct_below f.is_there) ∙ sym (ap (λ (face : Face). width_of face.range) f.is_value);
+            is_width = ap width_of (ap (port_range below) named ∙ range_of_port b.there.p c f.item distinct_below f.is_there) ∙ sym (ap (λ (signature : PortSignature). width_of signature.range) f.is_value);
             is_pin = b.is_for.pins c q.item conn q.is_there e;
           }
 

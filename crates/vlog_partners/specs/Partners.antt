@@ -4,7 +4,7 @@ use Rattle.nl_base.specs.declared.value.PropValue.{PropValue}
 use Rattle.net_hier.specs.Cells.{IsBitOrConstant, width_of}
 use Rattle.net_hier.specs.Design.{Design, IsCell}
 use Rattle.net_hier.specs.Facts.{HasLastValue, HasNetValue, SameValues, cell_props}
-use Rattle.net_hier.specs.SameDesign.{Face, face_of}
+use Rattle.net_hier.specs.SameDesign.{PortSignature, signature_of}
 use Rattle.net_hier.specs.declared.cells.HCell.{HCell}
 use Rattle.net_hier.specs.declared.cells.HInst.{HInst}
 use Rattle.net_hier.specs.declared.cells.HPort.{HPort}
@@ -62,8 +62,8 @@ pub record IsInstanceFor (cells : List HCell) (hubs : Hubs) (p : PlainModule) (n
   pub pins : (port : ℕ) (the_port : HPort) (conn : NamedConn) → slice_get below.ports port ≡ Some the_port → slice_get written.conns port ≡ Some conn → IsPinOf p hubs number port (width_of the_port.range) conn.value
 
 -- what two designs compare of a port that is written
-abbrev pub face_of_plain : PlainPort → Face
-face_of_plain port = record { name = port.name; range = port.range; dir = port.dir }
+abbrev pub signature_of_plain : PlainPort → PortSignature
+signature_of_plain port = record { name = port.name; range = port.range; dir = port.dir }
 
 -- the wire has the properties that the nets of the cell give the node
 pub record HasWire (cell : HCell) (p : PlainModule) (x : Node) (number : ℕ) : Type 0 where
@@ -77,7 +77,7 @@ pub record HasWire (cell : HCell) (p : PlainModule) (x : Node) (number : ℕ) : 
 -- properties has, and an assign for each other port bit and each constant of the class. `instances`: one statement for each instance, in order.
 pub record IsModuleFor (design : Design) (number : ℕ) (cell : HCell) (p : PlainModule) : Type 0 where
   pub same_name : cell.name ≡ p.name
-  pub same_ports : map face_of cell.ports ≡ map face_of_plain p.ports
+  pub same_ports : map signature_of cell.ports ≡ map signature_of_plain p.ports
   pub same_port_props : (place : ℕ) (port : HPort) (written : PlainPort) → slice_get cell.ports place ≡ Some port → slice_get p.ports place ≡ Some written → SameValues port.props (attr_props written.attrs)
   pub same_props : SameValues (cell_props design number cell) (attr_props p.attrs)
   pub distinct : AreDistinct (ports_named p ++ (instances_named p ++ wires_named p))

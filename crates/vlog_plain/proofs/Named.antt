@@ -9,7 +9,7 @@ use Rattle.nl_base.specs.Ranges.{Bounds}
 use Rattle.vlog_design.specs.Names.{Signal, Use, module_uses, signal_named, signals}
 use Rattle.vlog_design.specs.Ranges.{selected}
 use Rattle.vlog_design.specs.Rules.{bad_select_in, bad_selects, too_wide, unknown_names}
-use Rattle.vlog_design.specs.declared.signals.Place.TheVariants.{AtPort, AtNet}
+use Rattle.vlog_design.specs.declared.signals.SignalAt.TheVariants.{AtPort, AtNet}
 use Rattle.vlog_design.specs.declared.signals.Slot.{Slot}
 use Rattle.vlog_design.specs.declared.signals.Span.{Span}
 use Rattle.vlog_written.specs.Written.{PlainModule, PlainPort, PlainWire, plain_module, plain_ports, plain_signals, plain_wires}

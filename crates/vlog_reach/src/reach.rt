@@ -9,7 +9,7 @@ ghost use Rattle.vlog_design.specs.Tables.{modules_of};
 use net_graph::reach::reached_from;
 use nl_base::{NoMemory, Seq};
 use std::alloc::Global;
-use vlog_design::names::Names;
+use vlog_design::names::NameSet;
 use vlog_values::{Instances, ItemV, Module};
 
 fn push_place(place: Option<usize>, numbers: &mut Seq<u32>) -> Result<(), NoMemory>
@@ -26,7 +26,7 @@ fn push_place(place: Option<usize>, numbers: &mut Seq<u32>) -> Result<(), NoMemo
 }
 
 fn push_statement(
-    names: &Names,
+    names: &NameSet,
     statement: &Instances,
     numbers: &mut Seq<u32>,
 ) -> Result<(), NoMemory>
@@ -40,7 +40,7 @@ fn push_statement(
     Ok(())
 }
 
-fn push_item(names: &Names, item: &ItemV, numbers: &mut Seq<u32>) -> Result<(), NoMemory>
+fn push_item(names: &NameSet, item: &ItemV, numbers: &mut Seq<u32>) -> Result<(), NoMemory>
     requires { length names.now ≤ 2 ^ 32 }
     ensures added { OnOk result (numbers.new ≡ numbers.old ++ places_in names.now (flat_map statement_modules (instance_statement item.now))) }
 {
@@ -56,7 +56,7 @@ fn push_item(names: &Names, item: &ItemV, numbers: &mut Seq<u32>) -> Result<(), 
 
 /// The numbers of the modules of a module's instances, by the names of all modules.
 #[tactic(auto, unfolding(vlog_design::specs::Reach::instance_modules, vlog_design::specs::Names::instance_statements))]
-fn below(alloc: Global, names: &Names, m: &Module) -> Result<Seq<u32>, NoMemory>
+fn below(alloc: Global, names: &NameSet, m: &Module) -> Result<Seq<u32>, NoMemory>
     requires { length names.now ≤ 2 ^ 32 }
     ensures { IfOk result (λ numbers. numbers ≡ places_in names.now (instance_modules m.now)) }
 {
@@ -67,7 +67,7 @@ fn below(alloc: Global, names: &Names, m: &Module) -> Result<Seq<u32>, NoMemory>
     Ok(numbers)
 }
 
-fn graph_by(alloc: Global, names: &Names, modules: &[Module]) -> Result<Vec<Seq<u32>>, NoMemory>
+fn graph_by(alloc: Global, names: &NameSet, modules: &[Module]) -> Result<Vec<Seq<u32>>, NoMemory>
     requires { length names.now ≤ 2 ^ 32 }
     ensures { IfOk result (λ graph. graph.items ≡ map (λ m. places_in names.now (instance_modules m)) modules.now) }
 {
@@ -79,7 +79,11 @@ fn graph_by(alloc: Global, names: &Names, modules: &[Module]) -> Result<Vec<Seq<
 }
 
 /// For each module the numbers of the modules of its instances, one for each instance whose module is there.
-pub fn graph_of(alloc: Global, names: &Names, modules: &[Module]) -> Result<Vec<Seq<u32>>, NoMemory>
+pub fn graph_of(
+    alloc: Global,
+    names: &NameSet,
+    modules: &[Module],
+) -> Result<Vec<Seq<u32>>, NoMemory>
     requires are_named { names.now ≡ map (λ m. m.name) modules.now }
     requires few { length modules.now ≤ 2 ^ 32 }
     ensures { IfOk result (λ graph. graph.items ≡ modules_below modules.now) }
@@ -117,7 +121,7 @@ fn marked_modules<'a>(
 /// The top and all modules that instances lead to from it, in file order.
 pub fn reached_modules<'a>(
     alloc: Global,
-    names: &Names,
+    names: &NameSet,
     modules: &'a [Module],
     top: u32,
 ) -> Result<Vec<&'a Module>, NoMemory>

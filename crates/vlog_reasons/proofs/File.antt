@@ -16,7 +16,7 @@ use Rattle.vlog_exprs.specs.Language.{Vlog}
 use Rattle.vlog_exprs.specs.Reasons as say
 use Rattle.vlog_exprs.specs.Reasons.{trailing}
 use Rattle.vlog_exprs.specs.Grammar.{name, mark, choice}
-use Rattle.vlog_kept.proofs.Starts.{PortDecls, ParamGroups, SoFar, choose, piece_cases}
+use Rattle.vlog_bounds.proofs.Starts.{PortDecls, ParamGroups, SoFar, choose, piece_cases}
 use Rattle.vlog_modules.specs.Grammar.{dir_words, port_rest, port_decl, port_turn, port_decls, name_header, decl_header, some_header, header, param_group, more_set, param_turn, param_groups, params_rest, params, ItemStart, at_group, at_module_name, at_word, at_item, item_rest, items, module_rest, module_of, net_type, net_type_of, directive_of, directive, PieceStart, at_piece, piece_rest, pieces, file}
 use Rattle.vlog_reasons.specs.Context.{Tokens, Context}
 use Rattle.vlog_reasons.specs.Rows.{reason_at}

@@ -8,7 +8,7 @@ use Rattle.nl_base.specs.declared.rule.Rule.TheVariants.{G15}
 use Rattle.net_hier.specs.Cells.{width_of}
 use Rattle.vlog_design.specs.Names.{Name, Signal, Wire, has_name, net_decl, net_decls, net_signals, port_names, port_range, port_signals, signal_named, signals, wires}
 use Rattle.vlog_design.specs.Rules.{each_alone, first_of, other_ranges, refused, same_range}
-use Rattle.vlog_design.specs.declared.signals.Place.TheVariants.{AtPort, AtNet}
+use Rattle.vlog_design.specs.declared.signals.SignalAt.TheVariants.{AtPort, AtNet}
 use Rattle.vlog_rules.specs.Redeclared.{other_in, other_slot}
 use Rattle.vlog_rules.proofs.StatementLaws.{first_alone}
 use Rattle.vlog_values.specs.declared.declaration.NetDecl.{NetDecl}

@@ -4,11 +4,11 @@ use Rattle.std.specs.Option.{option_map_or}
 use Rattle.nl_base.specs.Ranges.{Bounds}
 use Rattle.vlog_design.specs.Names.{Name, Signal, signal_named}
 use Rattle.vlog_design.specs.Rules.{same_range}
-use Rattle.vlog_design.specs.declared.signals.Place.{Place}
-use Rattle.vlog_design.specs.declared.signals.Place.TheVariants.{AtPort, AtNet}
+use Rattle.vlog_design.specs.declared.signals.SignalAt.{SignalAt}
+use Rattle.vlog_design.specs.declared.signals.SignalAt.TheVariants.{AtPort, AtNet}
 use Rattle.vlog_design.specs.declared.signals.Slot.{Slot}
 
-abbrev pub is_port : Place → Bool
+abbrev pub is_port : SignalAt → Bool
 is_port (AtPort number) = true
 is_port (AtNet first) = false
 

@@ -10,11 +10,11 @@ use crate::repeats::repeated_port;
 use crate::statements::InstanceRule;
 use nl_base::{NoMemory, Refusal, Rule};
 use std::alloc::Global;
-use vlog_design::names::Names;
+use vlog_design::names::NameSet;
 use vlog_values::{Conns, NamedConn, VInst};
 
 /// The first port that connections name and that is none of these.
-fn first_outside<'a>(ports: &Names, conns: &'a [NamedConn]) -> Option<&'a [u8]>
+fn first_outside<'a>(ports: &NameSet, conns: &'a [NamedConn]) -> Option<&'a [u8]>
     ensures { option_copied result ≡ find (λ port. not (has_name ports.now port)) (map (λ conn. conn.port) conns.now) }
 {
     for conn in conns {

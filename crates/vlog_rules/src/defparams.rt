@@ -11,10 +11,10 @@ use crate::lists::{instance_names, name_set};
 use crate::refusals::refuse_two;
 use nl_base::{NoMemory, Refusal, Rule};
 use std::alloc::Global;
-use vlog_design::names::Names;
+use vlog_design::names::NameSet;
 use vlog_values::{DefSet, ItemV, Module};
 
-fn first_in_sets<'a>(names: &Names, sets: &'a [DefSet]) -> Option<&'a DefSet>
+fn first_in_sets<'a>(names: &NameSet, sets: &'a [DefSet]) -> Option<&'a DefSet>
     ensures { option_copied result ≡ find (λ set. not (has_name names.now set.instance)) sets.now }
 {
     for set in sets {
@@ -25,7 +25,7 @@ fn first_in_sets<'a>(names: &Names, sets: &'a [DefSet]) -> Option<&'a DefSet>
     None
 }
 
-fn first_in_item<'a>(names: &Names, item: &'a ItemV) -> Option<&'a DefSet>
+fn first_in_item<'a>(names: &NameSet, item: &'a ItemV) -> Option<&'a DefSet>
     ensures { option_copied result ≡ find (λ set. not (has_name names.now set.instance)) (flat_map (λ statement. statement.sets) (defparam_statement item.now)) }
 {
     match item {
@@ -38,7 +38,7 @@ fn first_in_item<'a>(names: &Names, item: &'a ItemV) -> Option<&'a DefSet>
     }
 }
 
-fn first_in_items<'a>(names: &Names, items: &'a [ItemV]) -> Option<&'a DefSet>
+fn first_in_items<'a>(names: &NameSet, items: &'a [ItemV]) -> Option<&'a DefSet>
     ensures { option_copied result ≡ find (λ set. not (has_name names.now set.instance)) (flat_map (λ item. flat_map (λ statement. statement.sets) (defparam_statement item)) items.now) }
 {
     for item in items {

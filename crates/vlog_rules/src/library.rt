@@ -5,22 +5,22 @@ ghost use Rattle.vlog_design.specs.Reach.{module_named};
 ghost use Rattle.vlog_design.specs.Rules.{ports_named};
 ghost use Rattle.vlog_design.specs.Tables.{modules_of};
 
-use vlog_design::names::Names;
+use vlog_design::names::NameSet;
 use vlog_values::Module;
 
 /// Modules of different names, each with ports of different names.
 #[derive(Drop)]
 pub struct ModulePorts<'a> {
     pub modules: Vec<&'a Module>,
-    pub names: Names<'a>,
-    pub ports: Vec<Names<'a>>,
+    pub names: NameSet<'a>,
+    pub ports: Vec<NameSet<'a>>,
     ghost are_named: { names ≡ map (λ m. m.name) (modules_of modules.items) },
     ghost have_ports: { ports.items ≡ map port_names (modules_of modules.items) },
 }
 
 impl<'a> ModulePorts<'a> {
     /// The ports of the module of this name, where it is there.
-    pub fn ports(&self, name: &[u8]) -> Option<&Names<'a>>
+    pub fn ports(&self, name: &[u8]) -> Option<&NameSet<'a>>
         ensures { MatchOption result (module_named (modules_of self.now.modules.items) name.now ≡ None) (λ ports. option_map port_names (module_named (modules_of self.now.modules.items) name.now) ≡ Some ports.now) }
     {
         match self.names.place(name) {

@@ -6,7 +6,7 @@ ghost use Rattle.vlog_design.specs.Tables.{names_of};
 
 use nl_base::{NoMemory, Text};
 use std::alloc::Global;
-use vlog_design::names::Names;
+use vlog_design::names::NameSet;
 use vlog_values::{ItemV, Module, VInst};
 
 /// Adds the names.
@@ -78,17 +78,17 @@ pub fn instance_names<'a>(alloc: Global, m: &'a Module) -> Result<Vec<&'a [u8]>,
 }
 
 /// The set of the names in a list.
-pub fn name_set<'a>(alloc: Global, names: &[&'a [u8]]) -> Result<Names<'a>, NoMemory>
+pub fn name_set<'a>(alloc: Global, names: &[&'a [u8]]) -> Result<NameSet<'a>, NoMemory>
     ensures { IfOk result (λ set. (name : List ℕ) → has_name set name ≡ has_name (names_of names.now) name) }
 {
-    let mut set = Names::empty(alloc);
+    let mut set = NameSet::empty(alloc);
     for name in names {
         set.add(*name)?;
     }
     Ok(set)
 }
 
-fn first_not_in<'a>(set: &Names, names: &[&'a [u8]]) -> Option<&'a [u8]>
+fn first_not_in<'a>(set: &NameSet, names: &[&'a [u8]]) -> Option<&'a [u8]>
     ensures { option_copied result ≡ find (λ name. not (has_name set.now name)) (names_of names.now) }
 {
     for name in names {

@@ -8,14 +8,14 @@ use crate::repeats::{first_repeated, names_of_modules, repeated_param};
 use crate::statements::StatementRule;
 use nl_base::{NoMemory, Refusal, Rule};
 use std::alloc::Global;
-use vlog_design::names::Names;
+use vlog_design::names::NameSet;
 use vlog_values::{Instances, Module, VlogFile};
 
 /// The module of an instance is there.
 #[derive(Drop)]
 pub struct UnknownModules<'a> {
     pub modules: &'a [Module],
-    pub names: Names<'a>,
+    pub names: NameSet<'a>,
     ghost are_named: { names ≡ map (λ m. m.name) modules.now },
 }
 

@@ -8,7 +8,7 @@ ghost use Rattle.vlog_rules.specs.Redeclared.{other_in, other_slot};
 use crate::refusals::refuse;
 use nl_base::{NoMemory, Range, Refusal, Rule};
 use std::alloc::Global;
-use vlog_design::signals::{Place, Slot};
+use vlog_design::signals::{SignalAt, Slot};
 use vlog_design::table::Table;
 use vlog_values::{ItemV, Module, NetDecl};
 
@@ -31,8 +31,8 @@ fn is_other_slot(range: Option<Range>, slot: Slot) -> bool
     ensures { result ≡ other_slot range slot }
 {
     match slot.place {
-        Place::AtPort(_) => !same_range(range, slot.range),
-        Place::AtNet(_) => false,
+        SignalAt::AtPort(_) => !same_range(range, slot.range),
+        SignalAt::AtNet(_) => false,
     }
 }
 

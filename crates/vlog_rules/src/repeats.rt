@@ -6,7 +6,7 @@ ghost use Rattle.vlog_design.specs.Tables.{names_of};
 
 use nl_base::NoMemory;
 use std::alloc::Global;
-use vlog_design::names::Names;
+use vlog_design::names::NameSet;
 use vlog_values::{Conns, Module, NamedConn, ParamSet};
 
 /// Up to how many names are compared with each other, since a set of so few takes longer.
@@ -40,7 +40,7 @@ fn first_among<'a>(names: &[&'a [u8]]) -> Option<&'a [u8]>
 fn first_in_set<'a>(alloc: Global, names: &[&'a [u8]]) -> Result<Option<&'a [u8]>, NoMemory>
     ensures { IfOk result (λ found. option_copied found ≡ first_of (clashing bytes_eq [] (names_of names.now))) }
 {
-    let mut seen = Names::empty(alloc);
+    let mut seen = NameSet::empty(alloc);
     for name in names {
         let new = seen.add(*name)?;
         if !new {

@@ -7,7 +7,7 @@ use Rattle.net_hier.specs.Cells.{width_of}
 use Rattle.nl_base.specs.Ranges.{Bounds}
 use Rattle.vlog_design.specs.Names.{Name, Signal, Wire, decl_wires, has_name, implicit_names, is_declared, is_implicit, module_uses, net_decls, net_names, net_signals, port_names, port_range, port_signals, signal_named, signals, wires}
 use Rattle.vlog_design.specs.Rules.{declared_twice}
-use Rattle.vlog_design.specs.declared.signals.Place.TheVariants.{AtNet}
+use Rattle.vlog_design.specs.declared.signals.SignalAt.TheVariants.{AtNet}
 use Rattle.vlog_scopes.specs.Signals.{declared_nets, declared_signals}
 use Rattle.vlog_scopes.specs.Distinct.{Distinct, signal_names}
 use Rattle.vlog_scopes.specs.Ranged.{RangedName, net_slots, number_behind, of_range, plain_names, port_slots, range_named, ranged_nets}

@@ -4,7 +4,7 @@ use Rattle.std.specs.Option.{option_and_then}
 use Rattle.nl_base.specs.Ranges.{Bounds}
 use Rattle.net_hier.specs.Cells.{width_of}
 use Rattle.vlog_design.specs.Names.{Name, Signal}
-use Rattle.vlog_design.specs.declared.signals.Place.TheVariants.{AtPort, AtNet}
+use Rattle.vlog_design.specs.declared.signals.SignalAt.TheVariants.{AtPort, AtNet}
 use Rattle.vlog_scopes.specs.declared.ranged.Ranged.{Ranged}
 use Rattle.vlog_values.specs.declared.declaration.NetDecl.{NetDecl}
 use Rattle.vlog_values.specs.declared.declaration.PortDecl.{PortDecl}

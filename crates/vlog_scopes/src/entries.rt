@@ -13,14 +13,14 @@ use crate::lists::{port_set, ports_in, ranged_set};
 use crate::ranged::{Ranged, directions_in, nets_in, range_in, without_ports};
 use nl_base::{NoMemory, Range};
 use std::alloc::Global;
-use vlog_design::names::Names;
-use vlog_design::signals::{Place, Slot};
+use vlog_design::names::NameSet;
+use vlog_design::signals::{SignalAt, Slot};
 use vlog_values::Module;
 
 fn push_entry<'a>(
     name: &'a [u8],
     range: Option<Range>,
-    place: Place,
+    place: SignalAt,
     out: &mut Vec<(&'a [u8], Slot)>,
 ) -> Result<(), NoMemory>
     ensures added { OnOk result (signals_of out.new.items ≡ signals_of out.old.items ++ record { name = name.now; slot = record { range = range; place = place } } ∷ []) }
@@ -33,7 +33,7 @@ fn push_entry<'a>(
 
 fn push_ports<'a>(
     listed: &[&'a [u8]],
-    names: &Names,
+    names: &NameSet,
     directions: &[Ranged],
     out: &mut Vec<(&'a [u8], Slot)>,
 ) -> Result<(), NoMemory>
@@ -44,7 +44,7 @@ fn push_ports<'a>(
     for number in 0..listed.len() {
         let name = listed[number];
         let range = range_in(names, directions, name);
-        push_entry(name, range, Place::AtPort(number as u32), out)?;
+        push_entry(name, range, SignalAt::AtPort(number as u32), out)?;
     }
     Ok(())
 }
@@ -86,7 +86,7 @@ fn push_nets<'a>(nets: &[Ranged<'a>], out: &mut Vec<(&'a [u8], Slot)>) -> Result
 {
     let mut first: u64 = 0;
     for net in nets {
-        push_entry(net.name, net.range, Place::AtNet(first), out)?;
+        push_entry(net.name, net.range, SignalAt::AtNet(first), out)?;
         first += bits_of(net.range);
     }
     Ok(first)
@@ -124,7 +124,7 @@ fn push_single<'a>(
         push_entry(
             names[number],
             None,
-            Place::AtNet(first + number as u64),
+            SignalAt::AtNet(first + number as u64),
             out,
         )?;
     }

@@ -10,7 +10,7 @@ use crate::lists::declared_set;
 use crate::targets::targets_in;
 use nl_base::NoMemory;
 use std::alloc::Global;
-use vlog_design::names::Names;
+use vlog_design::names::NameSet;
 use vlog_design::uses::{UseOf, uses_in};
 use vlog_rules::lists::name_set;
 use vlog_values::{Module, Select};
@@ -26,14 +26,14 @@ pub(crate) fn is_whole(select: Select) -> bool
 }
 
 /// Whether the name stands whole and is not declared.
-fn is_undeclared(declared: &Names, u: &UseOf) -> bool
+fn is_undeclared(declared: &NameSet, u: &UseOf) -> bool
     ensures { result ≡ (is_whole u.now.select && not (has_name declared.now u.now.name.now)) }
 {
     is_whole(u.select) && !declared.has(u.name)
 }
 
 fn push_undeclared<'a>(
-    declared: &Names,
+    declared: &NameSet,
     u: &UseOf<'a>,
     out: &mut Vec<&'a [u8]>,
 ) -> Result<(), NoMemory>
@@ -48,7 +48,7 @@ fn push_undeclared<'a>(
 
 fn undeclared_in<'a>(
     alloc: Global,
-    declared: &Names,
+    declared: &NameSet,
     uses: &[UseOf<'a>],
 ) -> Result<Vec<&'a [u8]>, NoMemory>
     ensures { IfOk result (λ names. names_of names.items ≡ undeclared declared.now (uses_of uses.now)) }
@@ -61,7 +61,11 @@ fn undeclared_in<'a>(
 }
 
 /// The set of the names that are not declared and stand whole where a net may be without a declaration: mostly there are none.
-fn undeclared_set<'a>(alloc: Global, declared: &Names, m: &'a Module) -> Result<Names<'a>, NoMemory>
+fn undeclared_set<'a>(
+    alloc: Global,
+    declared: &NameSet,
+    m: &'a Module,
+) -> Result<NameSet<'a>, NoMemory>
     ensures { IfOk result (λ set. (name : List ℕ) → has_name set name ≡ (not (has_name declared.now name) && list_any (λ u. bytes_eq name u.name && is_whole u.select) (target_uses m.now))) }
 {
     let uses = targets_in(alloc, m)?;
@@ -72,7 +76,7 @@ fn undeclared_set<'a>(alloc: Global, declared: &Names, m: &'a Module) -> Result<
 
 fn push_new<'a>(
     name: &'a [u8],
-    seen: &mut Names<'a>,
+    seen: &mut NameSet<'a>,
     out: &mut Vec<&'a [u8]>,
 ) -> Result<(), NoMemory>
     ensures seen { OnOk result (seen.new ≡ seen.old ++ new_place (λ _. true) seen.old name.now) }
@@ -88,8 +92,8 @@ fn push_new<'a>(
 
 fn push_use<'a>(
     name: &'a [u8],
-    nets: &Names,
-    seen: &mut Names<'a>,
+    nets: &NameSet,
+    seen: &mut NameSet<'a>,
     out: &mut Vec<&'a [u8]>,
 ) -> Result<(), NoMemory>
     ensures seen { OnOk result (seen.new ≡ seen.old ++ new_place (has_name nets.now) seen.old name.now) }
@@ -102,10 +106,14 @@ fn push_use<'a>(
 }
 
 /// The names that are used of these, each once, in the order of first use.
-fn new_names<'a>(alloc: Global, nets: &Names, uses: &[UseOf<'a>]) -> Result<Vec<&'a [u8]>, NoMemory>
+fn new_names<'a>(
+    alloc: Global,
+    nets: &NameSet,
+    uses: &[UseOf<'a>],
+) -> Result<Vec<&'a [u8]>, NoMemory>
     ensures { IfOk result (λ names. names_of names.items ≡ new_places (has_name nets.now) [] (used_names (uses_of uses.now))) }
 {
-    let mut seen = Names::empty(alloc);
+    let mut seen = NameSet::empty(alloc);
     let mut names = Vec::new(alloc);
     for u in uses {
         push_use(u.name, nets, &mut seen, &mut names)?;

@@ -7,23 +7,23 @@ ghost use Rattle.vlog_scopes.specs.Distinct.{AreDeclaredOnce, Distinct, module_n
 use crate::lists::port_set;
 use nl_base::NoMemory;
 use std::alloc::Global;
-use vlog_design::names::Names;
+use vlog_design::names::NameSet;
 use vlog_rules::library::ModulePorts;
 use vlog_values::Module;
 
 /// The set of the names of modules, in their order, which differ.
-pub fn module_set<'a>(alloc: Global, modules: &[&'a Module]) -> Result<Names<'a>, NoMemory>
+pub fn module_set<'a>(alloc: Global, modules: &[&'a Module]) -> Result<NameSet<'a>, NoMemory>
     requires { Distinct (module_names (modules_of modules.now)) }
     ensures { IfOk result (λ set. set ≡ module_names (modules_of modules.now)) }
 {
-    let mut set = Names::empty(alloc);
+    let mut set = NameSet::empty(alloc);
     for m in modules {
         set.add(m.name.bytes())?;
     }
     Ok(set)
 }
 
-fn port_sets<'a>(alloc: Global, modules: &[&'a Module]) -> Result<Vec<Names<'a>>, NoMemory>
+fn port_sets<'a>(alloc: Global, modules: &[&'a Module]) -> Result<Vec<NameSet<'a>>, NoMemory>
     requires { AreDeclaredOnce (modules_of modules.now) }
     ensures { IfOk result (λ ports. ports.items ≡ map port_names (modules_of modules.now)) }
 {

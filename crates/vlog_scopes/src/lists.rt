@@ -11,7 +11,7 @@ ghost use Rattle.vlog_scopes.specs.Ranged.{lent_names};
 use crate::ranged::Ranged;
 use nl_base::NoMemory;
 use std::alloc::Global;
-use vlog_design::names::Names;
+use vlog_design::names::NameSet;
 use vlog_design::signals::Kind;
 use vlog_rules::declared::declarations_in;
 use vlog_rules::lists::{name_set, push_texts};
@@ -46,11 +46,11 @@ pub fn ports_in<'a>(alloc: Global, m: &'a Module) -> Result<Vec<&'a [u8]>, NoMem
 }
 
 /// The set of names that differ, in their order.
-pub fn distinct<'a>(alloc: Global, names: &[&'a [u8]]) -> Result<Names<'a>, NoMemory>
+pub fn distinct<'a>(alloc: Global, names: &[&'a [u8]]) -> Result<NameSet<'a>, NoMemory>
     requires { Distinct (names_of names.now) }
     ensures { IfOk result (λ set. set ≡ names_of names.now) }
 {
-    let mut set = Names::empty(alloc);
+    let mut set = NameSet::empty(alloc);
     for name in names {
         set.add(*name)?;
     }
@@ -58,11 +58,11 @@ pub fn distinct<'a>(alloc: Global, names: &[&'a [u8]]) -> Result<Names<'a>, NoMe
 }
 
 /// The set of the declared names, in their order, which differ.
-pub fn ranged_set<'a>(alloc: Global, ranged: &[Ranged<'a>]) -> Result<Names<'a>, NoMemory>
+pub fn ranged_set<'a>(alloc: Global, ranged: &[Ranged<'a>]) -> Result<NameSet<'a>, NoMemory>
     requires { Distinct (lent_names ranged.now) }
     ensures { IfOk result (λ set. set ≡ lent_names ranged.now) }
 {
-    let mut set = Names::empty(alloc);
+    let mut set = NameSet::empty(alloc);
     for one in ranged {
         set.add(one.name)?;
     }
@@ -70,7 +70,7 @@ pub fn ranged_set<'a>(alloc: Global, ranged: &[Ranged<'a>]) -> Result<Names<'a>,
 }
 
 /// The set of the module's ports, in the order of the header.
-pub fn port_set<'a>(alloc: Global, m: &'a Module) -> Result<Names<'a>, NoMemory>
+pub fn port_set<'a>(alloc: Global, m: &'a Module) -> Result<NameSet<'a>, NoMemory>
     requires { declared_twice m.now ≡ [] }
     ensures { IfOk result (λ set. set ≡ port_names m.now) }
 {
@@ -93,7 +93,7 @@ fn names_declared<'a>(
 }
 
 /// The set of the names that the module declares.
-pub fn declared_set<'a>(alloc: Global, m: &'a Module) -> Result<Names<'a>, NoMemory>
+pub fn declared_set<'a>(alloc: Global, m: &'a Module) -> Result<NameSet<'a>, NoMemory>
     ensures { IfOk result (λ set. (name : List ℕ) → has_name set name ≡ is_declared m.now name) }
 {
     let declarations = declarations_in(alloc, m)?;

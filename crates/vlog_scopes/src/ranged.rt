@@ -5,7 +5,7 @@ ghost use Rattle.vlog_scopes.specs.Ranged.{lent_names, range_named, ranged_name,
 
 use nl_base::{NoMemory, Range};
 use std::alloc::Global;
-use vlog_design::names::Names;
+use vlog_design::names::NameSet;
 use vlog_values::{Header, ItemV, Module, NetDecl, PortDecl};
 
 /// A name with the range that is declared for it.
@@ -122,7 +122,7 @@ pub fn nets_in<'a>(alloc: Global, m: &'a Module) -> Result<Vec<Ranged<'a>>, NoMe
 }
 
 fn push_other<'a>(
-    ports: &Names,
+    ports: &NameSet,
     one: &Ranged<'a>,
     out: &mut Vec<Ranged<'a>>,
 ) -> Result<(), NoMemory>
@@ -137,7 +137,7 @@ fn push_other<'a>(
 /// Those that are no ports.
 pub fn without_ports<'a>(
     alloc: Global,
-    ports: &Names,
+    ports: &NameSet,
     ranged: &[Ranged<'a>],
 ) -> Result<Vec<Ranged<'a>>, NoMemory>
     ensures { IfOk result (λ found. ranged_names found.items ≡ filter (λ other. not (has_name ports.now other.name)) (ranged_names ranged.now)) }
@@ -150,7 +150,7 @@ pub fn without_ports<'a>(
 }
 
 /// The range of the first that has the name, by the set of their names.
-pub fn range_in(names: &Names, ranged: &[Ranged], name: &[u8]) -> Option<Range>
+pub fn range_in(names: &NameSet, ranged: &[Ranged], name: &[u8]) -> Option<Range>
     requires { names.now ≡ lent_names ranged.now }
     ensures { result ≡ range_named (ranged_names ranged.now) name.now }
 {

@@ -12,7 +12,7 @@ ghost use Rattle.vlog_scopes.specs.Instances.{instance_pairs, linked, links_in, 
 use net_graph::recursion::{Recursion, first_recursion as first_in_graph};
 use nl_base::{NoMemory, Refusal, Rule, Seq};
 use std::alloc::Global;
-use vlog_design::names::Names;
+use vlog_design::names::NameSet;
 use vlog_rules::refusals::refuse;
 use vlog_values::{Instances, ItemV, Module};
 
@@ -34,7 +34,7 @@ fn push_link<'a>(
 }
 
 fn push_statement<'a>(
-    names: &Names,
+    names: &NameSet,
     statement: &'a Instances,
     out: &mut Vec<(&'a [u8], u32)>,
 ) -> Result<(), NoMemory>
@@ -49,7 +49,7 @@ fn push_statement<'a>(
 }
 
 fn push_item<'a>(
-    names: &Names,
+    names: &NameSet,
     item: &'a ItemV,
     out: &mut Vec<(&'a [u8], u32)>,
 ) -> Result<(), NoMemory>
@@ -68,7 +68,11 @@ fn push_item<'a>(
 
 /// The instances of a module whose modules are there, with their numbers.
 #[tactic(auto, unfolding(crate::specs::Instances::instance_pairs, vlog_design::specs::Names::instance_statements))]
-fn links<'a>(alloc: Global, names: &Names, m: &'a Module) -> Result<Vec<(&'a [u8], u32)>, NoMemory>
+fn links<'a>(
+    alloc: Global,
+    names: &NameSet,
+    m: &'a Module,
+) -> Result<Vec<(&'a [u8], u32)>, NoMemory>
     requires { length names.now ≤ 2 ^ 32 }
     ensures { IfOk result (λ found. links_of found.items ≡ links_in names.now (instance_pairs m.now)) }
 {
@@ -89,7 +93,7 @@ fn numbers_of(alloc: Global, links: &[(&[u8], u32)]) -> Result<Seq<u32>, NoMemor
     Ok(numbers)
 }
 
-fn below(alloc: Global, names: &Names, m: &Module) -> Result<Seq<u32>, NoMemory>
+fn below(alloc: Global, names: &NameSet, m: &Module) -> Result<Seq<u32>, NoMemory>
     requires { length names.now ≤ 2 ^ 32 }
     ensures { IfOk result (λ numbers. numbers ≡ numbers_in names.now m.now) }
 {
@@ -98,7 +102,7 @@ fn below(alloc: Global, names: &Names, m: &Module) -> Result<Seq<u32>, NoMemory>
     Ok(numbers)
 }
 
-fn graph_by(alloc: Global, names: &Names, modules: &[&Module]) -> Result<Vec<Seq<u32>>, NoMemory>
+fn graph_by(alloc: Global, names: &NameSet, modules: &[&Module]) -> Result<Vec<Seq<u32>>, NoMemory>
     requires { length names.now ≤ 2 ^ 32 }
     ensures { IfOk result (λ graph. graph.items ≡ map (numbers_in names.now) (modules_of modules.now)) }
 {
@@ -112,7 +116,7 @@ fn graph_by(alloc: Global, names: &Names, modules: &[&Module]) -> Result<Vec<Seq
 /// The first module that reaches itself, and the place of the instance through which it does, among those whose modules are there.
 fn recursion_in(
     alloc: Global,
-    names: &Names,
+    names: &NameSet,
     modules: &[&Module],
     top: u32,
 ) -> Result<Option<Recursion>, NoMemory>
@@ -129,7 +133,7 @@ fn recursion_in(
 /// The refusal of the instance through which a module reaches itself.
 fn refuse_recursion(
     alloc: Global,
-    names: &Names,
+    names: &NameSet,
     modules: &[&Module],
     number: u32,
     place: usize,
@@ -151,7 +155,7 @@ fn refuse_recursion(
 /// it takes time in proportion to the modules.
 pub fn first_recursion(
     alloc: Global,
-    names: &Names,
+    names: &NameSet,
     modules: &[&Module],
     top: u32,
 ) -> Result<Option<Refusal>, NoMemory>

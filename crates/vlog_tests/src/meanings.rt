@@ -4,9 +4,9 @@ use nl_base::{Int, Range, Seq, Text};
 use std::alloc::Global;
 use std::test::Fail;
 use vlog_design::joins::push_joins;
-use vlog_design::names::Names;
+use vlog_design::names::NameSet;
 use vlog_design::runs::Runs;
-use vlog_design::signals::{Place, Slot};
+use vlog_design::signals::{SignalAt, Slot};
 use vlog_design::table::Table;
 use vlog_design::uses::uses_in;
 use vlog_design::widths::expr_width;
@@ -24,7 +24,7 @@ fn reference(alloc: Global, name: &[u8]) -> Result<Expr, Fail> {
 fn repeated_width(alloc: Global, count: Int) -> Result<u64, Fail> {
     let mut table = Table::empty(alloc);
     let range = Some(Range { left: 1, right: 0 });
-    let place = Place::AtPort(0);
+    let place = SignalAt::AtPort(0);
     table.add(b"b".as_slice(), Slot { range, place })?;
     let mut parts = Seq::empty(alloc);
     parts.push(reference(alloc, b"b")?)?;
@@ -45,7 +45,7 @@ fn widths(rt: HostRuntime) -> Result<(), Fail> {
 
 #[test]
 fn names(rt: HostRuntime) -> Result<(), Fail> {
-    let mut names = Names::empty(rt.alloc());
+    let mut names = NameSet::empty(rt.alloc());
     assert!(rt; names.add(b"a".as_slice())?);
     assert!(rt; names.add(b"b".as_slice())?);
     assert!(rt; !names.add(b"a".as_slice())?);

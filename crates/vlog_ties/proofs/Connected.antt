@@ -7,7 +7,7 @@ use Rattle.std.proofs.lemmas.List.{map-append}
 use Rattle.net_hier.specs.Cells.{width_of}
 use Rattle.vlog_design.specs.Design.{Connection, connection_named, connections, connections_in_order}
 use Rattle.vlog_design.specs.Names.{Name, Signal, Wire, has_name, net_signals, port_names, port_range, port_signals, signal_named, signals, wires}
-use Rattle.vlog_design.specs.declared.signals.Place.TheVariants.{AtPort, AtNet}
+use Rattle.vlog_design.specs.declared.signals.SignalAt.TheVariants.{AtPort, AtNet}
 use Rattle.vlog_ties.specs.Ties.{connection_by_name, connection_by_place, connection_to, connections_among, connections_from, instance_ties, instances_ties, pin_of}
 use Rattle.vlog_values.specs.declared.expression.Expr.{Expr}
 use Rattle.vlog_values.specs.declared.module.Module.{Module}

@@ -10,7 +10,7 @@ use Rattle.vlog_design.specs.Design.{joins_between}
 use Rattle.vlog_design.specs.Exprs.{bits, constant_bit, is_live, live_step, live_width, repeated, signal_bits, span_bits, span_count, span_of, times}
 use Rattle.vlog_design.specs.Names.{Name, Signal, signal_named}
 use Rattle.vlog_design.specs.Ranges.{selected}
-use Rattle.vlog_design.specs.declared.signals.Place.{Place}
+use Rattle.vlog_design.specs.declared.signals.SignalAt.{SignalAt}
 use Rattle.vlog_design.specs.declared.signals.Slot.{Slot}
 use Rattle.vlog_design.specs.declared.signals.Span.{Span}
 use Rattle.vlog_design.proofs.ExprLemmas.{bits-Cat, bits-Lit, bits-Loose, bits-LooseNumber, bits-Ref, bits-Rep}
@@ -74,7 +74,7 @@ length-range : (first count : ℕ) → length (range_with_len first count) ≡ c
 length-range first zero = refl
 length-range first (suc count) = ap suc (length-range (first + 1) count)
 
-span_there : (place : Place) (o : Option Span) → somes (option_map_or (span_bits place) o []) ≡ span_count o
+span_there : (place : SignalAt) (o : Option Span) → somes (option_map_or (span_bits place) o []) ≡ span_count o
 span_there place None = refl
 span_there place (Some span) = all_there _ (range_with_len span.first span.count) ∙ length-range span.first span.count
 
@@ -139,7 +139,7 @@ pub every_there : {A : Type 0} (f : A → Node) (xs : List A) → AllByRecursion
 every_there f [] = tt
 every_there f (x ∷ xs) = (refl, every_there f xs)
 
-span_every : (place : Place) (o : Option Span) → AllByRecursion IsThere (option_map_or (span_bits place) o [])
+span_every : (place : SignalAt) (o : Option Span) → AllByRecursion IsThere (option_map_or (span_bits place) o [])
 span_every place None = tt
 span_every place (Some span) = every_there _ (range_with_len span.first span.count)
 

@@ -15,8 +15,8 @@ use Rattle.vlog_design.specs.Exprs.{bits, has_loose, literals, live_width, width
 use Rattle.vlog_design.specs.Names.{Name, Signal, signal_named, signals}
 use Rattle.vlog_design.specs.Reach.{module_named}
 use Rattle.vlog_design.specs.Rules.{Objects, unequal_widths, unsized}
-use Rattle.vlog_design.specs.declared.signals.Place.{Place}
-use Rattle.vlog_design.specs.declared.signals.Place.TheVariants.{AtPort, AtNet}
+use Rattle.vlog_design.specs.declared.signals.SignalAt.{SignalAt}
+use Rattle.vlog_design.specs.declared.signals.SignalAt.TheVariants.{AtPort, AtNet}
 use Rattle.vlog_design.specs.declared.signals.Slot.{Slot}
 use Rattle.vlog_rules.specs.declared.passes.ModuleScope.{ModuleScope}
 use Rattle.vlog_values.specs.declared.expression.Expr.{Expr}
@@ -92,7 +92,7 @@ tie_joins names tie = tied_joins names (tied tie)
 -- what connections tie, by the names of the module below
 
 -- a connection to the port of this number; a net is no port
-abbrev pub connection_at_place : Name → Option Bounds → Expr → Place → List Connection
+abbrev pub connection_at_place : Name → Option Bounds → Expr → SignalAt → List Connection
 connection_at_place name range value (AtPort number) = record { number = number; port = name; range = range; value = value } ∷ []
 connection_at_place name range value (AtNet first) = []
 

@@ -5,7 +5,7 @@ ghost use Rattle.vlog_ties.specs.Ties.{all_tied, connection_by_name, connection_
 
 use crate::tie::Tie;
 use nl_base::{NoMemory, Range};
-use vlog_design::signals::{Place, Slot};
+use vlog_design::signals::{SignalAt, Slot};
 use vlog_design::table::Table;
 use vlog_rules::passes::ModuleScope;
 use vlog_values::{Conns, Expr, NamedConn, VInst};
@@ -32,7 +32,7 @@ fn push_pin<'a>(
     ensures added { OnOk result (all_tied out.new.items ≡ all_tied out.old.items ++ map (pin_of instance.now number) (connection_to port.now slot value.now)) }
 {
     match slot.place {
-        Place::AtPort(port_number) => {
+        SignalAt::AtPort(port_number) => {
             out.push(Tie::Pin {
                 instance,
                 number,
@@ -43,7 +43,7 @@ fn push_pin<'a>(
             })?;
             Ok(())
         }
-        Place::AtNet(_) => Ok(()),
+        SignalAt::AtNet(_) => Ok(()),
     }
 }
 

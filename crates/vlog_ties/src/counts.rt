@@ -12,7 +12,7 @@ use crate::tie::Tie;
 use crate::ties::ties_of;
 use nl_base::NoMemory;
 use std::alloc::Global;
-use vlog_design::names::Names;
+use vlog_design::names::NameSet;
 use vlog_design::table::Table;
 use vlog_design::widths::{expr_width, range_width, selected_width, times};
 use vlog_rules::passes::ModuleScope;
@@ -117,7 +117,7 @@ fn ties_count(alloc: Global, table: &Table, ties: &[Tie]) -> Result<u64, NoMemor
 /// of each connection and assignment have one width, and no unsized literal.
 pub fn join_count(
     alloc: Global,
-    names: &Names,
+    names: &NameSet,
     scopes: &[ModuleScope],
     scope: &ModuleScope,
 ) -> Result<u64, NoMemory>

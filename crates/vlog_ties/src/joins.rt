@@ -14,7 +14,7 @@ use nl_base::NoMemory;
 use std::alloc::Global;
 use vlog_design::bits::{node, push_bits};
 use vlog_design::joins::push_joins;
-use vlog_design::names::Names;
+use vlog_design::names::NameSet;
 use vlog_design::runs::Runs;
 use vlog_design::signals::Slot;
 use vlog_design::table::Table;
@@ -110,7 +110,7 @@ pub fn push_ties(
 /// The joins of a module, where `scopes` are the modules below it and `names` their names.
 pub fn joins_of(
     alloc: Global,
-    names: &Names,
+    names: &NameSet,
     scopes: &[ModuleScope],
     scope: &ModuleScope,
 ) -> Result<Vec<Join>, NoMemory>

@@ -12,7 +12,7 @@ use crate::rules::{TieRule, first_refusal};
 use crate::ties::ties_of;
 use nl_base::{NoMemory, Refusal};
 use std::alloc::Global;
-use vlog_design::names::Names;
+use vlog_design::names::NameSet;
 use vlog_rules::passes::ModuleScope;
 
 /// What the two sides of connections and assignments of modules break, and at most how many joins the modules have.
@@ -29,7 +29,7 @@ pub struct Sides {
 /// The sides of the module of a scope.
 fn sides_in_scope(
     alloc: Global,
-    names: &Names,
+    names: &NameSet,
     scopes: &[ModuleScope],
     scope: &ModuleScope,
 ) -> Result<Sides, NoMemory>
@@ -74,7 +74,7 @@ fn joined(front: Sides, back: Sides) -> Sides
 }
 
 /// The sides of the modules, where `scopes` are the modules and `names` their names. What is tied is gathered once.
-pub fn sides_of(alloc: Global, names: &Names, scopes: &[ModuleScope]) -> Result<Sides, NoMemory>
+pub fn sides_of(alloc: Global, names: &NameSet, scopes: &[ModuleScope]) -> Result<Sides, NoMemory>
     requires named { names.now ≡ map (λ m. m.name) (modules_in scopes.now) }
     requires valid { AllByRecursion IsModule (modules_in scopes.now) }
     requires small { AllByRecursion (λ m. module_size m ≤ 268435456) (modules_in scopes.now) }

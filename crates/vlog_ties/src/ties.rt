@@ -11,7 +11,7 @@ use crate::tie::Tie;
 use net_hier::Node;
 use nl_base::{NoMemory, Text};
 use std::alloc::Global;
-use vlog_design::names::Names;
+use vlog_design::names::NameSet;
 use vlog_rules::passes::ModuleScope;
 use vlog_values::{Assignment, Instances, ItemV, Module, NetDecl, NetKind};
 
@@ -56,7 +56,7 @@ fn push_net<'a>(decl: &'a NetDecl, out: &mut Vec<Tie<'a>>) -> Result<(), NoMemor
 
 /// The scope of the module of this name, where it is there.
 pub fn scope_named<'s, 'a>(
-    names: &Names,
+    names: &NameSet,
     scopes: &'s [ModuleScope<'a>],
     name: &[u8],
 ) -> Option<&'s ModuleScope<'a>>
@@ -86,7 +86,7 @@ fn instance_count(item: &ItemV) -> u32
 
 #[tactic(auto, unfolding(crate::specs::Ties::item_ties))]
 fn push_item<'a>(
-    names: &Names,
+    names: &NameSet,
     scopes: &[ModuleScope<'a>],
     number: u32,
     item: &'a ItemV,
@@ -112,7 +112,7 @@ fn push_item<'a>(
 }
 
 fn push_items<'a>(
-    names: &Names,
+    names: &NameSet,
     scopes: &[ModuleScope<'a>],
     items: &'a [ItemV],
     out: &mut Vec<Tie<'a>>,
@@ -133,7 +133,7 @@ fn push_items<'a>(
 #[tactic(auto, unfolding(crate::specs::Ties::module_ties))]
 pub fn ties_of<'a>(
     alloc: Global,
-    names: &Names,
+    names: &NameSet,
     scopes: &[ModuleScope<'a>],
     m: &'a Module,
 ) -> Result<Vec<Tie<'a>>, NoMemory>

@@ -11,7 +11,7 @@ use Rattle.vlog_tokens.specs.declared.phase.Step.{Step}
 use Rattle.vlog_tokens.specs.declared.phase.Step.TheVariants.{Keep, Pass, Ends, Bad}
 use Rattle.vlog_tokens.specs.declared.start.Start.{Start}
 use Rattle.vlog_tokens.specs.declared.start.Start.TheVariants as starts
-use Rattle.vlog_tokens.specs.declared.mark.Twin.TheVariants as twins
+use Rattle.vlog_tokens.specs.declared.mark.PairStart.TheVariants as pair_starts
 use Rattle.vlog_tokens.specs.declared.string.Escaped.{Escaped}
 use Rattle.vlog_tokens.specs.declared.string.Escaped.TheVariants.{Stands, Octal, NoEscape, NoByte}
 use Rattle.vlog_tokens.specs.Flaws.{Piece, Flaw, flaw, ◌>>=◌}
@@ -115,8 +115,8 @@ by_within : (start : Start) (b : ℕ) (bs : List ℕ) → IsWithin (suc (length 
 by_within starts.White b bs = (omega arith, omega arith)
 by_within (starts.Lexeme phase) b bs = finish_within (suc (length bs)) (scan_at phase (kept phase b) 1 bs) (more (1 + length bs) (suc (length bs)) _ (one_more (length bs)) (scan_within phase (kept phase b) 1 bs))
 by_within starts.Quote b bs = str_within (suc (length bs)) (string_at Parts [] 1 bs) (more (1 + length bs) (suc (length bs)) _ (one_more (length bs)) (string_within Parts [] 1 bs))
-by_within starts.Open b bs = pair_within 42 (both_of twins.Open) (single_of twins.Open) bs
-by_within starts.Star b bs = pair_within 41 (both_of twins.Star) (single_of twins.Star) bs
+by_within starts.Open b bs = pair_within 42 (both_of pair_starts.Open) (single_of pair_starts.Open) bs
+by_within starts.Star b bs = pair_within 41 (both_of pair_starts.Star) (single_of pair_starts.Star) bs
 by_within starts.Slash b bs = slash_within bs
 by_within starts.Mark b bs = (omega arith, omega arith)
 by_within starts.Sign b bs = (omega arith, omega arith)

@@ -12,8 +12,8 @@ use Rattle.vlog_tokens.specs.declared.phase.Phase.{Phase}
 use Rattle.vlog_tokens.specs.declared.phase.Phase.TheVariants.{Word, Escape, Whole, Prefix, Grave}
 use Rattle.vlog_tokens.specs.declared.start.Start.{Start}
 use Rattle.vlog_tokens.specs.declared.start.Start.TheVariants.{White, Lexeme, Quote, Open, Star, Slash, Mark, Sign, Other}
-use Rattle.vlog_tokens.specs.declared.mark.Twin.{Twin}
-use Rattle.vlog_tokens.specs.declared.mark.Twin.TheVariants as twins
+use Rattle.vlog_tokens.specs.declared.mark.PairStart.{PairStart}
+use Rattle.vlog_tokens.specs.declared.mark.PairStart.TheVariants as pair_starts
 use Rattle.vlog_tokens.specs.Flaws.{Piece, Flaw, ◌>>=◌, flaw}
 use Rattle.vlog_tokens.specs.Scanning.{begun}
 use Rattle.vlog_tokens.specs.Items.{finish}
@@ -48,23 +48,23 @@ pair_by second both single None = alone single
 pair_by second both single (Some b) = if b == second then Ok (record { value = both; count = 2; seen = 2 }) else Ok (record { value = single; count = 1; seen = 2 })
 
 -- the second byte of `(*` and of `*)`
-abbrev pub second_of : Twin → ℕ
-second_of twins.Open = 42
-second_of twins.Star = 41
+abbrev pub second_of : PairStart → ℕ
+second_of pair_starts.Open = 42
+second_of pair_starts.Star = 41
 
 -- what `(*` and `*)` are, which begin and end attributes (3.8)
-abbrev pub both_of : Twin → Item
-both_of twins.Open = Token AttrStart
-both_of twins.Star = Token AttrStop
+abbrev pub both_of : PairStart → Item
+both_of pair_starts.Open = Token AttrStart
+both_of pair_starts.Star = Token AttrStop
 
 -- what `(` and `*` are alone
-abbrev pub single_of : Twin → Item
-single_of twins.Open = Token (Punct 40)
-single_of twins.Star = Token (Symbol 42)
+abbrev pub single_of : PairStart → Item
+single_of pair_starts.Open = Token (Punct 40)
+single_of pair_starts.Star = Token (Symbol 42)
 
 -- `(*`, `*)`, `(` or `*`
-abbrev pub twin_by : Twin → Option ℕ → Result (Piece Item) Flaw
-twin_by twin next = pair_by (second_of twin) (both_of twin) (single_of twin) next
+abbrev pub pair_start_by : PairStart → Option ℕ → Result (Piece Item) Flaw
+pair_start_by pair_start next = pair_by (second_of pair_start) (both_of pair_start) (single_of pair_start) next
 
 -- after a `/`: a comment to the end of the line, a block comment, or a symbol (3.3)
 abbrev pub slash_by : Option ℕ → List ℕ → Result (Piece Item) Flaw
@@ -110,8 +110,8 @@ abbrev pub item_by : Start → ℕ → List ℕ → Result (Piece Item) Flaw
 item_by White b bs = alone Blank
 item_by (Lexeme phase) b bs = lexeme_spelled phase b bs
 item_by Quote b bs = string_spelled bs
-item_by Open b bs = twin_by twins.Open (first (drop 1 bs))
-item_by Star b bs = twin_by twins.Star (first (drop 1 bs))
+item_by Open b bs = pair_start_by pair_starts.Open (first (drop 1 bs))
+item_by Star b bs = pair_start_by pair_starts.Star (first (drop 1 bs))
 item_by Slash b bs = slash_by (first (drop 1 bs)) (drop 2 bs)
 item_by Mark b bs = alone (Token (Punct b))
 item_by Sign b bs = alone (Token (Symbol b))

@@ -8,7 +8,7 @@ ghost use Rattle.vlog_tokens.specs.Finding.{Finds, Passed, found_or_late};
 
 use crate::item::{Item, Spot};
 use crate::lexeme::lexeme;
-use crate::mark::{Twin, mark, pair, slash};
+use crate::mark::{PairStart, mark, pair, slash};
 use crate::scan::refuse;
 use crate::start::{Start, begins_name, start_of};
 use crate::string::string;
@@ -44,8 +44,8 @@ fn item<S: Source>(
         Start::White => Ok(mark(bytes, Item::Blank, source)),
         Start::Lexeme(begins) => lexeme(bytes, alloc, begins, byte, source),
         Start::Quote => string(bytes, alloc, source),
-        Start::Open => pair(bytes, Twin::Open, source),
-        Start::Star => pair(bytes, Twin::Star, source),
+        Start::Open => pair(bytes, PairStart::Open, source),
+        Start::Star => pair(bytes, PairStart::Star, source),
         Start::Slash => slash(bytes, source),
         Start::Mark => Ok(mark(bytes, Item::Token(VToken::Punct(byte)), source)),
         Start::Sign => Ok(mark(bytes, Item::Token(VToken::Symbol(byte)), source)),

@@ -33,21 +33,21 @@ pub fn mark<S: Source>(bytes: &mut Bytes, item: Item, source: &S) -> Spot
 
 /// A byte that is a token of two bytes where a second byte follows, and another token where none does.
 #[derive(Clone, Copy)]
-pub enum Twin {
+pub enum PairStart {
     /// `(`, and `(*`
     Open,
     /// `*`, and `*)`
     Star,
 }
 
-impl Twin {
+impl PairStart {
     /// The second byte.
     fn second(self) -> u8
         ensures { result ≡ second_of self }
     {
         match self {
-            Twin::Open => b'*',
-            Twin::Star => b')',
+            PairStart::Open => b'*',
+            PairStart::Star => b')',
         }
     }
 
@@ -56,8 +56,8 @@ impl Twin {
         ensures { result ≡ both_of self }
     {
         match self {
-            Twin::Open => Item::Token(VToken::AttrStart),
-            Twin::Star => Item::Token(VToken::AttrStop),
+            PairStart::Open => Item::Token(VToken::AttrStart),
+            PairStart::Star => Item::Token(VToken::AttrStop),
         }
     }
 
@@ -66,17 +66,21 @@ impl Twin {
         ensures { result ≡ single_of self }
     {
         match self {
-            Twin::Open => Item::Token(VToken::Punct(b'(')),
-            Twin::Star => Item::Token(VToken::Symbol(b'*')),
+            PairStart::Open => Item::Token(VToken::Punct(b'(')),
+            PairStart::Star => Item::Token(VToken::Symbol(b'*')),
         }
     }
 }
 
 /// Reads a byte ahead that has a second byte, or the byte alone.
-pub fn pair<S: Source>(bytes: &mut Bytes, twin: Twin, source: &mut S) -> Result<Spot, ReadError>
+pub fn pair<S: Source>(
+    bytes: &mut Bytes,
+    pair_start: PairStart,
+    source: &mut S,
+) -> Result<Spot, ReadError>
     requires ahead { (byte : ℕ) × (tail : List ℕ) × (bytes.old.held ≡ byte ∷ tail) }
     requires within { bytes.old.place.offset ≤ LIMIT }
-    ensures reads { Reads (λ bs. pair_by (second_of twin) (both_of twin) (single_of twin) (first (drop 1 bs))) bytes.old bytes.new (S.supply source.old).left (S.supply source.new).left result }
+    ensures reads { Reads (λ bs. pair_by (second_of pair_start) (both_of pair_start) (single_of pair_start) (first (drop 1 bs))) bytes.old bytes.new (S.supply source.old).left (S.supply source.new).left result }
     ensures proper { IfOk result (λ x. IsProperItem x.item) }
     ensures count { (S.supply source.old).faults ≤ (S.supply source.new).faults }
     ensures cause { IsErrOf result ReadError.ReadFault → Rose (S.supply source.old).faults (S.supply source.new).faults }
@@ -89,19 +93,19 @@ pub fn pair<S: Source>(bytes: &mut Bytes, twin: Twin, source: &mut S) -> Result<
     let next = bytes.peek(source)?;
     let Some(byte) = next else {
         return Ok(Spot {
-            item: twin.single(),
+            item: pair_start.single(),
             stop: place.offset + 1,
         });
     };
-    if byte != twin.second() {
+    if byte != pair_start.second() {
         return Ok(Spot {
-            item: twin.single(),
+            item: pair_start.single(),
             stop: place.offset + 2,
         });
     }
     bytes.advance();
     Ok(Spot {
-        item: twin.both(),
+        item: pair_start.both(),
         stop: place.offset + 2,
     })
 }

@@ -7,4 +7,4 @@ use Rattle.edif_cells.proofs.properties.instance_properties.Goals as goal
 
 pub loop-item-preserved : goal.loop-item-preserved
 loop-item-preserved c =
-    turn (filter_map instance_property) (λ x. option_to_list (instance_property x)) (filter_grows instance_property) c.args.items.now c.args.items.now refl c.loop-item.item-index c.item-item.result (omega arith) c.item-item.is [] c.loop-item.made _ c.loop-item.invariant c.in_ok-add_of_instance.ensures
+    turn (filter_map instance_property) (λ x. option_to_list (instance_property x)) (filter_grows instance_property) c.args.items.now c.args.items.now refl c.loop-item.item-index c.item-item.result (omega arith) c.item-item.is [] c.loop-item.made _ c.loop-item.invariant c.in_ok-push_of_instance.ensures

@@ -7,4 +7,4 @@ use Rattle.edif_cells.proofs.properties.net_properties.Goals as goal
 
 pub loop-item-preserved : goal.loop-item-preserved
 loop-item-preserved c =
-    turn (filter_map net_property) (λ x. option_to_list (net_property x)) (filter_grows net_property) c.args.items.now c.args.items.now refl c.loop-item.item-index c.item-item.result (omega arith) c.item-item.is [] c.loop-item.made _ c.loop-item.invariant c.in_ok-add_of_net.ensures
+    turn (filter_map net_property) (λ x. option_to_list (net_property x)) (filter_grows net_property) c.args.items.now c.args.items.now refl c.loop-item.item-index c.item-item.result (omega arith) c.item-item.is [] c.loop-item.made _ c.loop-item.invariant c.in_ok-push_of_net.ensures

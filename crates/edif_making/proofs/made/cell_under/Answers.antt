@@ -5,12 +5,12 @@ use Rattle.net_hier.specs.declared.cells.HInst.{HInst}
 use Rattle.edif_written.specs.Naming.{name_for}
 use Rattle.edif_written.specs.Written.{cell_of}
 use Rattle.edif_plans.specs.AddedNames.{AreNamedFor}
-use Rattle.edif_plans.specs.Faces.{added_face, face_for, own_face}
+use Rattle.edif_plans.specs.Summaries.{added_summary, summary_for, own_summary}
 use Rattle.edif_plans.specs.Made.{AreAddedTo, live_below}
 use Rattle.edif_plans.specs.Plans.{HasHead}
 use Rattle.edif_plans.specs.Sound.{IsSoundInstance, IsSoundPort}
 use Rattle.edif_plans.proofs.Needed.{idents_count}
-use Rattle.edif_making.proofs.CellLaws.{added_in_plan, refs_there, scene_fits}
+use Rattle.edif_making.proofs.CellLaws.{added_in_plan, refs_there, cell_plan_fits}
 use Rattle.edif_making.proofs.made.cell_under.Goals as goal
 
 pub instances_with-requires-clause-counted : goal.instances_with-requires-clause-counted
@@ -28,7 +28,7 @@ instances_of-requires-clause-idents c = sym (idents_count c.items-own.result.now
 pub nets_of-requires-clause-fits : goal.nets_of-requires-clause-fits
 nets_of-requires-clause-fits c =
     let added : AreAddedTo c.args.cell.now.instances c.args.classes.now c.in_ok-instances.instances = subst (λ (l : List HInst). AreAddedTo l c.args.classes.now c.in_ok-instances.instances) c.items-own.ensures c.in_ok-instances.ensures.added in
-    scene_fits (record { cells = c.args.hier.now.cells; plan = c.args.plan.now; cell = c.args.cell.now; head = c.args.head.now; instances = c.in_ok-instances.instances }) c.args.classes.now c.requires.plan c.requires.ports c.requires.good added
+    cell_plan_fits (record { cells = c.args.hier.now.cells; plan = c.args.plan.now; cell = c.args.cell.now; head = c.args.head.now; instances = c.in_ok-instances.instances }) c.args.classes.now c.requires.plan c.requires.ports c.requires.good added
 
 pub nets_of-requires-clause-there : goal.nets_of-requires-clause-there
 nets_of-requires-clause-there c =
@@ -52,14 +52,14 @@ returns c =
         is_cell = c.in_ok-whole.ensures ∙ ap (λ n. cell_of (name_for c.args.head.now.cell n) c.in_ok-ports.ports.items c.in_ok-made.made.items c.in_ok-nets.nets.items c.in_ok-properties.properties.items) c.bytes-name.ensures;
         are_ports = record {
           idents = c.in_ok-ports.ensures.idents ∙ c.items-idents.ensures;
-          faces = c.in_ok-ports.ensures.faces ∙ ap (map face_for) c.items-shown.ensures;
+          summaries = c.in_ok-ports.ensures.summaries ∙ ap (map summary_for) c.items-shown.ensures;
           texts = c.in_ok-ports.ensures.texts;
           sound = λ h. c.in_ok-ports.ensures.sound (subst (AllByRecursion IsSoundPort) (sym c.items-shown.ensures) h);
         };
         are_added = added;
         are_instances = record {
           idents = c.in_ok-made.ensures.idents;
-          faces = c.in_ok-made.ensures.faces ∙ ap (λ l. map (own_face c.args.plan.now) l ++ map (added_face c.args.plan.now) c.in_ok-instances.instances.added) c.items-own.ensures;
+          summaries = c.in_ok-made.ensures.summaries ∙ ap (λ l. map (own_summary c.args.plan.now) l ++ map (added_summary c.args.plan.now) c.in_ok-instances.instances.added) c.items-own.ensures;
           no_spare_text = c.in_ok-made.ensures.no_spare_text;
           sound = λ h. c.in_ok-made.ensures.sound (subst (AllByRecursion IsSoundInstance) (sym c.items-own.ensures) h) added.short;
         };

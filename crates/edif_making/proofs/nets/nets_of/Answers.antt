@@ -11,19 +11,19 @@ use Rattle.edif_plans.specs.NetNames.{net_names}
 use Rattle.edif_plans.specs.References.{refs_for}
 use Rattle.edif_making.specs.Named.{IsNamed}
 use Rattle.edif_making.specs.Nets.{HaveRefs}
-use Rattle.edif_making.specs.Scenes.{scene_of}
+use Rattle.edif_making.specs.CellPlans.{cell_plan_of}
 use Rattle.edif_making.specs.declared.nets.Planned.{Planned}
 use Rattle.edif_making.proofs.LiveBelow.{are_live}
 use Rattle.edif_making.proofs.PlanLaws.{class_of_plan, map_classes, names_planned}
 use Rattle.edif_making.proofs.nets.nets_of.Goals as goal
 
 pub nets_with-requires-clause-there : goal.nets_with-requires-clause-there
-nets_with-requires-clause-there c = subst (HaveRefs (scene_of c.args.scope.now) c.args.classes.now) (sym (ap (map class_of_plan) c.as_slice-plans.ensures.value ∙ c.in_ok-planned.ensures.classes)) c.requires.there
+nets_with-requires-clause-there c = subst (HaveRefs (cell_plan_of c.args.scope.now) c.args.classes.now) (sym (ap (map class_of_plan) c.as_slice-plans.ensures.value ∙ c.in_ok-planned.ensures.classes)) c.requires.there
 
 pub returns : goal.returns
 returns c =
     let classes = ap (map class_of_plan) c.as_slice-plans.ensures.value ∙ c.in_ok-planned.ensures.classes in
-    let refs : ℕ → List _ = λ class. refs_for (scene_of c.args.scope.now) (members_of c.args.classes.now class) in
+    let refs : ℕ → List _ = λ class. refs_for (cell_plan_of c.args.scope.now) (members_of c.args.classes.now class) in
     let props : ℕ → List _ = λ class. last_of (class_props c.args.scope.now.cell.now.nets (members_of c.args.classes.now class)) in
     let names = names_planned c.args.scope.now.cell.now c.args.classes.now c.as_slice-plans.result.now (subst (AllByRecursion (IsNamed c.args.scope.now.cell.now c.args.classes.now)) (sym c.as_slice-plans.ensures.value) c.in_ok-planned.ensures.named) ∙ ap (net_names c.args.scope.now.cell.now c.args.classes.now) classes in
     let made_idents = c.in_ok-made.ensures.idents ∙ c.items-words.ensures in

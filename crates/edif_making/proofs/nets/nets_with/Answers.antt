@@ -13,7 +13,7 @@ use Rattle.edif_written.proofs.Lists.{all_push}
 use Rattle.edif_plans.specs.NetNames.{HasNoSpareText}
 use Rattle.edif_plans.specs.References.{CanRefer, refs_for}
 use Rattle.edif_plans.proofs.Lists.{all_turn, item_turn, map_turn}
-use Rattle.edif_making.specs.Scenes.{scene_of}
+use Rattle.edif_making.specs.CellPlans.{cell_plan_of}
 use Rattle.edif_making.specs.declared.nets.Planned.{Planned}
 use Rattle.edif_making.proofs.NetLaws.{no_spare_text}
 use Rattle.edif_making.proofs.PlanLaws.{class_at}
@@ -23,7 +23,7 @@ pub members-nodes-requires : goal.members-nodes-requires
 members-nodes-requires c = c.requires.there.counted c.loop-place.place _ (class_at c.args.planned.now c.loop-place.place c.index-planned-place.result c.index-planned-place.result c.loop-place-test.true (search rules))
 
 pub net_of-requires-clause-there : goal.net_of-requires-clause-there
-net_of-requires-clause-there c = subst (AllByRecursion (CanRefer (scene_of c.args.scope.now))) (sym c.members-nodes.ensures)
+net_of-requires-clause-there c = subst (AllByRecursion (CanRefer (cell_plan_of c.args.scope.now))) (sym c.members-nodes.ensures)
     (c.requires.there.there c.loop-place.place _ (class_at c.args.planned.now c.loop-place.place c.index-planned-place.result c.index-planned-place.result c.loop-place-test.true (search rules)))
 
 pub loop-place-preserved : goal.loop-place-preserved
@@ -33,8 +33,8 @@ loop-place-preserved c = record {
   names = map_turn (λ (net : Net). original net.name) (λ (net : Planned). net.name) c.args.planned.now c.loop-place.place c.index-planned-place.result c.index-planned-place.result c.loop-place.made.items _ c.in_ok-net.net _
       c.loop-place-test.true (search rules) c.loop-place.invariant.names c.in_ok-push.ensures.items (ap original c.in_ok-net.ensures.name ∙ (original_name_for _ _ ∙ c.bytes-word.ensures));
   no_spare_text = all_push (λ (net : Net). HasNoSpareText net.name) c.loop-place.made.items _ c.in_ok-net.net c.loop-place.invariant.no_spare_text (no_spare_text c.in_ok-net.net.name _ _ c.in_ok-net.ensures.name) c.in_ok-push.ensures.items;
-  joined = map_turn (λ (net : Net). net.joined) (λ (net : Planned). refs_for (scene_of c.args.scope.now) (members_of c.args.classes.now net.class)) c.args.planned.now c.loop-place.place c.index-planned-place.result c.index-planned-place.result c.loop-place.made.items _ c.in_ok-net.net _
-      c.loop-place-test.true (search rules) c.loop-place.invariant.joined c.in_ok-push.ensures.items (c.in_ok-net.ensures.joined ∙ ap (refs_for (scene_of c.args.scope.now)) c.members-nodes.ensures);
+  joined = map_turn (λ (net : Net). net.joined) (λ (net : Planned). refs_for (cell_plan_of c.args.scope.now) (members_of c.args.classes.now net.class)) c.args.planned.now c.loop-place.place c.index-planned-place.result c.index-planned-place.result c.loop-place.made.items _ c.in_ok-net.net _
+      c.loop-place-test.true (search rules) c.loop-place.invariant.joined c.in_ok-push.ensures.items (c.in_ok-net.ensures.joined ∙ ap (refs_for (cell_plan_of c.args.scope.now)) c.members-nodes.ensures);
   props = map_turn (λ (net : Net). (net_value net).props) (λ (net : Planned). last_of (class_props c.args.scope.now.cell.now.nets (members_of c.args.classes.now net.class))) c.args.planned.now c.loop-place.place c.index-planned-place.result c.index-planned-place.result c.loop-place.made.items _ c.in_ok-net.net _
       c.loop-place-test.true (search rules) c.loop-place.invariant.props c.in_ok-push.ensures.items (c.in_ok-net.ensures.props ∙ ap (λ m. last_of (class_props c.args.scope.now.cell.now.nets m)) c.members-nodes.ensures);
   sound = λ nets. all_turn (λ (net : Planned). IsString net.name) IsNet c.args.planned.now c.loop-place.place c.index-planned-place.result c.index-planned-place.result c.loop-place.made.items _ c.in_ok-net.net

@@ -10,7 +10,7 @@ use Rattle.net_live.specs.Live.{class_props}
 use Rattle.edif_plans.specs.NetNames.{HasNoSpareText}
 use Rattle.edif_plans.specs.References.{refs_for}
 use Rattle.edif_plans.specs.Sound.{IsSoundNet}
-use Rattle.edif_making.specs.Scenes.{scene_of}
+use Rattle.edif_making.specs.CellPlans.{cell_plan_of}
 use Rattle.edif_making.specs.declared.nets.Planned.{Planned}
 use Rattle.edif_making.proofs.nets.nets_with.Given as goal
 
@@ -19,7 +19,7 @@ invariant-loop-place l = record {
   idents : map (λ (net : Net). net.name.ident) l.made.items ++ drop l.place l.idents ≡ l.idents;
   names : map (λ (net : Net). original net.name) l.made.items ++ map (λ (net : Planned). net.name) (drop l.place l.planned) ≡ map (λ (net : Planned). net.name) l.planned;
   no_spare_text : AllByRecursion (λ (net : Net). HasNoSpareText net.name) l.made.items;
-  joined : map (λ (net : Net). net.joined) l.made.items ++ map (λ (net : Planned). refs_for (scene_of l.scope) (members_of l.classes net.class)) (drop l.place l.planned) ≡ map (λ (net : Planned). refs_for (scene_of l.scope) (members_of l.classes net.class)) l.planned;
+  joined : map (λ (net : Net). net.joined) l.made.items ++ map (λ (net : Planned). refs_for (cell_plan_of l.scope) (members_of l.classes net.class)) (drop l.place l.planned) ≡ map (λ (net : Planned). refs_for (cell_plan_of l.scope) (members_of l.classes net.class)) l.planned;
   props : map (λ (net : Net). (net_value net).props) l.made.items ++ map (λ (net : Planned). last_of (class_props l.scope.cell.now.nets (members_of l.classes net.class))) (drop l.place l.planned) ≡ map (λ (net : Planned). last_of (class_props l.scope.cell.now.nets (members_of l.classes net.class))) l.planned;
   sound : AllByRecursion IsSoundNet l.scope.cell.now.nets → AllByRecursion (λ (net : Planned). IsString net.name) l.planned → AllByRecursion IsNet l.made.items;
 }

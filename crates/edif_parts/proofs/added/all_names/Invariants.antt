@@ -1,7 +1,7 @@
 use Rattle.std.proofs.Common.{◌≡◌, ◌++◌, drop, map}
 use Rattle.edif_written.specs.Naming.{seen}
 use Rattle.net_hier.specs.declared.cells.HInst.{HInst}
-use Rattle.edif_plans.specs.Faces.{instance_names}
+use Rattle.edif_plans.specs.Summaries.{instance_names}
 use Rattle.edif_plans.specs.declared.added.Added.{Added}
 use Rattle.edif_parts.proofs.added.all_names.Given as goal
 

@@ -2,7 +2,7 @@ use Rattle.std.proofs.Common.{◌≡◌, ◌+◌, ◌<◌, ◌++◌, List, arith
 use Rattle.std.specs.List.{AllByRecursion}
 use Rattle.net_hier.specs.Valid.{Each}
 use Rattle.edif_written.specs.Sound.{IsShort}
-use Rattle.edif_plans.specs.Faces.{added_face, instance_face, instance_ident, own_face}
+use Rattle.edif_plans.specs.Summaries.{added_summary, instance_summary, instance_ident, own_summary}
 use Rattle.edif_plans.specs.Plans.{constant_number}
 use Rattle.edif_plans.specs.declared.added.Added.{Added}
 use Rattle.edif_parts.proofs.InstanceLaws.{same_length}
@@ -16,16 +16,16 @@ with_added-requires-clause-heads c = subst (λ (l : List Added). Each (λ (one :
 
 pub with_added-requires-clause-idents : goal.with_added-requires-clause-idents
 with_added-requires-clause-idents c =
-    ap (λ n. n + length c.items-added.result.now) (same_length instance_face (own_face c.args.plan.now) c.in_ok-first.first.items c.args.own.now c.in_ok-first.ensures.faces)
+    ap (λ n. n + length c.items-added.result.now) (same_length instance_summary (own_summary c.args.plan.now) c.in_ok-first.first.items c.args.own.now c.in_ok-first.ensures.summaries)
     ∙ (ap (λ (l : List Added). length c.args.own.now + length l) c.items-added.ensures ∙ (c.requires.idents ∙ ap length (sym c.items-idents.ensures)))
 
 pub with_added-requires-clause-named : goal.with_added-requires-clause-named
 with_added-requires-clause-named c =
     subst (λ n. map instance_ident c.in_ok-first.first.items ++ drop n c.items-idents.result.now ≡ c.items-idents.result.now)
-    (sym (same_length instance_face (own_face c.args.plan.now) c.in_ok-first.first.items c.args.own.now c.in_ok-first.ensures.faces)) c.in_ok-first.ensures.idents
+    (sym (same_length instance_summary (own_summary c.args.plan.now) c.in_ok-first.first.items c.args.own.now c.in_ok-first.ensures.summaries)) c.in_ok-first.ensures.idents
 
-pub returns-clause-faces : goal.returns-clause-faces
-returns-clause-faces c = c.in_ok-made.ensures.faces ∙ (λ j. c.in_ok-first.ensures.faces j ++ map (added_face c.args.plan.now) (c.items-added.ensures j))
+pub returns-clause-summaries : goal.returns-clause-summaries
+returns-clause-summaries c = c.in_ok-made.ensures.summaries ∙ (λ j. c.in_ok-first.ensures.summaries j ++ map (added_summary c.args.plan.now) (c.items-added.ensures j))
 
 pub returns-clause-sound : goal.returns-clause-sound
 returns-clause-sound c = λ h k. c.in_ok-made.ensures.sound (c.in_ok-first.ensures.sound h) (subst (AllByRecursion (λ (one : Added). IsShort one.name)) (sym c.items-added.ensures) k)

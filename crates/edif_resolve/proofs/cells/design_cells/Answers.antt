@@ -12,14 +12,14 @@ overflow_cast-number-end c =
     let f : length (all_cells c.args.tabled.now) ≤ 268435456 = cells_few c.args.tabled.now 268435456 c.requires.small in
     omega (arith, e, f)
 
-pub add_cell-requires-clause-stands : goal.add_cell-requires-clause-stands
-add_cell-requires-clause-stands c =
+pub push_cell-requires-clause-stands : goal.push_cell-requires-clause-stands
+push_cell-requires-clause-stands c =
     place_stands c.args.tabled.now c.places-places.result.now (c.places-places.ensures ∙ ap all_cells c.tables.ensures) c.loop-number.number c.index-places-number.result (omega arith) c.index-places-number.is
 
 pub loop-number-preserved : goal.loop-number-preserved
 loop-number-preserved c =
     cells_more c.args.tabled.now c.args.numbers.now c.places-places.result.now (c.places-places.ensures ∙ ap all_cells c.tables.ensures) c.loop-number.number c.index-places-number.result (omega arith) c.index-places-number.is
-    c.loop-number.cells c.add_cell.new.cells c.loop-number.invariant c.in_ok-add_cell.ensures
+    c.loop-number.cells c.push_cell.new.cells c.loop-number.invariant c.in_ok-push_cell.ensures
 
 pub returns : goal.returns
 returns c =

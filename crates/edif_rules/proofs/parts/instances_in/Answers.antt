@@ -9,4 +9,4 @@ use Rattle.edif_rules.proofs.parts.instances_in.Goals as goal
 pub loop-item-preserved : goal.loop-item-preserved
 loop-item-preserved c =
     turn (λ xs. filter_map instance_in (seen xs)) (λ x. option_to_list (instance_in x.now)) (seen_grows instance_in) c.args.items.now c.args.items.now refl c.loop-item.item-index c.item-item.result (omega arith) c.item-item.is
-    [] (seen c.loop-item.made.items) _ c.loop-item.invariant c.in_ok-add_instance.ensures
+    [] (seen c.loop-item.made.items) _ c.loop-item.invariant c.in_ok-push_instance.ensures

@@ -9,4 +9,4 @@ use Rattle.edif_rules.proofs.parts.ports_of.Goals as goal
 pub loop-item-preserved : goal.loop-item-preserved
 loop-item-preserved c =
     turn (λ xs. flat_map interface_ports (filter_map view_in xs)) (λ x. flat_map interface_ports (option_to_list (view_in x))) (inner_grows view_in interface_ports) c.args.cell.now.items c.items-item-items.result.now c.items-item-items.ensures c.loop-item.item-index c.item-item.result (omega arith) c.item-item.is
-    [] (seen c.loop-item.made.items) _ c.loop-item.invariant c.in_ok-add_view_ports.ensures
+    [] (seen c.loop-item.made.items) _ c.loop-item.invariant c.in_ok-push_view_ports.ensures

@@ -4,7 +4,7 @@ use Rattle.edif_design.specs.CellRules.{contents_refusals}
 use Rattle.edif_design.specs.References.{linked_cell, place_in}
 use Rattle.edif_rules.specs.Idents.{instance_ident}
 use Rattle.edif_rules.specs.Scopes.{lists_of}
-use Rattle.edif_rules.specs.Walks.{HasMet, instance_breaks, instance_original, net_breaks, net_ident}
+use Rattle.edif_rules.specs.Walks.{HasMet, instance_refusals_by, instance_original, net_refusals_by, net_ident}
 use Rattle.edif_rules.proofs.WalkLaws.{instance_met, instance_refused, net_met, net_refused, note_met}
 use Rattle.edif_rules.proofs.walk.meet_item.Goals as goal
 
@@ -13,7 +13,7 @@ returns-in_ok-found-in-Instance-clause-refusal c before met =
     let u = c.in-Instance.instance in
     let old = c.args.met.now in
     c.in_ok-found-in-Instance.ensures.refusal
-    ∙ (ap (λ name. lowest (instance_breaks c.args.tables.now c.args.home name (is_in (instance_ident u) old.instances) (is_in (instance_original u) old.originals) u)) c.original.ensures
+    ∙ (ap (λ name. lowest (instance_refusals_by c.args.tables.now c.args.home name (is_in (instance_ident u) old.instances) (is_in (instance_original u) old.originals) u)) c.original.ensures
     ∙ (instance_refused c.args.tables.now c.args.home c.args.cell.now before old met u
     ∙ ap (λ item. lowest (contents_refusals c.args.tables.now (place_in c.args.home c.args.cell.now) before item)) (sym c.in-Instance.is)))
 
@@ -29,7 +29,7 @@ returns-in_ok-found-in-Net-clause-refusal c before met =
     let n = c.in-Net.net in
     let old = c.args.met.now in
     c.in_ok-found-in-Net.ensures.refusal
-    ∙ (ap (λ name. lowest (net_breaks (lists_of c.args.scope.now) name (is_in (net_ident n) old.nets) old.taken n)) c.original-in-Net.ensures
+    ∙ (ap (λ name. lowest (net_refusals_by (lists_of c.args.scope.now) name (is_in (net_ident n) old.nets) old.taken n)) c.original-in-Net.ensures
     ∙ (net_refused c.args.tables.now c.args.home c.args.cell.now before old met (lists_of c.args.scope.now) c.requires n
     ∙ ap (λ item. lowest (contents_refusals c.args.tables.now (place_in c.args.home c.args.cell.now) before item)) (sym c.in-Net.is)))
 

@@ -1,7 +1,7 @@
 use Rattle.std.proofs.Common.{◌≡◌, ◌<◌, ◌++◌, ◌∷◌, [], length, map, ap, subst₂, sym, ◌∙◌, arith, All}
 use Rattle.net_flatten_cells.proofs.CellLaws.{cells_few, inner_few}
 use Rattle.net_flatten_rules.proofs.MarkLaws.{cells_within, inner_within}
-use Rattle.net_flatten_rules.specs.FlatDesign.{cell_or_none, face, inner, leaf_cells}
+use Rattle.net_flatten_rules.specs.FlatDesign.{cell_or_none, stub, inner, leaf_cells}
 use Rattle.net_flatten_cells.proofs.cells.flat_cells.Goals as goal
 
 pub leaf_cells-requires-clause-leaves : goal.leaf_cells-requires-clause-leaves
@@ -9,8 +9,8 @@ leaf_cells-requires-clause-leaves c =
     let leaves : c.as_slice.result.now ≡ inner c.args.flat.now.leaves = c.as_slice.ensures.value ∙ (c.in_ok-leaves.ensures ∙ ap inner c.leaves.ensures) in
     subst₂ (λ ss ls. All (λ leaf. leaf < length ss) ls) (sym c.spots.ensures) (sym leaves) (inner_within c.requires.classes.0 c.args.hier.now c.args.flat.now c.requires.classes.1)
 
-pub faces_of-requires : goal.faces_of-requires
-faces_of-requires c =
+pub stubs_of-requires : goal.stubs_of-requires
+stubs_of-requires c =
     let leaves : c.as_slice.result.now ≡ inner c.args.flat.now.leaves = c.as_slice.ensures.value ∙ (c.in_ok-leaves.ensures ∙ ap inner c.leaves.ensures) in
     let numbers : c.as_slice-2.result.now ≡ leaf_cells c.args.hier.now.order c.args.flat.now.spots (inner c.args.flat.now.leaves) = c.as_slice-2.ensures.value
     ∙ (c.in_ok-numbers.ensures ∙ (ap (λ ss. leaf_cells c.args.hier.now.order ss c.as_slice.result.now) c.spots.ensures ∙ ap (leaf_cells c.args.hier.now.order c.args.flat.now.spots) leaves)) in
@@ -47,8 +47,8 @@ returns c = λ paths of.
     let leaves : c.as_slice.result.now ≡ inner c.args.flat.now.leaves = c.as_slice.ensures.value ∙ (c.in_ok-leaves.ensures ∙ ap inner c.leaves.ensures) in
     let numbers : c.as_slice-2.result.now ≡ leaf_cells c.args.hier.now.order c.args.flat.now.spots (inner c.args.flat.now.leaves) = c.as_slice-2.ensures.value
     ∙ (c.in_ok-numbers.ensures ∙ (ap (λ ss. leaf_cells c.args.hier.now.order ss c.as_slice.result.now) c.spots.ensures ∙ ap (leaf_cells c.args.hier.now.order c.args.flat.now.spots) leaves)) in
-    let faces : c.in_ok-cells.cells ≡ map (λ number. face (cell_or_none c.args.hier.now.cells number)) (leaf_cells c.args.hier.now.order c.args.flat.now.spots (inner c.args.flat.now.leaves)) = c.in_ok-cells.ensures
-    ∙ (ap (λ cs. map (λ number. face (cell_or_none cs number)) c.as_slice-2.result.now) c.cells.ensures.cells ∙ ap (map (λ number. face (cell_or_none c.args.hier.now.cells number))) numbers) in
+    let stubs : c.in_ok-cells.cells ≡ map (λ number. stub (cell_or_none c.args.hier.now.cells number)) (leaf_cells c.args.hier.now.order c.args.flat.now.spots (inner c.args.flat.now.leaves)) = c.in_ok-cells.ensures
+    ∙ (ap (λ cs. map (λ number. stub (cell_or_none cs number)) c.as_slice-2.result.now) c.cells.ensures.cells ∙ ap (map (λ number. stub (cell_or_none c.args.hier.now.cells number))) numbers) in
     c.in_ok-push.ensures.added
-    ∙ (ap (λ cs. cs ++ c.in_ok-flat_top.field-0 ∷ []) faces
-    ∙ ap (λ t. map (λ number. face (cell_or_none c.args.hier.now.cells number)) (leaf_cells c.args.hier.now.order c.args.flat.now.spots (inner c.args.flat.now.leaves)) ++ t ∷ []) (c.in_ok-flat_top.ensures paths of))
+    ∙ (ap (λ cs. cs ++ c.in_ok-flat_top.field-0 ∷ []) stubs
+    ∙ ap (λ t. map (λ number. stub (cell_or_none c.args.hier.now.cells number)) (leaf_cells c.args.hier.now.order c.args.flat.now.spots (inner c.args.flat.now.leaves)) ++ t ∷ []) (c.in_ok-flat_top.ensures paths of))

@@ -4,14 +4,14 @@ use Rattle.netlist_cli.proofs.run.run.Goals as goal
 
 pub returns-in-Ok : goal.returns-in-Ok
 returns-in-Ok g c =
-    let ends = run_ends_as g.S.Source.supply g.O.Sink.receipt c.args.words.now c.args.input.now c.perform.new.input c.args.output.now c.perform.new.output
-    (Ok tt) _ (rw c.in-Ok.is at c.perform.ensures.performs) refl in
+    let ends = run_ends_as g.S.Source.supply g.O.Sink.receipt c.args.words.now c.args.input.now c.do_words.new.input c.args.output.now c.do_words.new.output
+    (Ok tt) _ (rw c.in-Ok.is at c.do_words.ensures.performs) refl in
     record {
       done = ends.done;
       write_fault = ends.write_fault;
       failed = λ n. absurd (n refl);
       usage = ends.usage;
-      taken = c.perform.ensures.taken;
+      taken = c.do_words.ensures.taken;
       unread = ends.unread;
       leaves_input = ends.leaves_input;
       unwritten = ends.unwritten;
@@ -22,16 +22,16 @@ returns-in-Ok g c =
 
 pub returns-in-Err : goal.returns-in-Err
 returns-in-Err g c =
-    let performed = rw c.in-Err.is at c.perform.ensures.performs in
-    let ends = run_ends_as g.S.Source.supply g.O.Sink.receipt c.args.words.now c.args.input.now c.perform.new.input c.args.output.now c.perform.new.output
+    let performed = rw c.in-Err.is at c.do_words.ensures.performs in
+    let ends = run_ends_as g.S.Source.supply g.O.Sink.receipt c.args.words.now c.args.input.now c.do_words.new.input c.args.output.now c.do_words.new.output
     (Err c.in-Err.failure) c.report.result performed c.report.ensures.status in
     record {
       done = ends.done;
       write_fault = ends.write_fault;
-      failed = λ n. tells g.S.Source.supply g.O.Sink.receipt c.args.words.now c.args.input.now c.perform.new.input c.args.output.now c.perform.new.output
+      failed = λ n. tells g.S.Source.supply g.O.Sink.receipt c.args.words.now c.args.input.now c.do_words.new.input c.args.output.now c.do_words.new.output
           g.E.Sink.receipt c.in-Err.failure c.report.result c.args.errors.now c.report.new.errors performed c.report.ensures.status c.report.ensures.told;
       usage = ends.usage;
-      taken = c.perform.ensures.taken;
+      taken = c.do_words.ensures.taken;
       unread = ends.unread;
       leaves_input = ends.leaves_input;
       unwritten = ends.unwritten;

@@ -1,4 +1,4 @@
-use Rattle.vlog_kept.proofs.Modules.{file_is_value}
+use Rattle.vlog_bounds.proofs.Modules.{file_is_value}
 use Rattle.vlog_rereading.proofs.Law.{text_spells, text_reads}
 use Rattle.vlog_rereading.proofs.laws.files_read_are_written.Goals as goal
 

@@ -10,7 +10,7 @@ pub returns-in_err-next-clause-reads : goal.returns-in_err-next-clause-reads
 returns-in_err-next-clause-reads g c =
     let p = err_from_is_err_and c.from_residual.result c.from_residual.ensures.1 in
     let s = steps (c.requires.ahead.2) (c.advance.ensures.held) (c.advance.ensures.place) in
-    rw (p.1, p.2) (reads_halted (Pair (second_of c.args.twin) (both_of c.args.twin) (single_of c.args.twin)) s c.in_err-next.ensures.none_used (λ is. c.in_err-next.ensures.too_long (ap at_err is)) (λ is. c.in_err-next.ensures.used_up (ap at_err is)) (λ bs. pair_reaches (second_of c.args.twin) (both_of c.args.twin) (single_of c.args.twin) (first (drop 1 bs))))
+    rw (p.1, p.2) (reads_halted (Pair (second_of c.args.pair_start) (both_of c.args.pair_start) (single_of c.args.pair_start)) s c.in_err-next.ensures.none_used (λ is. c.in_err-next.ensures.too_long (ap at_err is)) (λ is. c.in_err-next.ensures.used_up (ap at_err is)) (λ bs. pair_reaches (second_of c.args.pair_start) (both_of c.args.pair_start) (single_of c.args.pair_start) (first (drop 1 bs))))
 
 pub returns-in_default-clause-reads : goal.returns-in_default-clause-reads
 returns-in_default-clause-reads g c =

@@ -1,7 +1,0 @@
--- A cell that is written, with what its references name.
-use Rattle.edif_plans.specs.References.{Scene}
-use Rattle.edif_making.specs.declared.refs.Scope.{Scope}
-
--- what stands behind the borrows of a scope
-abbrev pub scene_of : Scope → Scene
-scene_of scope = record { cells = scope.hier.now.cells; plan = scope.plan.now; cell = scope.cell.now; head = scope.head.now; instances = scope.instances.now }

@@ -1,8 +1,0 @@
-use Rattle.std.proofs.Common.{◌≡◌, ◌++◌, take}
-use Rattle.std.specs.List.{flat_map}
-use Rattle.edif_design.specs.Parts.{contents_in}
-use Rattle.edif_rules.specs.Lists.{seen}
-use Rattle.edif_rules.proofs.parts.add_view_contents.Given as goal
-
-abbrev pub invariant-loop-item : goal.invariant-loop-item
-invariant-loop-item l = seen l.list.items ≡ seen l.initial.list.items ++ flat_map contents_in (take l.item-index l.view.items)

@@ -1,7 +1,0 @@
-use Rattle.std.proofs.Common.{◌≡◌, drop}
-use Rattle.net_flatten_rules.specs.Rules.{first_of}
-use Rattle.net_flatten_refusals.specs.LongNames.{refused_faces}
-use Rattle.net_flatten_refusals.proofs.long_names.long_in_faces.Given as goal
-
-abbrev pub invariant-loop-number : goal.invariant-loop-number
-invariant-loop-number l = first_of (refused_faces l.hier.cells (drop l.number-index l.numbers)) ≡ first_of (refused_faces l.hier.cells l.numbers)

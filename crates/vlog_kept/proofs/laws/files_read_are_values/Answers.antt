@@ -1,5 +1,0 @@
-use Rattle.vlog_kept.proofs.Modules.{file_is_value}
-use Rattle.vlog_kept.proofs.laws.files_read_are_values.Goals as goal
-
-pub returns : goal.returns
-returns c = file_is_value

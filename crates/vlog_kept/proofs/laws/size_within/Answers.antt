@@ -1,5 +1,0 @@
-use Rattle.vlog_kept.proofs.SizeLaw.{items_within, tokens_within, input_within, file_within}
-use Rattle.vlog_kept.proofs.laws.size_within.Goals as goal
-
-pub returns : goal.returns
-returns c = record { input = input_within; bytes = tokens_within; tokens = items_within; size = file_within }
