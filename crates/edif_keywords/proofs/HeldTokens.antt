@@ -12,11 +12,10 @@ use Rattle.edif_values.specs.declared.token.Token.{Token}
 use Rattle.edif_values.specs.declared.token.Token.TheVariants.{LeftParen, RightParen, Word}
 use Rattle.edif_tokens.specs.Held.{mark_token}
 use Rattle.edif_tokens.specs.Held as tokens
-use Rattle.edif_tokens.specs.Stream.{ReadsToken}
 use Rattle.edif_tokens.proofs.HeldTokens.{mark_reads, word_reads, word_identifier, word_short}
 use Rattle.readers.specs.Parts.{of_token, any, one}
 use Rattle.nl_io.specs.Sources.{Supply}
-use Rattle.readers.specs.Sources.{Ahead, Language, IsNear}
+use Rattle.readers.specs.Sources.{Ahead, Language, IsNear, ReadsToken}
 use Rattle.readers.specs.Readers.{Reader, Reads, LooksAt, IsToken, same, spoilt, result_of, reading, then_left, stream}
 use Rattle.readers.proofs.Looking.{ok_first}
 use Rattle.readers.proofs.Moving.{still, near_no_memory}
@@ -30,7 +29,6 @@ use Rattle.edif_keywords.specs.Calls.{is_unlooked, held_mark, past_mark, held_wo
 use Rattle.edif_keywords.specs.Grammar.{word, opening, closing, keyword}
 use Rattle.edif_keywords.specs.Language.{edif}
 use Rattle.edif_keywords.specs.Reasons.{word_of, opening_of, closing_of, keyword_of, keyword_by, elsewhere, opens, is_opening}
-use Rattle.edif_keywords.proofs.NextToken.{reads_token}
 use Rattle.edif_keywords.proofs.OneToken.{one_says}
 
 -- ---- what is held is the next token
@@ -66,23 +64,22 @@ unfolding held_word
 word_live a some = held_live [] (tokens.held_word a.window) a (some_word _ some)
 
 taken : (a : Reader (List Alias) Found) (w : Window) (t : Token) → a.spent ≡ false → a.ahead ≡ None → (i : Supply)
-    → ((x : Found) × (x.token ≡ t) × ReadsToken (Ok (Some x)) (record { window = a.window; spent = false }) (record { window = w; spent = false }) i.left i.left i.faults i.faults)
+    → ((x : Found) × (x.token ≡ t) × ReadsToken edif (Ok (Some x)) a.window false w false i i)
     → HeldTaken t a (record { window = w; ahead = a.ahead; context = a.context; spent = a.spent }) i
 taken a w t live none i r =
-    let next = reads_token (Ok (Some r.0)) _ _ i.left i.left i.faults i.faults r.2 in
-    let read = takes_next edif a a.window w false false a.ahead a.ahead a.context a.spent i i refl live none refl none r.0 next in
-    record { token = r.0; is = r.1; reads = subst (λ (b : Bool). Reads edif same any (Ok r.0) a (record { window = w; ahead = a.ahead; context = a.context; spent = b }) i i) (sym live) read; near = next.after_token }
+    let read = takes_next edif a a.window w false false a.ahead a.ahead a.context a.spent i i refl live none refl none r.0 r.2 in
+    record { token = r.0; is = r.1; reads = subst (λ (b : Bool). Reads edif same any (Ok r.0) a (record { window = w; ahead = a.ahead; context = a.context; spent = b }) i i) (sym live) read; near = r.2.after_token }
 
 mark_taken : (a : Reader (List Alias) Found) (mark : ℕ) → held_mark a ≡ Some mark → length a.window.held ≤ 4096 → (i : Supply) → HeldTaken (mark_token mark) a (past_mark a) i
 mark_taken a mark e small i =
     let l = mark_live a mark e in
-    taken a (tokens.past_mark a.window) (mark_token mark) l.0 l.1 i (mark_reads a.window mark l.2 small i.left i.faults)
+    taken a (tokens.past_mark a.window) (mark_token mark) l.0 l.1 i (mark_reads a.window mark l.2 small i)
 
 word_taken : (a : Reader (List Alias) Found) → 0 < length (held_word a) → length a.window.held ≤ 4096 → (i : Supply) → HeldTaken (Word (held_word a)) a (past_word a) i
 word_taken a some small i =
     let l = word_live a some in
     let inside = subst (λ (w : List ℕ). 0 < length w) l.2 some in
-    rw l.2 (taken a (tokens.past_word a.window) (Word (tokens.held_word a.window)) l.0 l.1 i (word_reads a.window inside small i.left i.faults))
+    rw l.2 (taken a (tokens.past_word a.window) (Word (tokens.held_word a.window)) l.0 l.1 i (word_reads a.window inside small i))
 
 -- the same of what a reader is made of
 pub inside_mark : (w : Window) (h : Option Found) (k : List Alias) (b : Bool) (a : Reader (List Alias) Found) → record { window = w; ahead = h; context = k; spent = b } ≡ a → (mark : ℕ) → held_mark a ≡ Some mark → (tokens.held_mark w ≡ Some mark) × (h ≡ None)

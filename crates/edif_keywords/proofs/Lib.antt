@@ -6,7 +6,6 @@ pub mod Letters
 pub mod Live
 pub mod Looks
 pub mod Maps
-pub mod NextToken
 pub mod OneToken
 pub mod Slots
 pub mod Spelled

@@ -1,35 +1,10 @@
--- The tokens of EDIF, as readers of parts see them.
-use Rattle.std.specs.Prelude.{List, [], ◌∷◌, ◌++◌, map}
-use Rattle.grammar.specs.Whole.{Terminal, proper, end, Finish, Done, Bad, Over}
-use Rattle.nl_base.specs.declared.place.Place.{Place}
-use Rattle.nl_base.specs.declared.fault.TextFault.{TextFault}
+-- The parts of EDIF texts, over the tokens of EDIF.
+use Rattle.std.specs.Prelude.{List}
 use Rattle.edif_tokens.specs.declared.token.Found.{Found}
-use Rattle.edif_tokens.specs.Streams as streams
-use Rattle.edif_tokens.specs.Stream.{stream_from}
+pub use Rattle.edif_tokens.specs.Language.{last, finish_of, ahead_of, edif}
 use Rattle.readers.specs.Parts.{PartOf}
-use Rattle.readers.specs.Sources.{Ahead, Language}
 use Rattle.edif_keywords.specs.Aliases.{Alias}
 
 -- a part of a text whose tokens spell values of a type, under the aliases of the text
 abbrev pub Edif : Type 0 → Type 1
 Edif A = PartOf (List Alias) Found A
-
--- the end of the input is one more token
-abbrev pub last : streams.Finish → List (Terminal Found Place)
-last (streams.End p) = end p ∷ []
-last (streams.Bad fault) = []
-last streams.Over = []
-
--- what comes behind the last token
-abbrev pub finish_of : streams.Finish → Finish TextFault
-finish_of (streams.End p) = Done
-finish_of (streams.Bad fault) = Bad fault
-finish_of streams.Over = Over
-
--- the tokens of a text and its end
-abbrev pub ahead_of : streams.Stream Found → Ahead Found
-ahead_of s = record { tokens = map proper s.tokens ++ last s.finish; finish = finish_of s.finish }
-
--- the tokens of EDIF (EDIF 2 0 0, basic syntax)
-abbrev pub edif : Language Found
-edif = record { place = λ x. x.place; stop = λ x. x.stop; tokens = λ p bs. ahead_of (stream_from p bs) }

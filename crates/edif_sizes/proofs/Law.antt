@@ -16,7 +16,7 @@ use Rattle.edif_library.specs.Grammar.{file}
 use Rattle.edif_values.specs.Sizes.{edif_size}
 use Rattle.edif_library.specs.Text.{EdifReads}
 use Rattle.edif_sizes.proofs.Library.{bounded_file}
-use Rattle.edif_limits.proofs.Law.{reads}
+use Rattle.edif_limits.proofs.Law as limits
 use Rattle.edif_limits.proofs.Tokens.{few_tokens}
 
 -- the end of the input is no token of a file
@@ -54,7 +54,7 @@ tokens_within bs = few_tokens place_at_start bs
 
 -- Bytes that read as a file are within the limit of an input.
 pub input_within : (bs : List ℕ) (v : EdifFile) → EdifReads bs v → length bs ≤ LIMIT
-input_within bs v h = ((reads bs v).0 h).1
+input_within bs v h = ((limits.reads bs v).0 h).1
 
 -- So the size of the file is.
 pub file_within : (bs : List ℕ) (v : EdifFile) → EdifReads bs v → edif_size v ≤ LIMIT

@@ -1,16 +1,17 @@
 -- The `(` and the word that begin a form, where the bytes that are held show both.
-use Rattle.std.proofs.Common.{◌≡◌, ℕ, ◌<◌, ◌≤◌, Bool, true, false, cond, eqb, leb, List, [], ◌∷◌, length, take, drop, Option, Some, None, refl, sym, ap, ◌∙◌, subst, arith, length-take, length-drop}
+use Rattle.std.proofs.Common.{◌≡◌, ℕ, ◌<◌, ◌≤◌, Bool, true, false, cond, eqb, leb, List, [], ◌∷◌, length, take, drop, Some, None, refl, sym, ap, ◌∙◌, subst, arith, length-take, length-drop}
 use Rattle.std.specs.Prelude.{IsFalse}
 use Rattle.std.proofs.lemmas.Bool.{eqb-true}
 use Rattle.std.proofs.lemmas.List.Sums.{prefix_len-le-length}
 use Rattle.nl_bytes.specs.declared.bytes.TheConstants.{LIMIT}
 use Rattle.nl_bytes.specs.Classes.{is_space}
 use Rattle.nl_bytes.specs.Bytes.{Window, given}
+use Rattle.nl_io.specs.Sources.{Supply}
 use Rattle.edif_tokens.specs.declared.form.FormAt.{FormAt}
 use Rattle.edif_tokens.specs.Held.{is_near, space_length, past_space, front_mark, held_mark, past_mark, word_length, front_word, held_word, past_word}
 use Rattle.edif_tokens.specs.HeldForm.{no_form, opened, form_behind, form_at, ReadsForm}
 use Rattle.edif_tokens.specs.Streams.{State}
-use Rattle.edif_tokens.proofs.HeldTokens.{past_given, space_given, past_mark_is, word_enough, mark_taken, word_taken}
+use Rattle.edif_tokens.proofs.HeldTokens.{past_given, space_given, past_mark_is, word_enough, mark_taken, word_taken, word_within}
 
 -- there is as much white space as there are bytes, at most
 pub space_fits : (n : ℕ) (xs : List ℕ) → n ≡ space_length xs → n ≤ length xs
@@ -106,13 +107,19 @@ form_small w at is some small =
     omega (arith, len, length-drop 1 (drop at.space w.held), length-drop at.space w.held, small)
 
 -- a reader that is not spent reads them as its next two tokens
-pub form_taken : (s : State) (w : Window) (spent : Bool) → record { window = w; spent = spent } ≡ s → length w.held ≤ 4096 → (at : FormAt) → at ≡ form_at s.window → 0 < at.count → IsFalse s.spent → (l : Option (List ℕ)) (faults : ℕ)
-    → ReadsForm (held_word (past_mark s.window)) s (record { window = past_mark s.window; spent = s.spent }) (record { window = past_word (past_mark w); spent = spent }) l faults
-form_taken s w spent e small at is some live l faults =
-    subst (λ (s : State). at ≡ form_at s.window → IsFalse s.spent → ReadsForm (held_word (past_mark s.window)) s (record { window = past_mark s.window; spent = s.spent }) (record { window = past_word (past_mark w); spent = spent }) l faults) e
+pub form_taken : (s : State) (w : Window) (spent : Bool) → record { window = w; spent = spent } ≡ s → length w.held ≤ 4096 → (at : FormAt) → at ≡ form_at s.window → 0 < at.count → IsFalse s.spent → (i : Supply)
+    → ReadsForm (held_word (past_mark s.window)) s (record { window = past_mark s.window; spent = s.spent }) (record { window = past_word (past_mark w); spent = spent }) i
+form_taken s w spent e small at is some live i =
+    subst (λ (s : State). at ≡ form_at s.window → IsFalse s.spent → ReadsForm (held_word (past_mark s.window)) s (record { window = past_mark s.window; spent = s.spent }) (record { window = past_word (past_mark w); spent = spent }) i) e
     (λ is live.
     let h = form_held w at is some in
     record {
-      parenthesis = mark_taken (record { window = w; spent = spent }) w spent refl small 40 h.mark live l faults;
-      word = word_taken (record { window = past_mark w; spent = spent }) (past_mark w) spent refl (form_small w at is some small) (omega (arith, h.count, some)) live l faults;
+      parenthesis = mark_taken (record { window = w; spent = spent }) w spent refl small 40 h.mark live i;
+      word = word_taken (record { window = past_mark w; spent = spent }) (past_mark w) spent refl (form_small w at is some small) (omega (arith, h.count, some)) live i;
     }) is live
+
+-- no byte past the limit is used for them
+pub form_within : (s : State) (w : Window) (spent : Bool) → record { window = w; spent = spent } ≡ s → (at : FormAt) → at ≡ form_at s.window → 0 < at.count → (past_word (past_mark w)).place.offset ≤ LIMIT
+form_within s w spent e at is some =
+    let h = form_held w at (is ∙ ap (λ (s : State). form_at s.window) (sym e)) some in
+    word_within (record { window = past_mark w; spent = spent }) (past_mark w) spent refl at.count h.count some

@@ -16,6 +16,8 @@ use Rattle.nl_bytes.specs.Classes.{AreIn, is_space, is_word_byte}
 use Rattle.nl_bytes.specs.Bytes.{Window, Skips, given}
 use Rattle.nl_bytes.proofs.Uses.{Uses-front, Uses-byte}
 use Rattle.nl_bytes.proofs.Fronts.{front-all}
+use Rattle.nl_io.specs.Sources.{Supply}
+use Rattle.readers.specs.Sources.{ReadsToken}
 use Rattle.edif_tokens.specs.declared.scan.Start.{Start}
 use Rattle.edif_tokens.specs.declared.scan.Start.TheVariants.{Letter}
 use Rattle.edif_tokens.specs.declared.token.Found.{Found}
@@ -23,7 +25,7 @@ use Rattle.edif_values.specs.declared.token.Token.TheVariants.{Word}
 use Rattle.edif_tokens.specs.Spelling.{may_follow, is_parenthesis, start_of, token_by, word_spelled}
 use Rattle.edif_tokens.specs.Scan.{IsLed, IsWhole, Reads}
 use Rattle.edif_tokens.specs.Streams.{State}
-use Rattle.edif_tokens.specs.Stream.{ReadsToken}
+use Rattle.edif_tokens.specs.Language.{edif}
 use Rattle.edif_tokens.specs.Held.{is_near, space_length, past, past_space, mark_token, front_mark, held_mark, past_mark, word_by, word_length, front_word, held_word, past_word}
 use Rattle.edif_tokens.proofs.Held.{word_whole, whole_each, whole_shape}
 use Rattle.edif_tokens.proofs.Words.{identifier_led}
@@ -78,11 +80,11 @@ space_skipped w b tail near ahead l =
 
 -- a token of the held bytes that is read behind white space is the next token of a reader that is not spent
 token_reads : (w : Window) (n b : ℕ) (tail : List ℕ) (f : Found) → is_near w ≡ true → length w.held ≤ 4096 → (past_space w).held ≡ b ∷ tail → n ≤ length (past_space w).held → (past_space w).place.offset + n ≤ f.stop → f.stop ≤ LIMIT
-    → (l : Option (List ℕ)) → Reads (token_by (start_of b)) (past_space w).place (past_space w) (past n (past_space w)) l l (Ok f)
-    → (faults : ℕ) → ReadsToken (Ok (Some f)) (record { window = w; spent = false }) (record { window = past n (past_space w); spent = false }) l l faults faults
-token_reads w n b tail f near small ahead enough to most l reads faults =
+    → (i : Supply) → Reads (token_by (start_of b)) (past_space w).place (past_space w) (past n (past_space w)) i.left i.left (Ok f)
+    → ReadsToken edif (Ok (Some f)) w false (past n (past_space w)) false i i
+token_reads w n b tail f near small ahead enough to most i reads =
     let a = past_space w in
-    let finds = finds_found (space_skipped w b tail near ahead l) reads most (omega (arith, past_offset n a enough, to)) in
+    let finds = finds_found (space_skipped w b tail near ahead i.left) reads most (omega (arith, past_offset n a enough, to)) in
     reads_found finds (λ h. absurd cc) tt (omega arith) (λ h. absurd cc)
     (omega (arith, length-drop n a.held, length-drop (space_length w.held) w.held, small))
     (omega (arith, past_given n a enough, space_given w, held_within w near))
@@ -155,22 +157,28 @@ unfolding past_mark
 past_mark_is w = refl
 
 -- a reader that is not spent reads the parenthesis as its next token
-pub mark_reads : (w : Window) (mark : ℕ) → held_mark w ≡ Some mark → length w.held ≤ 4096 → (l : Option (List ℕ)) (faults : ℕ)
-    → (x : Found) × (x.token ≡ mark_token mark) × ReadsToken (Ok (Some x)) (record { window = w; spent = false }) (record { window = past_mark w; spent = false }) l l faults faults
-mark_reads w mark e small l faults =
+pub mark_reads : (w : Window) (mark : ℕ) → held_mark w ≡ Some mark → length w.held ≤ 4096 → (i : Supply)
+    → (x : Found) × (x.token ≡ mark_token mark) × ReadsToken edif (Ok (Some x)) w false (past_mark w) false i i
+mark_reads w mark e small i =
     let n = mark_next w mark e in
     let a = past_space w in
     let f : Found = record { place = a.place; stop = a.place.offset + 1; token = mark_token mark } in
     let len = ap (λ (xs : List ℕ). length xs) n.at.ahead in
     let most : f.stop ≤ LIMIT = omega (arith, space_given w, held_within w n.near, len) in
-    (f, refl, rw (past_mark_is w) (token_reads w 1 mark n.at.tail f n.near small n.at.ahead (omega (arith, len)) (omega arith) most l (mark_read a mark n.at.tail n.at.ahead n.at.is l) faults))
+    (f, refl, rw (past_mark_is w) (token_reads w 1 mark n.at.tail f n.near small n.at.ahead (omega (arith, len)) (omega arith) most i (mark_read a mark n.at.tail n.at.ahead n.at.is i.left)))
 
 -- the same of a reader that is made of a window and whether it is spent
-pub mark_taken : (s : State) (w : Window) (spent : Bool) → record { window = w; spent = spent } ≡ s → length w.held ≤ 4096 → (mark : ℕ) → held_mark s.window ≡ Some mark → IsFalse s.spent → (l : Option (List ℕ)) (faults : ℕ)
-    → (x : Found) × (x.token ≡ mark_token mark) × ReadsToken (Ok (Some x)) s (record { window = past_mark w; spent = spent }) l l faults faults
-mark_taken s w spent e small mark is live l faults =
-    subst (λ (s : State). held_mark s.window ≡ Some mark → IsFalse s.spent → (x : Found) × (x.token ≡ mark_token mark) × ReadsToken (Ok (Some x)) s (record { window = past_mark w; spent = spent }) l l faults faults) e
-    (λ is live. rw live (mark_reads w mark is small l faults)) is live
+pub mark_taken : (s : State) (w : Window) (spent : Bool) → record { window = w; spent = spent } ≡ s → length w.held ≤ 4096 → (mark : ℕ) → held_mark s.window ≡ Some mark → IsFalse s.spent → (i : Supply)
+    → (x : Found) × (x.token ≡ mark_token mark) × ReadsToken edif (Ok (Some x)) s.window s.spent (past_mark w) spent i i
+mark_taken s w spent e small mark is live i =
+    subst (λ (s : State). held_mark s.window ≡ Some mark → IsFalse s.spent → (x : Found) × (x.token ≡ mark_token mark) × ReadsToken edif (Ok (Some x)) s.window s.spent (past_mark w) spent i i) e
+    (λ is live. rw live (mark_reads w mark is small i)) is live
+
+-- no byte past the limit is used for the parenthesis
+pub mark_within : (s : State) (w : Window) (spent : Bool) → record { window = w; spent = spent } ≡ s → (mark : ℕ) → held_mark s.window ≡ Some mark → (past_mark w).place.offset ≤ LIMIT
+mark_within s w spent e mark is =
+    let n = mark_next w mark (ap (λ (s : State). held_mark s.window) e ∙ is) in
+    rw (past_mark_is w) (omega (arith, byte_given (past_space w) mark n.at.tail n.at.ahead, space_given w, held_within w n.near))
 
 -- ---- words
 
@@ -255,24 +263,31 @@ unfolding past_word
 past_word_is w n e = ap (λ (k : ℕ). past k (past_space w)) (sym e)
 
 -- a reader that is not spent reads the word as its next token
-pub word_reads : (w : Window) → 0 < length (held_word w) → length w.held ≤ 4096 → (l : Option (List ℕ)) (faults : ℕ)
-    → (x : Found) × (x.token ≡ Word (held_word w)) × ReadsToken (Ok (Some x)) (record { window = w; spent = false }) (record { window = past_word w; spent = false }) l l faults faults
-word_reads w some small l faults =
+pub word_reads : (w : Window) → 0 < length (held_word w) → length w.held ≤ 4096 → (i : Supply)
+    → (x : Found) × (x.token ≡ Word (held_word w)) × ReadsToken edif (Ok (Some x)) w false (past_word w) false i i
+word_reads w some small i =
     let n = length (held_word w) in
     let next = word_next w n refl some in
     let a = past_space w in
     let f : Found = record { place = a.place; stop = a.place.offset + n + 1; token = Word (held_word w) } in
     let whole = word_is_whole w n next in
-    let word : Reads (word_spelled false) a.place a (past n a) l l (Ok f) = word_whole {old = a} {new = past n a} {n = n} {text = held_word w} l whole some refl refl next.is f refl in
-    let reads = subst (λ (s : Start). Reads (token_by s) a.place a (past n a) l l (Ok f)) (sym (letter_starts next.at.byte next.at.begins)) word in
-    (f, refl, rw (past_word_is w n refl) (token_reads w n next.at.byte next.at.tail f next.near small next.at.front (omega (arith, next.at.more)) (omega arith) (omega (arith, whole.within)) l reads faults))
+    let word : Reads (word_spelled false) a.place a (past n a) i.left i.left (Ok f) = word_whole {old = a} {new = past n a} {n = n} {text = held_word w} i.left whole some refl refl next.is f refl in
+    let reads = subst (λ (s : Start). Reads (token_by s) a.place a (past n a) i.left i.left (Ok f)) (sym (letter_starts next.at.byte next.at.begins)) word in
+    (f, refl, rw (past_word_is w n refl) (token_reads w n next.at.byte next.at.tail f next.near small next.at.front (omega (arith, next.at.more)) (omega arith) (omega (arith, whole.within)) i reads))
 
 -- the same of a reader that is made of a window and whether it is spent
-pub word_taken : (s : State) (w : Window) (spent : Bool) → record { window = w; spent = spent } ≡ s → length w.held ≤ 4096 → 0 < length (held_word s.window) → IsFalse s.spent → (l : Option (List ℕ)) (faults : ℕ)
-    → (x : Found) × (x.token ≡ Word (held_word s.window)) × ReadsToken (Ok (Some x)) s (record { window = past_word w; spent = spent }) l l faults faults
-word_taken s w spent e small some live l faults =
-    subst (λ (s : State). 0 < length (held_word s.window) → IsFalse s.spent → (x : Found) × (x.token ≡ Word (held_word s.window)) × ReadsToken (Ok (Some x)) s (record { window = past_word w; spent = spent }) l l faults faults) e
-    (λ some live. rw live (word_reads w some small l faults)) some live
+pub word_taken : (s : State) (w : Window) (spent : Bool) → record { window = w; spent = spent } ≡ s → length w.held ≤ 4096 → 0 < length (held_word s.window) → IsFalse s.spent → (i : Supply)
+    → (x : Found) × (x.token ≡ Word (held_word s.window)) × ReadsToken edif (Ok (Some x)) s.window s.spent (past_word w) spent i i
+word_taken s w spent e small some live i =
+    subst (λ (s : State). 0 < length (held_word s.window) → IsFalse s.spent → (x : Found) × (x.token ≡ Word (held_word s.window)) × ReadsToken edif (Ok (Some x)) s.window s.spent (past_word w) spent i i) e
+    (λ some live. rw live (word_reads w some small i)) some live
+
+-- no byte past the limit is used for the word
+pub word_within : (s : State) (w : Window) (spent : Bool) → record { window = w; spent = spent } ≡ s → (n : ℕ) → n ≡ length (held_word s.window) → 0 < n → (past_word w).place.offset ≤ LIMIT
+word_within s w spent e n is some =
+    let count : n ≡ length (held_word w) = is ∙ ap (λ (s : State). length (held_word s.window)) (sym e) in
+    let next = word_next w n count some in
+    rw (past_word_is w n count) (omega (arith, past_given n (past_space w) (omega (arith, next.at.more)), space_given w, held_within w next.near))
 
 -- ---- what a word that is next is
 

@@ -1,5 +1,5 @@
 -- What the reader of tokens answers, from what was found.
-use Rattle.std.proofs.Common.{◌≡◌, ℕ, ◌+◌, ◌-◌, ◌<◌, ◌≤◌, Bool, true, false, List, [], length, Option, Some, None, Result, Ok, Err, IsTrue, refl, ap, inl, inr, arith}
+use Rattle.std.proofs.Common.{◌≡◌, ℕ, ◌+◌, ◌<◌, ◌≤◌, Bool, true, false, List, [], length, Option, Some, None, Result, Ok, Err, IsTrue, refl, ap, inl, inr, arith}
 use Rattle.std.specs.Prelude.{◌↔◌, IfOk, IfErr, OnOk, IsErrOf, IsFalse, is_err}
 use Rattle.nl_base.specs.declared.fault.ReadError.{ReadError}
 use Rattle.nl_base.specs.declared.fault.ReadError.TheVariants.{Text, ReadFault, TooLong, NoMemory, Spent}
@@ -8,16 +8,27 @@ use Rattle.nl_io.specs.Causes.{Rose}
 use Rattle.nl_bytes.specs.Bytes.{Window, Uses, TakesWhenUsed, given}
 use Rattle.nl_bytes.specs.declared.bytes.TheConstants.{LIMIT}
 use Rattle.nl_bytes.proofs.Uses.{Uses-none}
+use Rattle.nl_io.specs.Sources.{Supply}
+use Rattle.readers.specs.Sources.{Moves, NearError, NearToken, EndsInput, TakesUnseen, ReadsToken, excess, skip}
 use Rattle.edif_tokens.specs.declared.token.Found.{Found}
-use Rattle.edif_tokens.specs.Streams.{Moves, NearError, NearToken, TakesUnseen, State}
-use Rattle.edif_tokens.specs.Stream.{ReadsToken, stop_of}
-use Rattle.edif_tokens.specs.Scan.{Finds, UsesTo, ShownBefore}
+use Rattle.edif_tokens.specs.Streams.{State}
+use Rattle.edif_tokens.specs.Language.{edif}
+use Rattle.edif_tokens.specs.Scan.{Finds, UsesTo, EndsAt, ShownBefore}
 use Rattle.edif_tokens.proofs.Spans.{offset_grows}
 
-uses_moves : {old new : Window} {l l' : Option (List ℕ)} {used : List ℕ} → Uses old new l l' used → (f f' : ℕ) → f ≤ f' → given new - (LIMIT + 4096) ≤ given old - (LIMIT + 4096) → Moves old new l l' f f'
-uses_moves u f f' count within = record { place = omega (arith, offset_grows u); taken = u.taken; suffix = u.suffix; count = count; within = within; lazy = u.lazy }
+abbrev pub supplied : Option (List ℕ) → ℕ → Supply
+supplied left faults = record { left = left; faults = faults }
+
+none_past : (old new : Window) → given new ≤ LIMIT + 4096 → excess new ≤ excess old
+unfolding excess
+none_past old new taken = omega (arith, taken)
+
+uses_moves : {old new : Window} {l l' : Option (List ℕ)} {used : List ℕ} → Uses old new l l' used → (f f' : ℕ) → f ≤ f' → excess new ≤ excess old → Moves old new (supplied l f) (supplied l' f')
+unfolding skip
+uses_moves u f f' count within = record { place = omega (arith, offset_grows u); taken = u.taken; left = u.suffix; faults = count; within = within; lazy = u.lazy }
 
 near_fault : (r : Result (Option Found) ReadError) (w : Window) → OnText r (λ t. w.place.offset ≤ t.stop) → length w.held ≤ 4096 → IfErr r (λ e. NearError e w)
+unfolding NearError
 near_fault (Ok x) w to held = tt
 near_fault (Err (Text t)) w to held = omega (arith, to, held)
 near_fault (Err ReadFault) w to held = tt
@@ -25,25 +36,29 @@ near_fault (Err TooLong) w to held = tt
 near_fault (Err NoMemory) w to held = tt
 near_fault (Err Spent) w to held = tt
 
-near_token : (r : Result (Option Found) ReadError) (w : Window) → IfOk r (λ x. UsesTo x w) → length w.held ≤ 4096 → IfOk r (λ x. NearToken stop_of x w)
+near_token : (r : Result (Option Found) ReadError) (w : Window) → IfOk r (λ x. UsesTo x w) → length w.held ≤ 4096 → IfOk r (λ x. NearToken edif x w)
 near_token (Ok (Some f)) w to held = omega (arith, to, held)
 near_token (Ok None) w to held = omega (arith, held)
 near_token (Err e) w to held = tt
+
+ends_input : (r : Result (Option Found) ReadError) (l : Option (List ℕ)) (f : ℕ) → IfOk r (λ x. EndsAt x l) → IfOk r (λ x. EndsInput x (supplied l f))
+ends_input (Ok (Some x)) l f h = tt
+ends_input (Ok None) l f h = h
+ends_input (Err e) l f h = tt
 
 -- a fault whose stop was taken before stands where what was taken before is not used up
 fault_unseen : (old new : Window) (stop : ℕ) → TakesWhenUsed old new → new.place.offset ≤ stop → stop < given old → given new ≡ given old
 fault_unseen old new stop (inl same) to lt = same
 fault_unseen old new stop (inr used) to lt = absurd (omega (arith, used, to, lt))
 
-takes_unseen : (r : Result (Option Found) ReadError) (old new : Window) → TakesWhenUsed old new → OnText r (λ t. new.place.offset ≤ t.stop) → IfOk r (λ x. ShownBefore x old new) → (IsErrOf r ReadFault → new.held ≡ [])
-    → TakesUnseen stop_of r old new
-takes_unseen (Ok (Some f)) old new lazy to unseen used_up = unseen
-takes_unseen (Ok None) old new lazy to unseen used_up = tt
-takes_unseen (Err (Text t)) old new lazy to unseen used_up = fault_unseen old new t.stop lazy to
-takes_unseen (Err ReadFault) old new lazy to unseen used_up = used_up refl
-takes_unseen (Err TooLong) old new lazy to unseen used_up = tt
-takes_unseen (Err NoMemory) old new lazy to unseen used_up = tt
-takes_unseen (Err Spent) old new lazy to unseen used_up = tt
+takes_unseen : (r : Result (Option Found) ReadError) (old new : Window) → TakesWhenUsed old new → OnText r (λ t. new.place.offset ≤ t.stop) → IfOk r (λ x. ShownBefore x old new) → (IsErrOf r ReadFault → new.held ≡ []) → TakesUnseen edif r old new
+takes_unseen (Ok (Some x)) old new lazy to shown empty = shown
+takes_unseen (Ok None) old new lazy to shown empty = tt
+takes_unseen (Err (Text t)) old new lazy to shown empty = fault_unseen old new t.stop lazy to
+takes_unseen (Err ReadFault) old new lazy to shown empty = empty refl
+takes_unseen (Err TooLong) old new lazy to shown empty = tt
+takes_unseen (Err NoMemory) old new lazy to shown empty = tt
+takes_unseen (Err Spent) old new lazy to shown empty = tt
 
 at_error : (r : Result (Option Found) ReadError) (e : ReadError) (P : Type 0) → (IsErrOf r e → P) → IfErr r (λ x. x ≡ e → P)
 at_error (Ok x) e P f = tt
@@ -66,11 +81,15 @@ unspent_ok (Err e) = tt
 abbrev pub state : Window → Bool → State
 state w spent = record { window = w; spent = spent }
 
+-- a call of the reader
+abbrev pub Nexts : Result (Option Found) ReadError → State → State → Option (List ℕ) → Option (List ℕ) → ℕ → ℕ → Type 0
+Nexts r old new l l' f f' = ReadsToken edif r old.window old.spent new.window new.spent (supplied l f) (supplied l' f')
+
 -- the reader that was not spent
 pub reads_found : {old new : Window} {l l' : Option (List ℕ)} {r : Result (Option Found) ReadError} {f f' : ℕ} → Finds old new l l' r → (IsErrOf r Spent → ⊥)
-    → OnText r (λ t. new.place.offset ≤ t.stop) → f ≤ f' → (IsErrOf r ReadFault → Rose f f') → length new.held ≤ 4096 → given new ≤ LIMIT + 4096 → ReadsToken r (state old false) (state new (is_err r)) l l' f f'
+    → OnText r (λ t. new.place.offset ≤ t.stop) → f ≤ f' → (IsErrOf r ReadFault → Rose f f') → length new.held ≤ 4096 → given new ≤ LIMIT + 4096 → Nexts r (state old false) (state new (is_err r)) l l' f f'
 reads_found {old} {new} {l} {l'} {r} {f} {f'} finds free to count cause held taken = record {
-  moves = uses_moves finds.uses f f' count (omega (arith, taken));
+  moves = uses_moves finds.uses f f' count (none_past old new taken);
   told = λ _. finds.told;
   unspent = unspent_ok r;
   spent = spent_not r free;
@@ -79,12 +98,13 @@ reads_found {old} {new} {l} {l'} {r} {f} {f'} finds free to count cause held tak
   after_error = near_fault r new to held;
   shorter = finds.shorter;
   after_token = near_token r new finds.used_to held;
-  ended = finds.ended;
+  ended = ends_input r l' f' finds.ended;
   unseen = takes_unseen r old new finds.uses.lazy to finds.unseen finds.used_up;
 }
 
 -- the reader that was spent
-pub reads_spent : (w : Window) (l : Option (List ℕ)) (f : ℕ) → ReadsToken (Err Spent) (state w true) (state w true) l l f f
+pub reads_spent : (w : Window) (l : Option (List ℕ)) (f : ℕ) → Nexts (Err Spent) (state w true) (state w true) l l f f
+unfolding NearError
 reads_spent w l f = record {
   moves = uses_moves (Uses-none w l) f f (omega arith) (omega arith);
   told = λ h. absurd cc;

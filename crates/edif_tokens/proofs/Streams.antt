@@ -16,13 +16,14 @@ use Rattle.nl_bytes.specs.Bytes.{Window, Uses, Skips, TakesWhenUsed, input, firs
 use Rattle.nl_io.specs.Sources.{left_past}
 use Rattle.nl_bytes.proofs.Uses.{Uses-trans}
 use Rattle.nl_bytes.proofs.Known.{Uses-known, IsAhead-known}
+use Rattle.readers.specs.Sources.{Ahead, Tells, TellsKnown}
 use Rattle.edif_tokens.specs.declared.token.Found.{Found}
 use Rattle.edif_values.specs.declared.token.Token.{Token}
 use Rattle.edif_tokens.specs.Spelling.{Piece, Flaw, token_at, token_by, start_of}
-use Rattle.edif_tokens.specs.Streams.{Tells, TellsKnown}
 use Rattle.edif_tokens.specs.Streams.{Stream, End, Over, ends, follow, limited}
-use Rattle.edif_tokens.specs.Stream.{stop_of, tokens_ahead, stream_from, tokens_from, then_tokens, found_at}
-use Rattle.edif_tokens.specs.Scan.{Answers, IsUnseen, Reads, Finds}
+use Rattle.edif_tokens.specs.Stream.{stop_of, stream_from, tokens_from, then_tokens, found_at}
+use Rattle.edif_tokens.specs.Language.{ahead_of}
+use Rattle.edif_tokens.specs.Scan.{Answers, IsUnseen, Reads, Finds, known_ahead}
 use Rattle.edif_tokens.proofs.Spans.{offset_grows, halted_used_up, of_error}
 
 -- white space is passed over
@@ -76,7 +77,7 @@ Uses-unknown : {old new : Window} {l l' : Option (List ℕ)} {used : List ℕ} �
 Uses-unknown {old} {new} {l} {l'} u e = unknown old new l l' (given new - given old) u.suffix e
 
 -- what is told where the source tells its bytes
-tells_known : (a b : Option (List ℕ)) (F G : List ℕ → Stream Found) (r : Result (Option Found) ReadError) (now : Window) → (a ≡ None → b ≡ None)
+tells_known : (a b : Option (List ℕ)) (F G : List ℕ → Ahead Found) (r : Result (Option Found) ReadError) (now : Window) → (a ≡ None → b ≡ None)
     → ((bs : List ℕ) → a ≡ Some bs → (rest : List ℕ) × (b ≡ Some rest) × Tells (F bs) r now (G rest)) → TellsKnown (option_map F a) r now (option_map G b)
 tells_known None b F G r now none h = ap (λ (o : Option (List ℕ)). option_map G o) (none refl)
 tells_known (Some bs) b F G r now none h = let k = h bs refl in subst (λ (o : Option (List ℕ)). TellsKnown (Some (F bs)) r now (option_map G o)) (sym k.1) k.2
@@ -90,15 +91,15 @@ abbrev GivesFound : Place → List ℕ → Piece Token → Found → Type 0
 GivesFound p used piece f = (f ≡ found_at p piece) × (piece.count ≡ length used)
 
 token_told : (p : Place) (bs used : List ℕ) (x : Result (Piece Token) Flaw) (r : Result Found ReadError) (after : ℕ → Stream Found) (now : Window) (new : Stream Found)
-    → Answers p bs (GivesFound p used) x r → OnOk r (new ≡ limited stop_of (after (length used))) → Tells (limited stop_of (then_tokens p bs x after)) (finish r) now new
+    → Answers p bs (GivesFound p used) x r → OnOk r (new ≡ limited stop_of (after (length used))) → Tells (ahead_of (limited stop_of (then_tokens p bs x after))) (finish r) now (ahead_of new)
 unfolding limited
 token_told p bs used (Ok piece) (Ok f) after now new h is = go (ltb LIMIT f.stop) refl
   where
-    go : (t : Bool) → ltb LIMIT f.stop ≡ t → Tells (cond (ltb LIMIT (p.offset + piece.seen)) (ends Over) (follow (found_at p piece) (limited stop_of (after piece.count)))) (cond t (Err TooLong) (Ok (Some f))) now new
+    go : (t : Bool) → ltb LIMIT f.stop ≡ t → Tells (ahead_of (cond (ltb LIMIT (p.offset + piece.seen)) (ends Over) (follow (found_at p piece) (limited stop_of (after piece.count))))) (cond t (Err TooLong) (Ok (Some f))) now (ahead_of new)
     go true e = let k : ltb LIMIT (p.offset + piece.seen) ≡ true = ap (λ (g : Found). ltb LIMIT g.stop) (sym h.0) ∙ e in rw k refl
     go false e =
         let k : ltb LIMIT (p.offset + piece.seen) ≡ false = ap (λ (g : Found). ltb LIMIT g.stop) (sym h.0) ∙ e in
-        rw k (ap (λ (g : Found). follow g (limited stop_of (after piece.count))) (sym h.0) ∙ ap (λ (n : ℕ). follow f (limited stop_of (after n))) h.1 ∙ ap (λ (s : Stream Found). follow f s) (sym is))
+        rw k (ap ahead_of (ap (λ (g : Found). follow g (limited stop_of (after piece.count))) (sym h.0) ∙ ap (λ (n : ℕ). follow f (limited stop_of (after n))) h.1 ∙ ap (λ (s : Stream Found). follow f s) (sym is)))
 token_told p bs used (Err f) (Ok y) after now new h is = absurd h
 token_told p bs used (Ok piece) (Err (Text t)) after now new h is = absurd h
 token_told p bs used (Err f) (Err (Text t)) after now new h is = rw (le-ltb LIMIT (p.offset + f.seen) h.1, h.0) refl
@@ -117,9 +118,13 @@ on_ok (Err e) f h = tt
 abbrev within : Place → List ℕ → Stream Found
 within p bs = limited stop_of (tokens_from 0 p bs)
 
+-- the same with the end of the input
+abbrev within_ahead : Place → List ℕ → Ahead Found
+within_ahead p bs = ahead_of (within p bs)
+
 -- what was told of the tokens ahead
 abbrev Told : Window → Window → Option (List ℕ) → Option (List ℕ) → Result (Option Found) ReadError → Type 0
-Told old new l l' r = TellsKnown (tokens_ahead old l) r new (tokens_ahead new l')
+Told old new l l' r = TellsKnown (known_ahead old l) r new (known_ahead new l')
 
 -- white space, and then a token
 told_token : {old mid new : Window} {l m l' : Option (List ℕ)} {b : ℕ} {r : Result Found ReadError}
@@ -127,7 +132,7 @@ told_token : {old mid new : Window} {l m l' : Option (List ℕ)} {b : ℕ} {r : 
 unfolding token_at stream_from
 told_token {old} {mid} {new} {l} {m} {l'} {b} {r} s t =
     let uses = Uses-trans old mid new l m l' s.used t.used s.uses t.uses in
-    tells_known (input old l) (input new l') (within old.place) (within new.place) (finish r) new (Uses-unknown uses) (λ bs known.
+    tells_known (input old l) (input new l') (within_ahead old.place) (within_ahead new.place) (finish r) new (Uses-unknown uses) (λ bs known.
     let k = Uses-known old mid l m s.used bs s.uses known in
     let j = Uses-known mid new m l' t.used k.0 t.uses k.1 in
     let f = front_of k.0 b (IsAhead-known mid m (Some b) k.0 s.ahead k.1) in
@@ -140,7 +145,7 @@ told_token {old} {mid} {new} {l} {m} {l'} {b} {r} s t =
     on_ok r (λ some. ap (λ (s : Stream Found). limited stop_of s) (after_token mid.place new.place b f.0 t.used j.0 some (sym f.1 ∙ j.2) t.uses.place)) t.some in (
       j.0,
       j.1,
-      subst (λ (x : Stream Found). Tells (limited stop_of x) (finish r) new (within new.place j.0)) (sym tokens)
+      subst (λ (x : Stream Found). Tells (ahead_of (limited stop_of x)) (finish r) new (within_ahead new.place j.0)) (sym tokens)
           (token_told mid.place (b ∷ f.0) t.used (token_at b f.0) r after new (within new.place j.0) answer new_is),
     ))
 
@@ -152,6 +157,7 @@ finds_refused {old} {mid} {new} {l} {m} {l'} {b} {e} s t = record {
   uses = Uses-trans old mid new l m l' s.used t.used s.uses t.uses;
   told = told_token s t;
   shorter = tt;
+  limit = tt;
   used_to = tt;
   ended = tt;
   unseen = tt;
@@ -164,14 +170,15 @@ unfolding stream_from
 finds_end {old} {new} {l} {l'} s = record {
   used = s.used;
   uses = s.uses;
-  told = tells_known (input old l) (input new l') (within old.place) (within new.place) (Ok None) new (Uses-unknown s.uses) (λ bs known.
+  told = tells_known (input old l) (input new l') (within_ahead old.place) (within_ahead new.place) (Ok None) new (Uses-unknown s.uses) (λ bs known.
       let k = Uses-known old new l l' s.used bs s.uses known in
       let e = none_of k.0 (IsAhead-known new l' None k.0 s.ahead k.1) in
       let end : within new.place k.0 ≡ ends (End new.place) = ap (within new.place) e ∙ ap (λ (s : Stream Found). limited stop_of s) (tokens-end new.place) ∙ limited-end new.place s.within in
       let tokens : within old.place bs ≡ within new.place k.0 =
       ap (within old.place) k.2 ∙ ap (λ (s : Stream Found). limited stop_of s) (tokens-space old.place s.used k.0 s.each ∙ ap (λ (q : Place). tokens_from 0 q k.0) (sym s.uses.place)) in
-      (k.0, k.1, (tokens ∙ end, sym tokens)));
+      (k.0, k.1, (ap ahead_of (tokens ∙ end), ap ahead_of (sym tokens))));
   shorter = tt;
+  limit = tt;
   used_to = tt;
   ended = s.ahead.1;
   unseen = tt;
@@ -190,6 +197,7 @@ finds_found {old} {mid} {new} {l} {m} {l'} {b} {f} s t le to = record {
   uses = Uses-trans old mid new l m l' s.used t.used s.uses t.uses;
   told = subst (λ (r : Result (Option Found) ReadError). Told old new l l' r) (rw (le-ltb LIMIT f.stop le) refl) (told_token s t);
   shorter = (omega (arith, offset_grows s.uses, offset_grows t.uses, t.some), omega (arith, to, le));
+  limit = omega (arith, to, le);
   used_to = to;
   ended = tt;
   unseen = behind_space old mid new f.stop s.uses.lazy (omega (arith, offset_grows t.uses, t.some, to)) t.unseen;
@@ -213,9 +221,9 @@ tokens-late p (b ∷ bs) late = go (is_space b) (tokens-late (place_after p b) b
 abbrev at_err : Halt → Result (Option ℕ) Halt
 at_err h = Err h
 
-halt_told : (h : Halt) (s : Stream Found) (now : Window) (new : Stream Found) → (h ≡ halts.TooLong → s ≡ ends Over) → Tells s (Err (error_of h)) now new
+halt_told : (h : Halt) (s : Stream Found) (now : Window) (new : Ahead Found) → (h ≡ halts.TooLong → s ≡ ends Over) → Tells (ahead_of s) (Err (error_of h)) now new
 halt_told halts.Failed s now new over = tt
-halt_told halts.TooLong s now new over = over refl
+halt_told halts.TooLong s now new over = ap ahead_of (over refl)
 halt_told halts.NoMemory s now new over = tt
 
 pub finds_halted : {old new : Window} {l l' : Option (List ℕ)} {h : Halt} → Skips Space old new l l' (Err h) → Finds old new l l' (Err (error_of h))
@@ -223,12 +231,13 @@ unfolding stream_from
 finds_halted {old} {new} {l} {l'} {h} s = record {
   used = s.used;
   uses = s.uses;
-  told = tells_known (input old l) (input new l') (within old.place) (within new.place) (Err (error_of h)) new (Uses-unknown s.uses) (λ bs known.
+  told = tells_known (input old l) (input new l') (within_ahead old.place) (within_ahead new.place) (Err (error_of h)) new (Uses-unknown s.uses) (λ bs known.
       let k = Uses-known old new l l' s.used bs s.uses known in
       let tokens : within old.place bs ≡ within new.place k.0 =
       ap (within old.place) k.2 ∙ ap (λ (s : Stream Found). limited stop_of s) (tokens-space old.place s.used k.0 s.each ∙ ap (λ (q : Place). tokens_from 0 q k.0) (sym s.uses.place)) in
-      (k.0, k.1, halt_told h (within old.place bs) new (within new.place k.0) (λ is. tokens ∙ tokens-late new.place k.0 (s.too_long (ap at_err is)))));
+      (k.0, k.1, halt_told h (within old.place bs) new (within_ahead new.place k.0) (λ is. tokens ∙ tokens-late new.place k.0 (s.too_long (ap at_err is)))));
   shorter = tt;
+  limit = tt;
   used_to = tt;
   ended = tt;
   unseen = tt;

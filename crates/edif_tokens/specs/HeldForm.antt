@@ -1,12 +1,14 @@
 -- What the bytes that are held show of the beginning of a form: its `(` and its word.
-use Rattle.std.specs.Prelude.{◌≡◌, ℕ, ◌==◌, if◌then◌else◌, List, [], ◌∷◌, drop, Option, Some, Ok}
+use Rattle.std.specs.Prelude.{◌≡◌, ℕ, ◌==◌, if◌then◌else◌, List, [], ◌∷◌, drop, Some, Ok}
+use Rattle.nl_io.specs.Sources.{Supply}
 use Rattle.nl_bytes.specs.Bytes.{Window}
+use Rattle.readers.specs.Sources.{ReadsToken}
 use Rattle.edif_tokens.specs.declared.form.FormAt.{FormAt}
 use Rattle.edif_tokens.specs.declared.token.Found.{Found}
 use Rattle.edif_values.specs.declared.token.Token.TheVariants.{LeftParen, Word}
 use Rattle.edif_tokens.specs.Held.{is_near, space_length, word_length}
 use Rattle.edif_tokens.specs.Streams.{State}
-use Rattle.edif_tokens.specs.Stream.{ReadsToken}
+use Rattle.edif_tokens.specs.Language.{edif}
 
 -- no form
 abbrev pub no_form : FormAt
@@ -26,6 +28,6 @@ unfoldable pub form_at : Window → FormAt
 form_at w = if is_near w then form_behind (space_length w.held) (drop (space_length w.held) w.held) else no_form
 
 -- a `(` and then this word are the next two tokens
-pub record ReadsForm (text : List ℕ) (old between new : State) (left : Option (List ℕ)) (faults : ℕ) : Type 0 where
-  pub parenthesis : (x : Found) × (x.token ≡ LeftParen) × ReadsToken (Ok (Some x)) old between left left faults faults
-  pub word : (x : Found) × (x.token ≡ Word text) × ReadsToken (Ok (Some x)) between new left left faults faults
+pub record ReadsForm (text : List ℕ) (old between new : State) (i : Supply) : Type 0 where
+  pub parenthesis : (x : Found) × (x.token ≡ LeftParen) × ReadsToken edif (Ok (Some x)) old.window old.spent between.window between.spent i i
+  pub word : (x : Found) × (x.token ≡ Word text) × ReadsToken edif (Ok (Some x)) between.window between.spent new.window new.spent i i

@@ -3,6 +3,7 @@ pub mod Strings
 pub mod Spelling
 pub mod Streams
 pub mod Stream
+pub mod Language
 pub mod Scan
 pub mod Proper
 pub mod Held

@@ -1,15 +1,13 @@
--- The tokens of an EDIF text (EDIF 2 0 0, basic syntax), and what a reader of them has ahead.
-use Rattle.std.specs.Prelude.{ℕ, zero, false, suc, ◌+◌, ◌-◌, if◌then◌else◌, List, [], ◌∷◌, take, Option, Result, Ok, Err}
+-- The tokens of an EDIF text (EDIF 2 0 0, basic syntax).
+use Rattle.std.specs.Prelude.{ℕ, zero, false, suc, ◌+◌, ◌-◌, if◌then◌else◌, List, [], ◌∷◌, take, Result, Ok, Err}
 use Rattle.nl_base.specs.declared.place.Place.{Place}
 use Rattle.nl_base.specs.declared.fault.TextFault.{TextFault}
 use Rattle.nl_base.specs.Place.{place_after, place_past, place_at_start}
 use Rattle.nl_bytes.specs.Classes.{is_space}
-use Rattle.nl_bytes.specs.Bytes.{Window}
 use Rattle.edif_tokens.specs.declared.token.Found.{Found}
 use Rattle.edif_values.specs.declared.token.Token.{Token}
 use Rattle.edif_tokens.specs.Spelling.{Piece, Flaw, token_at}
-use Rattle.nl_base.specs.declared.fault.ReadError.{ReadError}
-use Rattle.edif_tokens.specs.Streams.{End, Bad, Stream, State, Reads, ends, follow, limited, stream_ahead}
+use Rattle.edif_tokens.specs.Streams.{End, Bad, Stream, State, ends, follow, limited}
 
 -- a token that begins at a place
 abbrev pub found_at : Place → Piece Token → Found
@@ -48,14 +46,6 @@ all_tokens text = tokens_from zero place_at_start text
 abbrev pub tokens : List ℕ → Stream Found
 tokens text = stream_from place_at_start text
 
--- the tokens that a reader has ahead, where the source tells the bytes that it has left
-abbrev pub tokens_ahead : Window → Option (List ℕ) → Option (Stream Found)
-tokens_ahead w left = stream_ahead stream_from w left
-
 -- a reader at the start of a text
 abbrev pub fresh : State
 fresh = record { window = record { held = []; place = place_at_start }; spent = false }
-
--- A reader of EDIF tokens was asked for the next one.
-abbrev pub ReadsToken : Result (Option Found) ReadError → State → State → Option (List ℕ) → Option (List ℕ) → ℕ → ℕ → Type 0
-ReadsToken result old new left left' faults faults' = Reads stream_from stop_of result old new left left' faults faults'

@@ -6,7 +6,7 @@ ghost use Rattle.edif_tokens.specs.Scan.{Finds};
 
 use crate::lexeme::token;
 use crate::token::Found;
-use crate::whole::held_mark;
+use crate::whole::mark_found;
 use nl_base::ReadError;
 use nl_bytes::{Bytes, Class};
 use nl_io::Source;
@@ -30,7 +30,7 @@ pub fn found<S: Source>(
     let Some(byte) = next else {
         return Ok(None);
     };
-    match held_mark(bytes, byte, source) {
+    match mark_found(bytes, byte, source) {
         Some(found) => Ok(Some(found)),
         None => {
             let found = token(bytes, alloc, byte, source)?;

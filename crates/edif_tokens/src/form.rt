@@ -3,7 +3,7 @@ ghost use Rattle.std.specs.Prelude.{◌≡◌, ◌<◌, ◌≤◌, length, drop}
 ghost use Rattle.edif_tokens.specs.Held.{past_mark, held_word, past_word};
 ghost use Rattle.edif_tokens.specs.HeldForm.{no_form, form_behind, form_at};
 
-use crate::next::{is_near, pass_mark_behind, pass_word_behind, word_length};
+use crate::ahead::{is_near, pass_mark_behind, pass_word_behind, word_length};
 use nl_bytes::{Bytes, Class};
 
 /// Where a form begins in what is held: how many bytes of white space stand before its `(` and behind it, and how many bytes

@@ -1,9 +1,9 @@
-ghost use Rattle.std.specs.Prelude.{◌≡◌, ◌+◌, ◌<◌, ◌≤◌, ℕ, List, Option, Some, Ok, length, IfOk, IfSome, IsFalse};
+ghost use Rattle.std.specs.Prelude.{◌≡◌, ◌+◌, ◌<◌, ◌≤◌, ℕ, Some, length, IfOk, IfSome, IsFalse};
 ghost use Rattle.nl_bytes.specs.declared.bytes.TheConstants.{LIMIT};
 
+use crate::ahead::{held_mark, held_word, pass_mark, pass_word};
 use crate::finding::found;
 use crate::form::{FormAt, form_at, form_word, pass_form};
-use crate::next::{held_mark, held_word, pass_mark, pass_word};
 use crate::token::Found;
 use nl_base::{NoMemory, Place, ReadError};
 use nl_bytes::Bytes;
@@ -32,7 +32,10 @@ impl Model for Tokens {
 impl Tokens {
     ghost use Rattle.edif_values.specs.declared.token.Token.TheVariants.{Word};
     ghost use Rattle.edif_values.specs.Proper.{IsProper};
-    ghost use Rattle.edif_tokens.specs.Stream.{ReadsToken, fresh};
+    ghost use Rattle.nl_io.specs.Sources.{Supply};
+    ghost use Rattle.readers.specs.Sources.{ReadsToken};
+    ghost use Rattle.edif_tokens.specs.Stream.{fresh};
+    ghost use Rattle.edif_tokens.specs.Language.{edif};
     ghost use Rattle.edif_tokens.specs.Held.{held_mark, mark_token, past_mark, held_word, past_word};
     ghost use Rattle.edif_tokens.specs.HeldForm.{form_at, ReadsForm};
 
@@ -85,7 +88,8 @@ impl Tokens {
     pub fn take_mark(&mut self)
         requires { (mark : ℕ) × (held_mark self.old.window ≡ Some mark) }
         ensures left { self.new ≡ record { window = past_mark self.old.window; spent = self.old.spent } }
-        ensures reads { (mark : ℕ) → held_mark self.old.window ≡ Some mark → IsFalse self.old.spent → (left : Option (List ℕ)) → (faults : ℕ) → (x : Found) × (x.token ≡ mark_token mark) × ReadsToken (Ok (Some x)) self.old self.new left left faults faults }
+        ensures reads { (mark : ℕ) → held_mark self.old.window ≡ Some mark → IsFalse self.old.spent → (i : Supply) → (x : Found) × (x.token ≡ mark_token mark) × ReadsToken edif (Ok (Some x)) self.old.window self.old.spent self.new.window self.new.spent i i }
+        ensures limit { self.new.window.place.offset ≤ LIMIT }
     {
         // The buffer holds at most 4,096 bytes, as its call says.
         let _here = self.bytes.place();
@@ -111,7 +115,8 @@ impl Tokens {
         requires some { 0 < count }
         requires word { count ≡ length (held_word self.old.window) }
         ensures left { self.new ≡ record { window = past_word self.old.window; spent = self.old.spent } }
-        ensures reads { IsFalse self.old.spent → (left : Option (List ℕ)) → (faults : ℕ) → (x : Found) × (x.token ≡ Word (held_word self.old.window)) × ReadsToken (Ok (Some x)) self.old self.new left left faults faults }
+        ensures reads { IsFalse self.old.spent → (i : Supply) → (x : Found) × (x.token ≡ Word (held_word self.old.window)) × ReadsToken edif (Ok (Some x)) self.old.window self.old.spent self.new.window self.new.spent i i }
+        ensures limit { self.new.window.place.offset ≤ LIMIT }
     {
         // The buffer holds at most 4,096 bytes, as its call says.
         let _here = self.bytes.place();
@@ -149,7 +154,8 @@ impl Tokens {
         requires some { 0 < at.count }
         requires form { at ≡ form_at self.old.window }
         ensures left { self.new ≡ record { window = past_word (past_mark self.old.window); spent = self.old.spent } }
-        ensures reads { IsFalse self.old.spent → (left : Option (List ℕ)) → (faults : ℕ) → ReadsForm (held_word (past_mark self.old.window)) self.old (record { window = past_mark self.old.window; spent = self.old.spent }) self.new left faults }
+        ensures reads { IsFalse self.old.spent → (i : Supply) → ReadsForm (held_word (past_mark self.old.window)) self.old (record { window = past_mark self.old.window; spent = self.old.spent }) self.new i }
+        ensures limit { self.new.window.place.offset ≤ LIMIT }
     {
         // The buffer holds at most 4,096 bytes, as its call says.
         let _here = self.bytes.place();
@@ -177,7 +183,8 @@ impl Tokens {
         alloc: Global,
         source: &mut S,
     ) -> Result<Option<Found>, ReadError>
-        ensures reads { ReadsToken result self.old self.new (S.supply source.old).left (S.supply source.new).left (S.supply source.old).faults (S.supply source.new).faults }
+        ensures reads { ReadsToken edif result self.old.window self.old.spent self.new.window self.new.spent (S.supply source.old) (S.supply source.new) }
+        ensures limit { IfOk result (λ t. IfSome t (λ x. self.new.window.place.offset ≤ LIMIT)) }
         ensures proper { IfOk result (λ t. IfSome t (λ x. IsProper x.token)) }
     {
         if self.spent {

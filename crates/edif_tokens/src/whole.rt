@@ -38,7 +38,7 @@ pub fn mark<S: Source>(bytes: &mut Bytes, byte: u8, token: Token, source: &S) ->
 
 /// The parenthesis ahead, exactly where the byte is one and stands within the limit. Where there is none, nothing is used.
 #[inline(always)]
-pub fn held_mark<S: Source>(bytes: &mut Bytes, byte: u8, source: &S) -> Option<Found>
+pub fn mark_found<S: Source>(bytes: &mut Bytes, byte: u8, source: &S) -> Option<Found>
     requires ahead { (rest : List ℕ) × (bytes.old.held ≡ byte ∷ rest) }
     requires within { bytes.old.place.offset ≤ LIMIT }
     ensures reads { IfSome result (λ f. Reads (token_by (start_of byte)) bytes.old.place bytes.old bytes.new (S.supply source.now).left (S.supply source.now).left (Ok f)) }

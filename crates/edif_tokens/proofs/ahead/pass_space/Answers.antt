@@ -1,5 +1,5 @@
 use Rattle.edif_tokens.proofs.HeldTokens.{space_room}
-use Rattle.edif_tokens.proofs.next.pass_space.Goals as goal
+use Rattle.edif_tokens.proofs.ahead.pass_space.Goals as goal
 
 pub pass-requires-clause-held : goal.pass-requires-clause-held
 pass-requires-clause-held c = (space_room c.args.bytes.now _ c.requires.space c.requires.near).0

@@ -2,7 +2,7 @@ use Rattle.std.proofs.Common.{arith}
 use Rattle.std.proofs.lemmas.List.Sums.{prefix_len-le-length}
 use Rattle.nl_bytes.specs.Classes.{is_space}
 use Rattle.edif_tokens.proofs.HeldTokens.{word_enough}
-use Rattle.edif_tokens.proofs.next.held_word.Goals as goal
+use Rattle.edif_tokens.proofs.ahead.held_word.Goals as goal
 
 pub split_at-requires : goal.split_at-requires
 split_at-requires c = omega (arith, c.front.ensures, prefix_len-le-length is_space c.held-held.result.now)

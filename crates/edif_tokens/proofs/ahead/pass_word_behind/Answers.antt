@@ -1,5 +1,5 @@
 use Rattle.edif_tokens.proofs.HeldTokens.{word_next, word_past, word_room}
-use Rattle.edif_tokens.proofs.next.pass_word_behind.Goals as goal
+use Rattle.edif_tokens.proofs.ahead.pass_word_behind.Goals as goal
 
 pub pass_space-requires-clause-near : goal.pass_space-requires-clause-near
 pass_space-requires-clause-near c = (word_next _ _ c.requires.word c.requires.some).near

@@ -1,5 +1,5 @@
 use Rattle.edif_tokens.proofs.HeldTokens.{mark_next, mark_past, mark_room}
-use Rattle.edif_tokens.proofs.next.pass_mark_behind.Goals as goal
+use Rattle.edif_tokens.proofs.ahead.pass_mark_behind.Goals as goal
 
 pub pass_space-requires-clause-near : goal.pass_space-requires-clause-near
 pass_space-requires-clause-near c = (mark_next _ _ c.requires.mark.1).near
