@@ -10,7 +10,7 @@ use Rattle.edif_tokens.specs.declared.token.Found.{Found}
 use Rattle.edif_values.specs.declared.token.Token.{Token}
 use Rattle.edif_values.specs.declared.token.Token.TheVariants.{LeftParen, RightParen, Word, Number, Str}
 use Rattle.readers.specs.Parts.{any}
-use Rattle.readers.specs.Sources.{Ahead}
+use Rattle.nl_bytes.specs.Tokens.{Ahead}
 use Rattle.readers.specs.Readers.{reading, looking, IsToken, IsNext, IsCause}
 use Rattle.readers.proofs.Choices.{reads_alike, read_grouped, Fits, Misses, while_token, while_no_token, while_next_is, while_next_is_no, cause_while, due_while, due_if, due_one, due_then, if_token, if_no_token}
 use Rattle.std.proofs.lemmas.List.{map_push}

@@ -15,7 +15,7 @@ use Rattle.edif_tokens.specs.Held as tokens
 use Rattle.edif_tokens.proofs.HeldTokens.{mark_reads, word_reads, word_identifier, word_short}
 use Rattle.readers.specs.Parts.{of_token, any, one}
 use Rattle.nl_io.specs.Sources.{Supply}
-use Rattle.readers.specs.Sources.{Ahead, Language, IsNear, ReadsToken}
+use Rattle.nl_bytes.specs.Tokens.{Ahead, Language, IsNear, ReadsToken}
 use Rattle.readers.specs.Readers.{Reader, Reads, LooksAt, IsToken, same, spoilt, result_of, reading, then_left, stream}
 use Rattle.readers.proofs.Looking.{ok_first}
 use Rattle.readers.proofs.Moving.{still, near_no_memory}

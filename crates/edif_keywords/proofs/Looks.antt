@@ -4,7 +4,7 @@ use Rattle.grammar.specs.Whole.{the_end}
 use Rattle.nl_base.specs.declared.fault.Reason.TheVariants as reasons
 use Rattle.nl_base.specs.declared.fault.ReadError.TheVariants as errors
 use Rattle.edif_tokens.specs.declared.token.Found.{Found}
-use Rattle.readers.specs.Sources.{Ahead}
+use Rattle.nl_bytes.specs.Tokens.{Ahead}
 use Rattle.readers.specs.Readers.{looking, then_left, reading, IsToken, IsNext, IsCause}
 use Rattle.readers.proofs.Looking.{seen_token, seen_next, seen_none, cause_looking, cause_end, seen_trailing, seen_end, cause_ending}
 use Rattle.readers.proofs.Moving.{near_text, skip_none}

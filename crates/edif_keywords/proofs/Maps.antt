@@ -13,7 +13,7 @@ use Rattle.nl_io.specs.Causes.{Rose}
 use Rattle.nl_bytes.specs.Bytes.{Window, given}
 use Rattle.nl_bytes.proofs.Uses.{takes_then}
 use Rattle.nl_io.specs.Sources.{Supply}
-use Rattle.readers.specs.Sources.{Ahead, Moves, skip}
+use Rattle.nl_bytes.specs.Tokens.{Ahead, Moves, skip}
 use Rattle.readers.specs.Readers.{Reader, ReadsContext, LooksAt, stream, reading, on, on_result, result_of, IsToken, IsCause}
 use Rattle.readers.proofs.Choices.{due_one, due_then}
 use Rattle.readers.proofs.Loops.{GoesContext}

@@ -10,7 +10,7 @@ use Rattle.nl_base.specs.declared.fault.ReadError.TheVariants as errors
 use Rattle.edif_tokens.specs.declared.token.Found.{Found}
 use Rattle.readers.specs.Parts.{one, any}
 use Rattle.nl_io.specs.Sources.{Supply}
-use Rattle.readers.specs.Sources.{IsNear}
+use Rattle.nl_bytes.specs.Tokens.{IsNear}
 use Rattle.readers.specs.Readers.{Reader, Reads, same, stream, reading, judge, said, fault_at, IsCause}
 use Rattle.readers.proofs.Moving.{near_text}
 use Rattle.readers.proofs.Reading.{reading_one, judge_left, cause_judge, cause_said}

@@ -1,6 +1,6 @@
 ghost use Rattle.std.specs.Prelude.{◌≡◌, ◌<◌, ◌≤◌, ℕ, length, None, Some, [], IfOk, OnOk, IfSome, IsSome, IsNone, IsTrue, IsFalse, option_map};
 ghost use Rattle.readers.specs.Parts.{any};
-ghost use Rattle.readers.specs.Sources.{IsNear};
+ghost use Rattle.nl_bytes.specs.Tokens.{IsNear};
 ghost use Rattle.readers.specs.Readers.{same, fault_at, end_fault, spoilt, Reads, Looks, LooksAt, LooksFor, Ends, Adds};
 ghost use Rattle.grammar.specs.Whole.{proper};
 ghost use Rattle.edif_values.specs.Proper.{IsProper};
@@ -31,7 +31,7 @@ impl Model for Cursor {
     ghost use Rattle.std.specs.Prelude.{◌≡◌, List, None, IsTrue, IfSome};
     ghost use Rattle.edif_values.specs.Proper.{IsProper};
     ghost use Rattle.edif_tokens.specs.declared.token.Found.{Found};
-    ghost use Rattle.readers.specs.Sources.{IsNear};
+    ghost use Rattle.nl_bytes.specs.Tokens.{IsNear};
     ghost use Rattle.readers.specs.Readers.{Reader};
     ghost use Rattle.edif_keywords.specs.Aliases.{Alias};
 

@@ -3,7 +3,7 @@ use Rattle.std.proofs.Common.{◌≡◌, refl, true, false, List, Option}
 use Rattle.nl_base.specs.declared.fault.ReadError.{ReadError}
 use Rattle.edif_tokens.specs.declared.token.Found.{Found}
 use Rattle.readers.specs.Parts.{any}
-use Rattle.readers.specs.Sources.{Ahead}
+use Rattle.nl_bytes.specs.Tokens.{Ahead}
 use Rattle.readers.specs.Readers.{reading, IsCause}
 use Rattle.readers.proofs.Choices.{due_one, due_then}
 use Rattle.readers.proofs.Reading.{sequences}

@@ -4,7 +4,7 @@ use Rattle.grammar.specs.Part.{sequence, under}
 use Rattle.grammar.specs.Texts.{Spells}
 use Rattle.grammar.specs.Whole.{Terminal, proper, end, whole, the_end, end_of, IsText}
 use Rattle.nl_base.specs.declared.place.Place.{Place}
-use Rattle.readers.specs.Sources.{Ahead}
+use Rattle.nl_bytes.specs.Tokens.{Ahead}
 use Rattle.edif_tokens.specs.declared.token.Found.{Found}
 use Rattle.edif_values.specs.declared.keyword.Keyword.TheVariants as k
 use Rattle.edif_keywords.specs.Aliases.{Alias}

@@ -2,7 +2,7 @@
 ghost use Rattle.std.specs.Prelude.{◌↔◌, List, ℕ, []};
 ghost use Rattle.grammar.specs.Texts.{Spells};
 ghost use Rattle.grammar.specs.Whole.{whole, IsText};
-ghost use Rattle.readers.specs.Sources.{Ahead};
+ghost use Rattle.nl_bytes.specs.Tokens.{Ahead};
 ghost use Rattle.edif_tokens.specs.declared.token.Found.{Found};
 ghost use Rattle.edif_keywords.specs.Aliases.{Alias};
 ghost use Rattle.edif_keywords.specs.Reasons.{trailing};

@@ -17,7 +17,7 @@ use Rattle.edif_values.specs.declared.token.Token.{Token}
 use Rattle.edif_values.specs.declared.token.Token.TheVariants.{LeftParen, RightParen, Word, Number, Str}
 use Rattle.readers.specs.Parts.{one, any, if_next}
 use Rattle.nl_io.specs.Sources.{Supply}
-use Rattle.readers.specs.Sources.{Ahead, tokens_ahead}
+use Rattle.nl_bytes.specs.Tokens.{Ahead, tokens_ahead}
 use Rattle.readers.specs.Readers.{Reader, reading, result_of, looking, then_left, stream, stream_of, behind, fault_at, FirstFits, IsNext, IsToken, IsCause}
 use Rattle.readers.proofs.Moving.{near_text, skip_none}
 use Rattle.readers.proofs.Looking.{seen_next, seen_none, cause_looking}

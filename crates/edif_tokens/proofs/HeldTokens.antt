@@ -17,7 +17,7 @@ use Rattle.nl_bytes.specs.Bytes.{Window, Skips, given}
 use Rattle.nl_bytes.proofs.Uses.{Uses-front, Uses-byte}
 use Rattle.nl_bytes.proofs.Fronts.{front-all}
 use Rattle.nl_io.specs.Sources.{Supply}
-use Rattle.readers.specs.Sources.{ReadsToken}
+use Rattle.nl_bytes.specs.Tokens.{ReadsToken}
 use Rattle.edif_tokens.specs.declared.scan.Start.{Start}
 use Rattle.edif_tokens.specs.declared.scan.Start.TheVariants.{Letter}
 use Rattle.edif_tokens.specs.declared.token.Found.{Found}

@@ -9,7 +9,7 @@ use Rattle.nl_bytes.specs.Bytes.{Window, Uses, TakesWhenUsed, given}
 use Rattle.nl_bytes.specs.declared.bytes.TheConstants.{LIMIT}
 use Rattle.nl_bytes.proofs.Uses.{Uses-none}
 use Rattle.nl_io.specs.Sources.{Supply}
-use Rattle.readers.specs.Sources.{Moves, NearError, NearToken, EndsInput, TakesUnseen, ReadsToken, excess, skip}
+use Rattle.nl_bytes.specs.Tokens.{Moves, NearError, NearToken, EndsInput, TakesUnseen, ReadsToken, excess, skip}
 use Rattle.edif_tokens.specs.declared.token.Found.{Found}
 use Rattle.edif_tokens.specs.Streams.{State}
 use Rattle.edif_tokens.specs.Language.{edif}

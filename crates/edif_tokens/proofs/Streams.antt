@@ -16,7 +16,7 @@ use Rattle.nl_bytes.specs.Bytes.{Window, Uses, Skips, TakesWhenUsed, input, firs
 use Rattle.nl_io.specs.Sources.{left_past}
 use Rattle.nl_bytes.proofs.Uses.{Uses-trans}
 use Rattle.nl_bytes.proofs.Known.{Uses-known, IsAhead-known}
-use Rattle.readers.specs.Sources.{Ahead, Tells, TellsKnown}
+use Rattle.nl_bytes.specs.Tokens.{Ahead, Tells, TellsKnown}
 use Rattle.edif_tokens.specs.declared.token.Found.{Found}
 use Rattle.edif_values.specs.declared.token.Token.{Token}
 use Rattle.edif_tokens.specs.Spelling.{Piece, Flaw, token_at, token_by, start_of}

@@ -2,7 +2,7 @@
 use Rattle.std.specs.Prelude.{◌≡◌, ℕ, ◌==◌, if◌then◌else◌, List, [], ◌∷◌, drop, Some, Ok}
 use Rattle.nl_io.specs.Sources.{Supply}
 use Rattle.nl_bytes.specs.Bytes.{Window}
-use Rattle.readers.specs.Sources.{ReadsToken}
+use Rattle.nl_bytes.specs.Tokens.{ReadsToken}
 use Rattle.edif_tokens.specs.declared.form.FormAt.{FormAt}
 use Rattle.edif_tokens.specs.declared.token.Found.{Found}
 use Rattle.edif_values.specs.declared.token.Token.TheVariants.{LeftParen, Word}

@@ -3,7 +3,7 @@ use Rattle.std.specs.Prelude.{List, [], ◌∷◌, ◌++◌, map}
 use Rattle.grammar.specs.Whole.{Terminal, proper, end, Finish, Done, Bad, Over}
 use Rattle.nl_base.specs.declared.place.Place.{Place}
 use Rattle.nl_base.specs.declared.fault.TextFault.{TextFault}
-use Rattle.readers.specs.Sources.{Ahead, Language}
+use Rattle.nl_bytes.specs.Tokens.{Ahead, Language}
 use Rattle.edif_tokens.specs.declared.token.Found.{Found}
 use Rattle.edif_tokens.specs.Streams as streams
 use Rattle.edif_tokens.specs.Stream.{stream_from}

@@ -6,7 +6,7 @@ use Rattle.nl_base.specs.declared.fault.Reason.{Reason}
 use Rattle.nl_base.specs.declared.fault.ReadError.{ReadError}
 use Rattle.nl_base.specs.declared.fault.ReadError.TheVariants.{Text, ReadFault, TooLong, NoMemory, Spent}
 use Rattle.std.specs.Io.KnownBytes.{IsAtEnd}
-use Rattle.readers.specs.Sources.{Ahead, TellsKnown, Shortens}
+use Rattle.nl_bytes.specs.Tokens.{Ahead, TellsKnown, Shortens}
 use Rattle.nl_bytes.specs.declared.class.Class.{Class}
 use Rattle.nl_bytes.specs.declared.bytes.TheConstants.{LIMIT}
 use Rattle.nl_bytes.specs.Classes.{AreIn, in_class, is_string_byte}

@@ -33,7 +33,7 @@ impl Tokens {
     ghost use Rattle.edif_values.specs.declared.token.Token.TheVariants.{Word};
     ghost use Rattle.edif_values.specs.Proper.{IsProper};
     ghost use Rattle.nl_io.specs.Sources.{Supply};
-    ghost use Rattle.readers.specs.Sources.{ReadsToken};
+    ghost use Rattle.nl_bytes.specs.Tokens.{ReadsToken};
     ghost use Rattle.edif_tokens.specs.Stream.{fresh};
     ghost use Rattle.edif_tokens.specs.Language.{edif};
     ghost use Rattle.edif_tokens.specs.Held.{held_mark, mark_token, past_mark, held_word, past_word};

@@ -12,7 +12,7 @@ use Rattle.nl_output.specs.Writing.{Writes}
 use Rattle.readers.specs.Parts.{PartOf}
 use Rattle.readers.specs.Readers.{same, fault_at}
 use Rattle.nl_io.specs.Sources.{Supply}
-use Rattle.readers.specs.Sources.{Language}
+use Rattle.nl_bytes.specs.Tokens.{Language}
 use Rattle.readers.specs.Texts.{tokens_of, SpellsText, ReadsText}
 use Rattle.netlist_cli.specs.declared.failure.Failure.TheVariants as failures
 use Rattle.netlist_cli.specs.Outcomes.{FileLanguage, Meaning, Verdict, fine}

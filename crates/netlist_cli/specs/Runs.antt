@@ -6,7 +6,7 @@ use Rattle.nl_io.specs.declared.source.Failed.{Failed}
 use Rattle.nl_bytes.specs.declared.bytes.TheConstants.{LIMIT}
 use Rattle.nl_output.specs.Writing.{Writes}
 use Rattle.nl_io.specs.Sources.{Supply}
-use Rattle.readers.specs.Sources.{skip}
+use Rattle.nl_bytes.specs.Tokens.{skip}
 use Rattle.netlist_words.specs.Commands.{IfCommand, IsAsked, IsNoCommand}
 use Rattle.netlist_words.specs.declared.command.Command.{Command}
 use Rattle.netlist_words.specs.declared.command.Command.TheVariants as commands

@@ -1,3 +1,4 @@
 pub mod Classes
 pub mod Halts
 pub mod Bytes
+pub mod Tokens

@@ -7,7 +7,8 @@
 // them, and bytes were taken only where all those taken before are used. At most one byte past
 // 268,435,456 is answered and used, which tells that the input is longer, and no more than 4,096
 // bytes past it are ever taken from the source. `Class` has the classes of bytes of which tokens of
-// EDIF 2 0 0 and of Verilog (IEEE 1364-2005, 3) have runs, each a bit in a table.
+// EDIF 2 0 0 and of Verilog (IEEE 1364-2005, 3) have runs, each a bit in a table. `specs/Tokens.antt`
+// has what a reader of tokens over such bytes answers, in any language (`ReadsToken`).
 #![tactic(auto)]
 
 pub mod bytes;

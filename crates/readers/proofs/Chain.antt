@@ -5,7 +5,7 @@ use Rattle.grammar.specs.Part.{gives, sequence}
 use Rattle.nl_base.specs.declared.fault.ReadError.{ReadError}
 use Rattle.readers.specs.Parts.{PartOf}
 use Rattle.nl_io.specs.Sources.{Supply}
-use Rattle.readers.specs.Sources.{Language}
+use Rattle.nl_bytes.specs.Tokens.{Language}
 use Rattle.readers.specs.Readers.{Reader, Reads, ReadsMaybe}
 use Rattle.readers.proofs.Reading.{sequences}
 

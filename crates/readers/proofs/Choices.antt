@@ -10,7 +10,7 @@ use Rattle.nl_base.specs.declared.fault.Reason.{Reason}
 use Rattle.nl_base.specs.declared.fault.ReadError.{ReadError}
 use Rattle.nl_base.specs.declared.fault.ReadError.TheVariants as errors
 use Rattle.readers.specs.Parts.{PartOf, of_token, at_token, one, any, if_next, while_next, maybe, pick}
-use Rattle.readers.specs.Sources.{Ahead, Language}
+use Rattle.nl_bytes.specs.Tokens.{Ahead, Language}
 use Rattle.readers.specs.Readers.{result_of, reading, then_left, on_result, on, fault_at, finish_error, look_result, looking, FirstFits, IsNext, IsToken, IsCause}
 use Rattle.std.proofs.lemmas.List.{map_push}
 use Rattle.readers.proofs.Moving.{near_text, skip_none}

@@ -9,7 +9,7 @@ use Rattle.nl_base.specs.declared.fault.ReadError.TheVariants as errors
 use Rattle.nl_bytes.specs.Bytes.{Window}
 use Rattle.readers.specs.Parts.{of_token, any, one}
 use Rattle.nl_io.specs.Sources.{Supply}
-use Rattle.readers.specs.Sources.{Ahead, Language, ReadsToken, TellsKnown, tokens_ahead}
+use Rattle.nl_bytes.specs.Tokens.{Ahead, Language, ReadsToken, TellsKnown, tokens_ahead}
 use Rattle.readers.specs.Readers.{Reader, Looks, LooksFor, stream, stream_of, behind, reading, look_result, looking, then_left, FirstFits, IsNext, IsToken, IsEnd, IsCause, emptied, end_fault, fault_at, finish_error, Outcome, result_of}
 use Rattle.readers.proofs.Moving.{near_text, room_seen, room_end, still, reader, skip_none}
 use Rattle.readers.proofs.Taking.{stream_of_tokens}

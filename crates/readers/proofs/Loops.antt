@@ -2,7 +2,7 @@
 use Rattle.std.proofs.Common.{◌≡◌, ◌≤◌, ◌+◌, ℕ}
 use Rattle.readers.specs.Parts.{PartOf}
 use Rattle.nl_io.specs.Sources.{Supply}
-use Rattle.readers.specs.Sources.{Language, Moves}
+use Rattle.nl_bytes.specs.Tokens.{Language, Moves}
 use Rattle.readers.specs.Readers.{Reader, reading, stream, room}
 
 -- The rest of a part reads now as the whole does from the start.

@@ -10,7 +10,7 @@ use Rattle.nl_base.specs.declared.fault.ReadError.TheVariants as errors
 use Rattle.nl_bytes.specs.Bytes.{Window}
 use Rattle.readers.specs.Parts.{of_token, at_token, one, any, maybe}
 use Rattle.nl_io.specs.Sources.{Supply}
-use Rattle.readers.specs.Sources.{Ahead, Language, IsNear}
+use Rattle.nl_bytes.specs.Tokens.{Ahead, Language, IsNear}
 use Rattle.readers.specs.Readers.{Reader, Looks, TakesNext, result_of, reading, then_left, stream, fault_at, room}
 use Rattle.readers.proofs.Moving.{reader, near_text, room_ahead}
 use Rattle.readers.proofs.Taking.{taken_ahead}

@@ -8,7 +8,7 @@ use Rattle.nl_base.specs.declared.fault.ReadError.TheVariants as errors
 use Rattle.nl_bytes.specs.Bytes.{Window, Uses, given}
 use Rattle.nl_bytes.specs.declared.bytes.TheConstants.{LIMIT}
 use Rattle.nl_io.specs.Sources.{Supply}
-use Rattle.readers.specs.Sources.{Moves, excess, skip, IsNear, NearError}
+use Rattle.nl_bytes.specs.Tokens.{Moves, excess, skip, IsNear, NearError}
 use Rattle.readers.specs.Readers.{Reader, room}
 
 pub skip_skip : (a b c : ℕ) (bs : Option (List ℕ)) → a ≤ b → b ≤ c → skip c b (skip b a bs) ≡ skip c a bs

@@ -8,7 +8,7 @@ use Rattle.nl_base.specs.declared.fault.Reason.{Reason}
 use Rattle.nl_base.specs.declared.fault.ReadError.{ReadError}
 use Rattle.nl_base.specs.declared.fault.ReadError.TheVariants as errors
 use Rattle.readers.specs.Parts.{PartOf, of_token, one, any}
-use Rattle.readers.specs.Sources.{Ahead, Language}
+use Rattle.nl_bytes.specs.Tokens.{Ahead, Language}
 use Rattle.readers.specs.Readers.{Outcome, result_of, reading, then_left, on_result, on, said, judge_result, judge, fault_at, IsCause}
 use Rattle.readers.proofs.Moving.{skip_skip, skip_none, near_text, near_no_memory, room_context}
 

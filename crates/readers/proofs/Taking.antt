@@ -7,7 +7,7 @@ use Rattle.nl_base.specs.declared.fault.Reason.TheVariants.{EndOfInput}
 use Rattle.nl_bytes.specs.Bytes.{Window}
 use Rattle.readers.specs.Parts.{PartOf, any}
 use Rattle.nl_io.specs.Sources.{Supply}
-use Rattle.readers.specs.Sources.{Ahead, Language, ReadsToken, TellsKnown, tokens_ahead}
+use Rattle.nl_bytes.specs.Tokens.{Ahead, Language, ReadsToken, TellsKnown, tokens_ahead}
 use Rattle.readers.specs.Readers.{Reader, Calls, Reads, same, end_fault, stream, stream_of, behind, reading, then_left, IsCause}
 use Rattle.readers.proofs.Moving.{near_text, near_spent, room_ahead, room_token, reader, still}
 

@@ -15,7 +15,7 @@ use Rattle.nl_bytes.specs.Bytes.{Window, given}
 use Rattle.nl_bytes.specs.declared.bytes.TheConstants.{LIMIT}
 use Rattle.readers.specs.Parts.{PartOf}
 use Rattle.nl_io.specs.Sources.{Supply}
-use Rattle.readers.specs.Sources.{Ahead, Language, NearError, excess, skip, only_end}
+use Rattle.nl_bytes.specs.Tokens.{Ahead, Language, NearError, excess, skip, only_end}
 use Rattle.readers.specs.Readers.{Reader, ReadsWhole, Ends, stream, stream_of, reading, then_left, on, result_of, finish_error, fault_at, emptied, IsEnd, IsCause}
 use Rattle.readers.specs.Texts.{tokens_of, Comes, TakesTo, ReadsText}
 use Rattle.readers.proofs.Moving.{skip_skip}

@@ -1,4 +1,3 @@
 pub mod Parts
-pub mod Sources
 pub mod Readers
 pub mod Texts

@@ -16,7 +16,7 @@ use Rattle.nl_bytes.specs.Bytes.{Window}
 use Rattle.nl_bytes.specs.declared.bytes.TheConstants.{LIMIT}
 use Rattle.readers.specs.Parts.{PartOf, maybe, any}
 use Rattle.nl_io.specs.Sources.{Supply}
-use Rattle.readers.specs.Sources.{Ahead, Language, Moves, IsNear, NearError, tokens_ahead, follow, only_end}
+use Rattle.nl_bytes.specs.Tokens.{Ahead, Language, Moves, IsNear, NearError, tokens_ahead, follow, only_end}
 
 -- what a reader of parts is: its bytes, the token that it has looked at, the context, and whether an error has spent it
 pub record Reader (K X : Type 0) : Type 0 where

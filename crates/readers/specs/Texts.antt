@@ -10,7 +10,7 @@ use Rattle.nl_io.specs.Causes.{Rose}
 use Rattle.nl_bytes.specs.declared.bytes.TheConstants.{LIMIT}
 use Rattle.readers.specs.Parts.{PartOf}
 use Rattle.nl_io.specs.Sources.{Supply}
-use Rattle.readers.specs.Sources.{Ahead, Language, skip}
+use Rattle.nl_bytes.specs.Tokens.{Ahead, Language, skip}
 use Rattle.readers.specs.Readers.{fault_at}
 
 -- the tokens of a text

@@ -11,7 +11,7 @@ use Rattle.nl_bytes.specs.Bytes.{first}
 use Rattle.nl_bytes.specs.Classes.{is_verilog_string_byte}
 use Rattle.nl_bytes.specs.declared.bytes.TheConstants.{LIMIT}
 use Rattle.nl_bytes.proofs.Uses.{AllByRecursion-push}
-use Rattle.readers.specs.Sources.{Ahead, follow, only_end, no_token}
+use Rattle.nl_bytes.specs.Tokens.{Ahead, follow, only_end, no_token}
 use Rattle.vlog_values.specs.Values.{IsString}
 use Rattle.vlog_tokens.specs.declared.token.VFound.{VFound}
 use Rattle.vlog_tokens.specs.declared.token.VToken.TheVariants as token

@@ -1,7 +1,7 @@
 -- What stands behind a brace.
 use Rattle.std.proofs.Common.{◌≡◌, ◌<◌, ◌-◌, ℕ, zero, suc, Bool, Option, refl, arith}
 use Rattle.grammar.specs.Part.{sequence}
-use Rattle.readers.specs.Sources.{Ahead}
+use Rattle.nl_bytes.specs.Tokens.{Ahead}
 use Rattle.readers.specs.Readers.{reading}
 use Rattle.readers.proofs.Reading.{sequences}
 use Rattle.vlog_tokens.specs.declared.token.VFound.{VFound}

@@ -6,7 +6,7 @@ use Rattle.nl_base.specs.declared.fault.Reason.{Reason}
 use Rattle.nl_base.specs.declared.fault.ReadError.{ReadError}
 use Rattle.nl_base.specs.declared.memory.NoMemory.{NoMemory}
 use Rattle.nl_io.specs.Sources.{Supply}
-use Rattle.readers.specs.Sources.{IsNear}
+use Rattle.nl_bytes.specs.Tokens.{IsNear}
 use Rattle.readers.specs.Readers.{Reader, Ends, stream, reading, looking, then_left, fault_at}
 use Rattle.readers.proofs.Moving.{near_text, near_no_memory}
 use Rattle.readers.proofs.Reading.{no_memory}

@@ -6,7 +6,7 @@ use Rattle.grammar.specs.Part.{takes, refuses, leaves}
 use Rattle.nl_base.specs.declared.fault.Reason.{Reason}
 use Rattle.nl_base.specs.declared.fault.ReadError.{ReadError}
 use Rattle.nl_io.specs.Sources.{Supply}
-use Rattle.readers.specs.Sources.{IsNear}
+use Rattle.nl_bytes.specs.Tokens.{IsNear}
 use Rattle.readers.specs.Readers.{Reader, TakesNext, same}
 use Rattle.readers.proofs.Maybes.{none_at_end, none_at_token, none_by_error, some_at_token, refused_at_token}
 use Rattle.vlog_tokens.specs.declared.token.VFound.{VFound}

@@ -9,7 +9,7 @@ use Rattle.nl_base.specs.declared.fault.Reason.{Reason}
 use Rattle.nl_bytes.specs.Bytes.{Window}
 use Rattle.readers.specs.Parts.{of_token, at_token, any, one, maybe}
 use Rattle.nl_io.specs.Sources.{Supply}
-use Rattle.readers.specs.Sources.{Ahead, Language, IsNear}
+use Rattle.nl_bytes.specs.Tokens.{Ahead, Language, IsNear}
 use Rattle.readers.specs.Readers.{Reader, Reads, TakesNext, same, result_of, reading, then_left, stream}
 use Rattle.readers.proofs.Choices.{took}
 use Rattle.readers.proofs.Looking.{ok_first}

@@ -8,7 +8,7 @@ use Rattle.nl_base.specs.declared.memory.NoMemory.{NoMemory}
 use Rattle.grammar.specs.Part.{takes, refuses, leaves}
 use Rattle.grammar.specs.Part as part
 use Rattle.nl_io.specs.Sources.{Supply}
-use Rattle.readers.specs.Sources.{IsNear}
+use Rattle.nl_bytes.specs.Tokens.{IsNear}
 use Rattle.readers.specs.Readers.{Reader, Looks, spoilt}
 use Rattle.vlog_tokens.specs.Language.{vlog}
 use Rattle.vlog_tokens.specs.Held as tokens

@@ -1,7 +1,7 @@
 ghost use Rattle.std.specs.Prelude.{◌≡◌, ◌<◌, ◌≤◌, ℕ, length, None, Some, IfOk, IfSome, IsSome, IsNone, IsTrue, IsFalse, option_map};
 ghost use Rattle.grammar.specs.Whole.{proper};
 ghost use Rattle.readers.specs.Parts.{any};
-ghost use Rattle.readers.specs.Sources.{IsNear};
+ghost use Rattle.nl_bytes.specs.Tokens.{IsNear};
 ghost use Rattle.readers.specs.Readers.{same, fault_at, spoilt, Reads, Looks, Ends, Adds};
 ghost use Rattle.vlog_tokens.specs.Keywords.{is_keyword};
 ghost use Rattle.vlog_tokens.specs.Language.{vlog};
@@ -32,7 +32,7 @@ impl Model for VCursor {
     ghost use Rattle.std.specs.Prelude.{◌≡◌, None, IsTrue, IfSome};
     ghost use Rattle.vlog_tokens.specs.declared.token.VFound.{VFound};
     ghost use Rattle.vlog_tokens.specs.Proper.{IsProper};
-    ghost use Rattle.readers.specs.Sources.{IsNear};
+    ghost use Rattle.nl_bytes.specs.Tokens.{IsNear};
     ghost use Rattle.readers.specs.Readers.{Reader};
     ghost use Rattle.vlog_exprs.specs.Language.{NoContext};
 

@@ -11,7 +11,7 @@ use Rattle.nl_base.specs.declared.place.Place.{Place}
 use Rattle.nl_base.specs.Place.{place_after, place_at_start}
 use Rattle.nl_bytes.specs.Bytes.{first}
 use Rattle.nl_bytes.specs.Classes.{is_verilog_space}
-use Rattle.readers.specs.Sources.{Ahead}
+use Rattle.nl_bytes.specs.Tokens.{Ahead}
 use Rattle.vlog_values.specs.declared.literal.Base.{Base}
 use Rattle.vlog_values.specs.declared.literal.Base.TheVariants.{Decimal}
 use Rattle.vlog_tokens.specs.declared.item.Item.{Item}

@@ -19,7 +19,7 @@ use Rattle.nl_base.specs.declared.place.Place.{Place}
 use Rattle.nl_base.specs.Place.{place_at_start, place_past}
 use Rattle.readers.specs.Parts.{PartOf}
 use Rattle.readers.specs.Readers.{fault_at}
-use Rattle.readers.specs.Sources.{Ahead, only_end}
+use Rattle.nl_bytes.specs.Tokens.{Ahead, only_end}
 use Rattle.vlog_tokens.specs.declared.token.VFound.{VFound}
 use Rattle.vlog_tokens.specs.declared.token.VToken.{VToken}
 use Rattle.vlog_tokens.specs.Language.{vlog, tokens_from, all_tokens}

@@ -10,7 +10,7 @@ use Rattle.nl_base.specs.Place.{place_after, place_past}
 use Rattle.nl_base.proofs.Places.{place_past-append}
 use Rattle.nl_bytes.specs.Bytes.{first}
 use Rattle.nl_bytes.specs.Classes.{is_line_byte}
-use Rattle.readers.specs.Sources.{Ahead, follow}
+use Rattle.nl_bytes.specs.Tokens.{Ahead, follow}
 use Rattle.vlog_tokens.specs.declared.item.Item.{Item}
 use Rattle.vlog_tokens.specs.declared.item.Item.TheVariants.{Blank, Line, Token}
 use Rattle.vlog_tokens.specs.declared.token.VFound.{VFound}

@@ -5,7 +5,7 @@ use Rattle.std.specs.List.{AllByRecursion}
 use Rattle.nl_io.specs.Sources.{Supply}
 use Rattle.nl_bytes.proofs.Uses.{AllByRecursion-push}
 use Rattle.readers.specs.Parts.{PartOf}
-use Rattle.readers.specs.Sources.{Language}
+use Rattle.nl_bytes.specs.Tokens.{Language}
 use Rattle.readers.specs.Readers.{Reader, Adds, room}
 use Rattle.readers.proofs.Loops.{Goes, Collects}
 use Rattle.vlog_values.specs.Values.{AreSome}

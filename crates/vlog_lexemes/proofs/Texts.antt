@@ -9,7 +9,7 @@ use Rattle.nl_base.specs.declared.fault.Reason.{Reason}
 use Rattle.nl_base.specs.declared.fault.TextFault.{TextFault}
 use Rattle.nl_base.specs.Place.{place_after, place_past}
 use Rattle.nl_base.proofs.Places.{place_past-append}
-use Rattle.readers.specs.Sources.{Ahead, follow, only_end, no_token}
+use Rattle.nl_bytes.specs.Tokens.{Ahead, follow, only_end, no_token}
 use Rattle.vlog_tokens.specs.declared.item.Item.{Item}
 use Rattle.vlog_tokens.specs.declared.item.Item.TheVariants.{Token}
 use Rattle.vlog_tokens.specs.declared.token.VFound.{VFound}

@@ -10,7 +10,7 @@ use Rattle.nl_base.specs.declared.place.Place.{Place}
 use Rattle.nl_base.specs.Place.{place_after, place_past}
 use Rattle.nl_bytes.specs.Bytes.{first}
 use Rattle.nl_bytes.specs.Classes.{is_verilog_space, is_name_byte, is_number_byte, is_based_byte, is_word_byte}
-use Rattle.readers.specs.Sources.{Ahead, follow}
+use Rattle.nl_bytes.specs.Tokens.{Ahead, follow}
 use Rattle.vlog_tokens.specs.declared.item.Item.{Item}
 use Rattle.vlog_tokens.specs.declared.item.Item.TheVariants.{Blank, Line, Token}
 use Rattle.vlog_tokens.specs.declared.phase.Phase.{Phase}

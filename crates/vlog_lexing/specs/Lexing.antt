@@ -2,7 +2,7 @@
 use Rattle.std.specs.Prelude.{◌≡◌, ℕ, List, [], ◌∷◌, ◌++◌, map}
 use Rattle.grammar.specs.Whole.{Done, proper, end}
 use Rattle.nl_base.specs.declared.place.Place.{Place}
-use Rattle.readers.specs.Sources.{Ahead}
+use Rattle.nl_bytes.specs.Tokens.{Ahead}
 use Rattle.vlog_tokens.specs.declared.token.VFound.{VFound}
 use Rattle.vlog_tokens.specs.declared.token.VToken.{VToken}
 use Rattle.vlog_tokens.specs.Language.{tokens_from}

@@ -4,7 +4,7 @@ use Rattle.grammar.specs.Whole.{Terminal, proper, end, Finish, Done, Over}
 use Rattle.nl_base.specs.declared.fault.TextFault.{TextFault}
 use Rattle.nl_base.specs.declared.place.Place.{Place}
 use Rattle.nl_bytes.specs.declared.bytes.TheConstants.{LIMIT}
-use Rattle.readers.specs.Sources.{follow, only_end, no_token}
+use Rattle.nl_bytes.specs.Tokens.{follow, only_end, no_token}
 use Rattle.vlog_tokens.specs.declared.token.VFound.{VFound}
 use Rattle.vlog_tokens.specs.Language.{limited_from}
 use Rattle.vlog_limits.specs.Rises.{Rises}

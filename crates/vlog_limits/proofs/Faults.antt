@@ -9,7 +9,7 @@ use Rattle.nl_base.specs.declared.fault.Reason.{Reason}
 use Rattle.nl_bytes.specs.declared.bytes.TheConstants.{LIMIT}
 use Rattle.readers.specs.Parts.{PartOf}
 use Rattle.readers.specs.Readers.{fault_at}
-use Rattle.readers.specs.Sources.{Ahead, follow, only_end, no_token}
+use Rattle.nl_bytes.specs.Tokens.{Ahead, follow, only_end, no_token}
 use Rattle.vlog_tokens.specs.declared.token.VFound.{VFound}
 use Rattle.vlog_tokens.specs.Language.{vlog, limited, limited_from, limited_finish, stream_from, all_tokens, vtokens}
 use Rattle.vlog_limits.specs.Rises.{Rises}

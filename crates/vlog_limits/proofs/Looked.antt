@@ -4,7 +4,7 @@ use Rattle.grammar.specs.Whole.{IsText}
 use Rattle.nl_base.specs.Place.{place_at_start}
 use Rattle.nl_bytes.specs.declared.bytes.TheConstants.{LIMIT}
 use Rattle.readers.specs.Parts.{PartOf}
-use Rattle.readers.specs.Sources.{Ahead}
+use Rattle.nl_bytes.specs.Tokens.{Ahead}
 use Rattle.vlog_tokens.specs.declared.token.VFound.{VFound}
 use Rattle.vlog_tokens.specs.Language.{all_tokens, vtokens}
 use Rattle.vlog_bounds.proofs.TokenCount.{read_within}

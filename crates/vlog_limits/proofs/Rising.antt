@@ -5,7 +5,7 @@ use Rattle.nl_base.specs.declared.place.Place.{Place}
 use Rattle.nl_base.specs.Place.{place_after, place_at_start}
 use Rattle.nl_bytes.specs.Bytes.{first}
 use Rattle.nl_bytes.specs.Classes.{is_verilog_string_byte}
-use Rattle.readers.specs.Sources.{Ahead}
+use Rattle.nl_bytes.specs.Tokens.{Ahead}
 use Rattle.vlog_tokens.specs.declared.item.Item.{Item}
 use Rattle.vlog_tokens.specs.declared.item.Item.TheVariants.{Blank, Line, Token}
 use Rattle.vlog_tokens.specs.declared.token.VFound.{VFound}

@@ -11,7 +11,7 @@ use Rattle.nl_base.specs.declared.place.Place.{Place}
 use Rattle.nl_base.specs.declared.fault.Reason.{Reason}
 use Rattle.nl_base.specs.declared.fault.ReadError.{ReadError}
 use Rattle.readers.specs.Parts.{at_token, one, if_next, while_next}
-use Rattle.readers.specs.Sources.{Ahead}
+use Rattle.nl_bytes.specs.Tokens.{Ahead}
 use Rattle.readers.specs.Readers.{reading, result_of, looking, IsNext, FirstFits, IsCause}
 use Rattle.readers.proofs.Choices.{Misses, while_next_is_no, cause_while}
 use Rattle.readers.proofs.Reading.{sequences}

@@ -8,7 +8,7 @@ use Rattle.grammar.proofs.Loops.{read_loop}
 use Rattle.nl_base.specs.Case.{same_bytes}
 use Rattle.nl_base.specs.declared.fault.ReadError.{ReadError}
 use Rattle.readers.specs.Parts.{at_token, one, if_next, while_next}
-use Rattle.readers.specs.Sources.{Ahead}
+use Rattle.nl_bytes.specs.Tokens.{Ahead}
 use Rattle.readers.specs.Readers.{reading, result_of, looking, IsNext, FirstFits, IsCause}
 use Rattle.readers.proofs.Choices.{Misses, while_next_is_no, cause_while}
 use Rattle.readers.proofs.Reading.{sequences}

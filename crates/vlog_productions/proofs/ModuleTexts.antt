@@ -5,7 +5,7 @@ use Rattle.grammar.specs.Part.{sequence}
 use Rattle.grammar.specs.Texts.{Spells}
 use Rattle.grammar.specs.Whole.{Terminal, proper, end, whole, the_end, end_of, IsText}
 use Rattle.nl_base.specs.declared.place.Place.{Place}
-use Rattle.readers.specs.Sources.{Ahead}
+use Rattle.nl_bytes.specs.Tokens.{Ahead}
 use Rattle.vlog_tokens.specs.declared.token.VFound.{VFound}
 use Rattle.vlog_exprs.specs.Reasons.{trailing}
 use Rattle.nl_base.specs.Case.{same_bytes}

@@ -3,7 +3,7 @@ ghost use Rattle.std.specs.Prelude.{◌↔◌, Bool, true, []};
 ghost use Rattle.grammar.specs.Part.{sequence};
 ghost use Rattle.grammar.specs.Texts.{Spells};
 ghost use Rattle.grammar.specs.Whole.{whole, IsText};
-ghost use Rattle.readers.specs.Sources.{Ahead};
+ghost use Rattle.nl_bytes.specs.Tokens.{Ahead};
 ghost use Rattle.vlog_tokens.specs.declared.token.VFound.{VFound};
 ghost use Rattle.vlog_values.specs.declared.module.Header.TheVariants as headers;
 ghost use Rattle.vlog_values.specs.declared.module.VlogFile.{VlogFile};

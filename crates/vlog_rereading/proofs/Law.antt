@@ -5,7 +5,7 @@ use Rattle.grammar.specs.Whole.{Terminal, proper, end, whole, the_end, IsText}
 use Rattle.nl_base.specs.declared.place.Place.{Place}
 use Rattle.nl_base.specs.Place.{place_at_start}
 use Rattle.nl_bytes.specs.declared.bytes.TheConstants.{LIMIT}
-use Rattle.readers.specs.Sources.{Ahead}
+use Rattle.nl_bytes.specs.Tokens.{Ahead}
 use Rattle.vlog_values.specs.declared.module.VlogFile.{VlogFile}
 use Rattle.vlog_values.specs.Values.{IsVlogValue}
 use Rattle.vlog_tokens.specs.declared.token.VFound.{VFound}

@@ -20,7 +20,7 @@ use Rattle.nl_bytes.specs.Bytes.{Window, Uses, TakesWhenUsed, IsAhead, input, gi
 use Rattle.nl_bytes.proofs.Uses.{Uses-front, Uses-none, Uses-trans}
 use Rattle.nl_bytes.proofs.Known.{Uses-known, IsAhead-known}
 use Rattle.nl_bytes.proofs.Fronts.{front-all}
-use Rattle.readers.specs.Sources.{Ahead, TellsKnown, Shortens}
+use Rattle.nl_bytes.specs.Tokens.{Ahead, TellsKnown, Shortens}
 use Rattle.vlog_tokens.specs.declared.item.Item.{Item}
 use Rattle.vlog_tokens.specs.declared.item.Item.TheVariants.{Token}
 use Rattle.vlog_tokens.specs.declared.item.Spot.{Spot}

@@ -14,7 +14,7 @@ use Rattle.nl_bytes.specs.Bytes.{Window, Skips, given}
 use Rattle.nl_bytes.proofs.Uses.{Uses-front, Uses-none}
 use Rattle.nl_bytes.proofs.Fronts.{front-all}
 use Rattle.nl_io.specs.Sources.{Supply}
-use Rattle.readers.specs.Sources.{ReadsToken}
+use Rattle.nl_bytes.specs.Tokens.{ReadsToken}
 use Rattle.vlog_tokens.specs.declared.item.Item.TheVariants.{Token}
 use Rattle.vlog_tokens.specs.declared.item.Spot.{Spot}
 use Rattle.vlog_tokens.specs.declared.start.Start.TheVariants.{Mark}

@@ -9,7 +9,7 @@ use Rattle.nl_bytes.specs.declared.class.Class.TheVariants.{NameByte}
 use Rattle.nl_bytes.specs.Classes.{AreIn, is_verilog_space}
 use Rattle.nl_bytes.specs.Bytes.{Window, given}
 use Rattle.nl_io.specs.Sources.{Supply}
-use Rattle.readers.specs.Sources.{ReadsToken}
+use Rattle.nl_bytes.specs.Tokens.{ReadsToken}
 use Rattle.vlog_values.specs.Values.{IsName}
 use Rattle.vlog_tokens.specs.declared.item.Item.TheVariants.{Token}
 use Rattle.vlog_tokens.specs.declared.token.VFound.{VFound}

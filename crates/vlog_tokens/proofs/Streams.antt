@@ -21,7 +21,7 @@ use Rattle.nl_bytes.specs.Bytes.{Window, Uses, Skips, IsAhead, input, first, giv
 use Rattle.nl_io.specs.Sources.{left_past}
 use Rattle.nl_bytes.proofs.Uses.{Uses-trans, Uses-none}
 use Rattle.nl_bytes.proofs.Known.{Uses-known, IsAhead-known}
-use Rattle.readers.specs.Sources.{Ahead, follow, only_end, no_token, Tells, TellsKnown, Shortens}
+use Rattle.nl_bytes.specs.Tokens.{Ahead, follow, only_end, no_token, Tells, TellsKnown, Shortens}
 use Rattle.vlog_tokens.specs.declared.item.Item.{Item}
 use Rattle.vlog_tokens.specs.declared.item.Item.TheVariants.{Blank, Line, Token}
 use Rattle.vlog_tokens.specs.declared.item.Spot.{Spot}

@@ -7,7 +7,7 @@ use Rattle.nl_bytes.specs.declared.bytes.TheConstants.{LIMIT}
 use Rattle.nl_bytes.specs.declared.class.Class.TheVariants.{LineByte}
 use Rattle.nl_bytes.specs.declared.halt.Halt.{Halt}
 use Rattle.nl_bytes.specs.Bytes.{Window, Uses, Skips, input, given}
-use Rattle.readers.specs.Sources.{Ahead, TellsKnown, Shortens}
+use Rattle.nl_bytes.specs.Tokens.{Ahead, TellsKnown, Shortens}
 use Rattle.std.specs.Io.KnownBytes.{IsAtEnd}
 use Rattle.vlog_tokens.specs.declared.item.Item.{Item}
 use Rattle.vlog_tokens.specs.declared.item.Item.TheVariants.{Blank, Line, Token}

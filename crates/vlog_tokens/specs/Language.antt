@@ -8,7 +8,7 @@ use Rattle.nl_base.specs.Place.{place_after, place_at_start}
 use Rattle.nl_bytes.specs.Classes.{is_line_byte}
 use Rattle.nl_bytes.specs.Bytes.{Window}
 use Rattle.nl_bytes.specs.declared.bytes.TheConstants.{LIMIT}
-use Rattle.readers.specs.Sources.{Ahead, Language, follow, only_end, no_token}
+use Rattle.nl_bytes.specs.Tokens.{Ahead, Language, follow, only_end, no_token}
 use Rattle.vlog_tokens.specs.declared.item.Item.{Item}
 use Rattle.vlog_tokens.specs.declared.item.Item.TheVariants.{Blank, Line, Token}
 use Rattle.vlog_tokens.specs.declared.token.VFound.{VFound}

@@ -31,7 +31,7 @@ impl Model for VTokens {
 
 impl VTokens {
     ghost use Rattle.nl_io.specs.Sources.{Supply};
-    ghost use Rattle.readers.specs.Sources.{ReadsToken};
+    ghost use Rattle.nl_bytes.specs.Tokens.{ReadsToken};
     ghost use Rattle.vlog_tokens.specs.declared.token.VToken.TheVariants.{Punct};
     ghost use Rattle.vlog_tokens.specs.Language.{vlog, fresh};
     ghost use Rattle.vlog_tokens.specs.Held.{held_mark, past_mark, held_word, past_word};

@@ -3,7 +3,7 @@ use Rattle.grammar.specs.Part.{sequence}
 use Rattle.nl_base.specs.declared.fault.ReadError.{ReadError}
 use Rattle.readers.specs.Parts.{PartOf}
 use Rattle.nl_io.specs.Sources.{Supply}
-use Rattle.readers.specs.Sources.{Language}
+use Rattle.nl_bytes.specs.Tokens.{Language}
 use Rattle.readers.specs.Readers.{Reader, ReadsMaybe, same}
 use Rattle.readers.proofs.Chain.{reads_then, reads_failed, maybe_reads}
 use Rattle.readers.proofs.Reading.{sequences}
