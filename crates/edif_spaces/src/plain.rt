@@ -1,5 +1,5 @@
 // Identifiers for few names of which none begins with the stem.
-ghost use Rattle.std.specs.Prelude.{◌≡◌, ℕ, ◌<◌, ◌^◌, List, [], false, true, length, map, IfOk};
+ghost use Rattle.std.specs.Prelude.{◌≡◌, ℕ, ◌+◌, ◌<◌, ◌≤◌, ◌^◌, List, false, true, length, map, IfOk};
 ghost use Rattle.std.specs.List.{list_any};
 ghost use Rattle.net_bits.specs.Names.{numbered as numbered_name};
 ghost use Rattle.edif_meanings.specs.Apart.{is_alike_any};
@@ -55,8 +55,42 @@ fn is_own(name: &[u8], idents: &[Ident]) -> bool
     can_be_own(name) && !is_taken(name, idents)
 }
 
-/// The stem followed by a number.
-fn numbered_text(alloc: Global, number: u64) -> Result<Text, NoMemory>
+/// The digit of a number below 10.
+#[inline]
+fn digit_of(number: u64) -> u8
+    requires { number < 10 }
+    ensures { result ≡ 48 + number }
+{
+    b'0' + number as u8
+}
+
+/// The stem followed by a number of one digit.
+#[inline]
+fn one_digit(alloc: Global, number: u64) -> Result<Text, NoMemory>
+    requires { number < 10 }
+    ensures { IfOk result (λ text. text ≡ numbered_name stem_text number) }
+{
+    let ones = digit_of(number);
+    let text = Text::copy(alloc, &[b'i', b'd', ones])?;
+    Ok(text)
+}
+
+/// The stem followed by a number of two digits.
+#[inline]
+fn two_digits(alloc: Global, number: u64) -> Result<Text, NoMemory>
+    requires more { 10 ≤ number }
+    requires fewer { number < 100 }
+    ensures { IfOk result (λ text. text ≡ numbered_name stem_text number) }
+{
+    let tens = digit_of(number / 10);
+    let ones = digit_of(number % 10);
+    let text = Text::copy(alloc, &[b'i', b'd', tens, ones])?;
+    Ok(text)
+}
+
+/// The stem followed by a number of any digits.
+#[inline(never)]
+fn more_digits(alloc: Global, number: u64) -> Result<Text, NoMemory>
     ensures { IfOk result (λ text. text ≡ numbered_name stem_text number) }
 {
     let mut digits = [0; 20];
@@ -68,6 +102,19 @@ fn numbered_text(alloc: Global, number: u64) -> Result<Text, NoMemory>
     Ok(text)
 }
 
+/// The stem followed by a number. Most numbers have one or two digits.
+fn numbered_text(alloc: Global, number: u64) -> Result<Text, NoMemory>
+    ensures { IfOk result (λ text. text ≡ numbered_name stem_text number) }
+{
+    if number < 10 {
+        return one_digit(alloc, number);
+    }
+    if number < 100 {
+        return two_digits(alloc, number);
+    }
+    more_digits(alloc, number)
+}
+
 /// The stem followed by a number, as an identifier.
 fn numbered(alloc: Global, number: u64) -> Result<Ident, NoMemory>
     ensures { IfOk result (λ ident. ident ≡ numbered_name stem_text number) }
@@ -77,6 +124,7 @@ fn numbered(alloc: Global, number: u64) -> Result<Ident, NoMemory>
 }
 
 /// The name itself as an identifier.
+#[inline(always)]
 fn own(alloc: Global, name: &[u8]) -> Result<Ident, NoMemory>
     requires { can_be_own_text name.now ≡ true }
     ensures { IfOk result (λ ident. ident ≡ name.now) }
@@ -86,6 +134,7 @@ fn own(alloc: Global, name: &[u8]) -> Result<Ident, NoMemory>
 }
 
 /// The name itself, and the number that is free as before.
+#[inline(always)]
 fn plain_own(alloc: Global, from: u64, name: &[u8]) -> Result<(Ident, u64), NoMemory>
     requires can { can_be_own_text name.now ≡ true }
     requires stem { has_stem_text name.now ≡ false }
@@ -108,6 +157,7 @@ fn plain_made(alloc: Global, from: u64, name: &[u8]) -> Result<(Ident, u64), NoM
 
 /// The identifier of a name behind others of which none begins with the stem, and the least number that is free then; it is told whether the
 /// name is its own identifier.
+#[inline(always)]
 pub fn plain_ident(
     alloc: Global,
     is_own: bool,
@@ -126,27 +176,19 @@ pub fn plain_ident(
     plain_made(alloc, from, name)
 }
 
-/// A list with room for so many identifiers.
-fn room_for(alloc: Global, count: usize) -> Result<Seq<Ident>, NoMemory>
-    ensures { IfOk result (λ idents. idents ≡ []) }
-{
-    let room = Vec::with_capacity(alloc, count)?;
-    Ok(Seq::of(room))
-}
-
 /// Identifiers for few names of one name space, none of which begins with the stem.
 pub(crate) fn plain_idents(alloc: Global, names: &[&[u8]]) -> Result<Seq<Ident>, NoMemory>
     requires stem { list_any has_stem_text (map (λ name. name.now) names.now) ≡ false }
     requires few { length names.now < 2 ^ 32 }
     ensures { IfOk result (AreIdents (map (λ name. name.now) names.now)) }
 {
-    let mut idents = room_for(alloc, names.len())?;
+    let mut idents = Vec::with_capacity(alloc, names.len())?;
     let mut from = 0;
     for name in names {
-        let is_own = is_own(name, idents.items());
+        let is_own = is_own(name, idents.as_slice());
         let (ident, next) = plain_ident(alloc, is_own, from, name)?;
         idents.push(ident)?;
         from = next;
     }
-    Ok(idents)
+    Ok(Seq::of(idents))
 }

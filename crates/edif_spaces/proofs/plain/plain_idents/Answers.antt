@@ -1,13 +1,14 @@
 use Rattle.std.proofs.Common.{arith, [], get_or, refl, sym, subst, ◌∙◌}
 use Rattle.edif_spaces.specs.Plain.{IsPlain}
-use Rattle.edif_spaces.proofs.IdentLaws.{AreFirst, first_all, first_more}
+use Rattle.edif_spaces.specs.Spaces.{AreIdents}
+use Rattle.edif_spaces.proofs.IdentLaws.{AreFirst, first_all, first_more, seen}
 use Rattle.edif_spaces.proofs.PlainLaws.{and_left, first_none, none_stemmed, plain_none, told_own}
 use Rattle.edif_spaces.proofs.plain.plain_idents.Goals as goal
 
 pub loop-name-init : goal.loop-name-init
 loop-name-init c = record {
-  first = subst (AreFirst c.args.names.now 0) (sym c.in_ok-idents.ensures) (first_none c.args.names.now);
-  plain = subst (λ l. IsPlain l 0) (sym c.in_ok-idents.ensures) plain_none;
+  first = subst (AreFirst c.args.names.now 0) (sym c.in_ok-idents.ensures.items) (first_none c.args.names.now);
+  plain = subst (λ l. IsPlain l 0) (sym c.in_ok-idents.ensures.items) plain_none;
   few = omega arith;
 }
 
@@ -21,11 +22,11 @@ pub plain_ident-requires-clause-few : goal.plain_ident-requires-clause-few
 plain_ident-requires-clause-few c = let within = c.loop-name-test.true in let step = c.loop-name.invariant.few in omega (arith, c.requires.few, within, step)
 
 pub loop-name-preserved : goal.loop-name-preserved
-loop-name-preserved c = let name = (get_or c.args.names.now c.loop-name.name-index (record { ref_ptr = (0, 0); now = [] })).now in let found = c.in_ok-ident.ensures c.loop-name.idents (told_own c.loop-name.idents c.items.result.now name c.is_own-is_own.result c.items.ensures c.is_own-is_own.ensures) c.loop-name.invariant.plain in let pushed = c.in_ok-push.ensures.added in record {
+loop-name-preserved c = let name = (get_or c.args.names.now c.loop-name.name-index (record { ref_ptr = (0, 0); now = [] })).now in let found = c.in_ok-ident.ensures c.loop-name.idents.items (told_own c.loop-name.idents.items c.as_slice.result.now name c.is_own-is_own.result c.as_slice.ensures.value c.is_own-is_own.ensures) c.loop-name.invariant.plain in let pushed = c.in_ok-push.ensures.items in record {
   first = first_more c.args.names.now c.loop-name.name-index _ _ _ _ _ c.loop-name-test.true refl c.loop-name.invariant.first found.fits found.new pushed;
   plain = subst (λ l. IsPlain l c.in_ok-ident.next) (sym pushed) found.plain;
   few = let before = c.loop-name.invariant.few in let step = found.step in omega (arith, before, step);
 }
 
 pub returns : goal.returns
-returns c = first_all c.args.names.now c.loop-name.name-index _ c.loop-name-test.false c.loop-name.invariant.first
+returns c = subst (AreIdents (seen c.args.names.now)) (sym c.of.ensures) (first_all c.args.names.now c.loop-name.name-index _ c.loop-name-test.false c.loop-name.invariant.first)

@@ -5,7 +5,7 @@ use Rattle.edif_spaces.proofs.plain.plain_idents.Given as goal
 
 abbrev pub invariant-loop-name : goal.invariant-loop-name
 invariant-loop-name l = record {
-  first : AreFirst l.names l.name-index l.idents;
-  plain : IsPlain l.idents l.from;
+  first : AreFirst l.names l.name-index l.idents.items;
+  plain : IsPlain l.idents.items l.from;
   few : l.from ≤ l.name-index;
 }
