@@ -6,6 +6,7 @@ pub mod Expressions
 pub mod Glances
 pub mod HeldMarks
 pub mod HeldWords
+pub mod HeldPlains
 pub mod Known
 pub mod Lists
 pub mod Live

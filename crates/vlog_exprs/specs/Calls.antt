@@ -12,6 +12,8 @@ use Rattle.nl_bytes.specs.Tokens.{IsNear}
 use Rattle.readers.specs.Readers.{Reader, Looks, spoilt}
 use Rattle.vlog_tokens.specs.Language.{vlog}
 use Rattle.vlog_tokens.specs.Held as tokens
+use Rattle.vlog_tokens.specs.Plains as plains
+use Rattle.vlog_tokens.specs.declared.plain.Plain.{Plain}
 use Rattle.vlog_exprs.specs.Language.{NoContext}
 use Rattle.vlog_tokens.specs.declared.token.VFound.{VFound}
 use Rattle.vlog_tokens.specs.declared.token.VToken.{VToken}
@@ -44,6 +46,15 @@ held_word r = if is_unlooked r then tokens.held_word r.window else []
 -- the reader behind that word
 abbrev pub past_word : Reader NoContext VFound → Reader NoContext VFound
 past_word r = record { window = tokens.past_word r.window; ahead = r.ahead; context = r.context; spent = r.spent }
+
+-- the number or the bracket of attributes that is next of a reader that has looked at no token, where the bytes that are held show it
+-- and its end
+unfoldable pub held_plain : Reader NoContext VFound → Option Plain
+held_plain r = if is_unlooked r then plains.held_plain r.window else None
+
+-- the reader behind that token
+abbrev pub past_plain : Reader NoContext VFound → Reader NoContext VFound
+past_plain r = record { window = plains.past_plain r.window; ahead = r.ahead; context = r.context; spent = r.spent }
 
 -- The name that is held was taken, or nothing was taken where no name is held, or there was no memory for the name.
 abbrev pub TakesHeld : Result (Option (List ℕ)) ReadError → Reader NoContext VFound → Reader NoContext VFound → Type 0

@@ -13,7 +13,7 @@ use crate::reasons::{at_group, group_end_of};
 use nl_base::{Int, ReadError, Seq};
 use nl_io::Source;
 use std::alloc::Global;
-use vlog_tokens::VFound;
+use vlog_tokens::{Plain, VFound};
 use vlog_values::{Attr, Const};
 
 /// Takes `(*`, where it is next, and answers whether it was.
@@ -32,6 +32,28 @@ fn takes_group<S: Source>(
     if let Some(_mark) = cursor.held_mark() {
         return Ok(false);
     }
+    if let Some(plain) = cursor.held_plain() {
+        return match plain {
+            Plain::AttrStart => {
+                cursor.take_plain();
+                Ok(true)
+            }
+            Plain::AttrStop => Ok(false),
+            Plain::Number(_) => Ok(false),
+        };
+    }
+    takes_group_token(alloc, cursor, source)
+}
+
+/// Looks at any token, and takes it where it is `(*`.
+#[inline(never)]
+fn takes_group_token<S: Source>(
+    alloc: Global,
+    cursor: &mut VCursor,
+    source: &mut S,
+) -> Result<bool, ReadError>
+    ensures { TakesNext vlog stands (λ _ x. say.at_group x.token) result cursor.old cursor.new (S.supply source.old) (S.supply source.new) }
+{
     let next = cursor.next_out(alloc, source)?;
     let Some(VFound { place, stop, token }) = next else {
         return Ok(false);
@@ -42,6 +64,24 @@ fn takes_group<S: Source>(
 
 /// Takes `*)`.
 fn take_group_end<S: Source>(
+    alloc: Global,
+    cursor: &mut VCursor,
+    source: &mut S,
+) -> Result<(), ReadError>
+    ensures { Reads vlog same group_end result cursor.old cursor.new (S.supply source.old) (S.supply source.new) }
+{
+    if let Some(plain) = cursor.held_plain() {
+        if let Plain::AttrStop = plain {
+            cursor.take_plain();
+            return Ok(());
+        }
+    }
+    take_group_end_token(alloc, cursor, source)
+}
+
+/// Takes any token, which has to be `*)`.
+#[inline(never)]
+fn take_group_end_token<S: Source>(
     alloc: Global,
     cursor: &mut VCursor,
     source: &mut S,

@@ -6,11 +6,11 @@ ghost use Rattle.vlog_values.specs.Values.{IsBound, IsRange, IsSelect};
 ghost use Rattle.vlog_exprs.specs.Grammar.{bound_number, bound, range_rest, range, maybe_range, select_rest, select};
 
 use crate::cursor::VCursor;
-use crate::reasons::bound_of;
+use crate::reasons::{bound_in, bound_of};
 use nl_base::{Range, ReadError};
 use nl_io::Source;
 use std::alloc::Global;
-use vlog_tokens::VFound;
+use vlog_tokens::{Plain, VFound};
 use vlog_values::Select;
 
 /// Reads the number of a bound.
@@ -27,9 +27,10 @@ fn read_bound_number<S: Source>(
     cursor.judged(place, stop, said)
 }
 
-/// Reads a bound, whose absolute value is at most 2^31-1.
+/// Reads a bound that may begin with `-`.
+#[inline(never)]
 #[tactic(auto, using(readers::proofs::Choices::choices), unfolding(crate::specs::Grammar::bound, crate::specs::Grammar::after))]
-pub fn read_bound<S: Source>(
+fn read_signed_bound<S: Source>(
     alloc: Global,
     cursor: &mut VCursor,
     source: &mut S,
@@ -43,6 +44,26 @@ pub fn read_bound<S: Source>(
     }
     let number = read_bound_number(alloc, cursor, source)?;
     Ok(number)
+}
+
+/// Reads a bound, whose absolute value is at most 2^31-1.
+pub fn read_bound<S: Source>(
+    alloc: Global,
+    cursor: &mut VCursor,
+    source: &mut S,
+) -> Result<i32, ReadError>
+    ensures reads { Reads vlog same bound result cursor.old cursor.new (S.supply source.old) (S.supply source.new) }
+    ensures bound { IfOk result (λ n. nat_abs n < 2 ^ 31) }
+{
+    if let Some(plain) = cursor.held_plain() {
+        if let Plain::Number(number) = plain {
+            if let Some(bound) = bound_in(number) {
+                cursor.take_plain();
+                return Ok(bound);
+            }
+        }
+    }
+    read_signed_bound(alloc, cursor, source)
 }
 
 /// Reads on behind the `[` of a range.

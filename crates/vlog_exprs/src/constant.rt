@@ -13,7 +13,7 @@ use crate::start::ConstStart;
 use nl_base::{Int, ReadError};
 use nl_io::Source;
 use std::alloc::Global;
-use vlog_tokens::VFound;
+use vlog_tokens::{Plain, VFound};
 use vlog_values::{Const, Literal};
 
 /// Takes the digits behind a number, where they are next. The number is then a size.
@@ -38,6 +38,25 @@ pub(crate) fn takes_digits<S: Source>(
 
 /// Takes the first token of a constant.
 fn take_const_start<S: Source>(
+    alloc: Global,
+    cursor: &mut VCursor,
+    source: &mut S,
+) -> Result<ConstStart, ReadError>
+    ensures reads { Reads vlog same const_start result cursor.old cursor.new (S.supply source.old) (S.supply source.new) }
+    ensures value { IfOk result IsConstStart }
+{
+    if let Some(plain) = cursor.held_plain() {
+        if let Plain::Number(number) = plain {
+            cursor.take_plain();
+            return Ok(ConstStart::Number(number));
+        }
+    }
+    take_const_token(alloc, cursor, source)
+}
+
+/// Takes any token, with which a constant has to begin.
+#[inline(never)]
+fn take_const_token<S: Source>(
     alloc: Global,
     cursor: &mut VCursor,
     source: &mut S,

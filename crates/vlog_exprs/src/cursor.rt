@@ -5,9 +5,10 @@ ghost use Rattle.nl_bytes.specs.Tokens.{IsNear};
 ghost use Rattle.readers.specs.Readers.{same, fault_at, spoilt, Reads, Looks, Ends, Adds};
 ghost use Rattle.vlog_tokens.specs.Keywords.{is_keyword};
 ghost use Rattle.vlog_tokens.specs.Language.{vlog};
+ghost use Rattle.vlog_tokens.specs.Plains.{plain_token};
 ghost use Rattle.vlog_tokens.specs.Proper.{IsProper};
 ghost use Rattle.vlog_values.specs.Values.{IsName};
-ghost use Rattle.vlog_exprs.specs.Calls.{is_unlooked, held_mark, past_mark, held_word, past_word, TakesHeld, answer, left_after, seen_answer, seen_left, IfLeaves, LooksOut};
+ghost use Rattle.vlog_exprs.specs.Calls.{is_unlooked, held_mark, past_mark, held_word, past_word, held_plain, past_plain, TakesHeld, answer, left_after, seen_answer, seen_left, IfLeaves, LooksOut};
 ghost use Rattle.vlog_exprs.specs.Reasons.{trailing};
 
 use crate::glance::Glance;
@@ -16,7 +17,7 @@ use nl_base::{NoMemory, Place, ReadError, Reason, Seq, Text, TextFault};
 use nl_io::Source;
 use std::alloc::Global;
 use std::marker::Model;
-use vlog_tokens::{VFound, VTokens, is_keyword};
+use vlog_tokens::{Plain, VFound, VTokens, is_keyword};
 
 /// Reads the parts of a text, one after another, with one token of look-ahead.
 ///
@@ -146,6 +147,32 @@ impl VCursor {
         };
         self.take_word(count);
         Ok(Some(text))
+    }
+
+    /// The number or the bracket of attributes that is next, where no token was looked at and the bytes that are held show it and its
+    /// end.
+    #[inline(always)]
+    #[tactic(auto, unfolding(crate::specs::Calls::held_plain))]
+    pub(crate) fn held_plain(&self) -> Option<Plain>
+        ensures plain { result ≡ held_plain self.now }
+        ensures held { length self.now.window.held ≤ 4096 }
+        ensures proper { IfSome result (λ plain. IsProper (plain_token plain)) }
+    {
+        // The buffer holds at most 4,096 bytes, as this call says.
+        let _here = self.tokens.here();
+        if self.is_unlooked() {
+            return self.tokens.held_plain();
+        }
+        None
+    }
+
+    /// Takes the number or the bracket of attributes that is next.
+    #[inline(always)]
+    pub(crate) fn take_plain(&mut self)
+        requires { (plain : Plain) × (held_plain self.old ≡ Some plain) }
+        ensures { self.new ≡ past_plain self.old }
+    {
+        self.tokens.take_plain()
     }
 
     /// Takes the token ahead, which is there.

@@ -1,6 +1,6 @@
 // What a token says at its place, or the reason for which it may not stand there, in the order of the definitions in specs/Reasons.antt. Only the
 // word of a symbol takes memory.
-ghost use Rattle.std.specs.Prelude.{◌≡◌, ◌<◌, ◌^◌, nat_abs, Err, IfOk};
+ghost use Rattle.std.specs.Prelude.{◌≡◌, ◌<◌, ◌^◌, nat_abs, Err, IfOk, if◌then◌else◌, IfSome, Some, None};
 ghost use Rattle.vlog_exprs.specs.Calls.{kept};
 ghost use Rattle.vlog_exprs.specs.Reasons as say;
 
@@ -37,19 +37,28 @@ pub fn refused<T: Drop>(alloc: Global, token: VToken) -> Said<T>
     Ok(Err(reason))
 }
 
+/// The bound that a number is, where it is one.
+pub fn bound_in(number: Int) -> Option<i32>
+    ensures bound { result ≡ (if say.is_bound number then Some number else None) }
+    ensures value { IfSome result (λ n. nat_abs n < 2 ^ 31) }
+{
+    let number = number.value();
+    if number < 0 || number > 2147483647 {
+        return None;
+    }
+    Some(number as i32)
+}
+
 /// The number of a bound.
 pub fn bound_of(alloc: Global, token: VToken) -> Said<i32>
     ensures said { IfOk result (λ said. said ≡ say.bound_of token) }
     ensures bound { IfOk result (λ said. IfOk said (λ n. nat_abs n < 2 ^ 31)) }
 {
     match token {
-        VToken::Number(number) => {
-            let number = number.value();
-            if number < 0 || number > 2147483647 {
-                return Ok(Err(Reason::NumberRange));
-            }
-            Ok(Ok(number as i32))
-        }
+        VToken::Number(number) => match bound_in(number) {
+            Some(bound) => Ok(Ok(bound)),
+            None => Ok(Err(Reason::NumberRange)),
+        },
         other => refused(alloc, other),
     }
 }

@@ -132,6 +132,9 @@ impl VCursor {
         if count > 0 {
             return Ok(false);
         }
+        if let Some(_plain) = self.held_plain() {
+            return Ok(false);
+        }
         self.takes_token(alloc, mark, source)
     }
 

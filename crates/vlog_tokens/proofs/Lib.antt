@@ -15,3 +15,4 @@ pub mod Held
 pub mod HeldMarks
 pub mod HeldStrings
 pub mod HeldWords
+pub mod HeldPlains

@@ -78,7 +78,7 @@ scaled_good (Some m) (Some e) h k = record { real = record { mantissa = h.number
 scaled_good (Some m) None h k = tt
 scaled_good None e h k = tt
 
-number_good : (text : List ℕ) → IfSome (number_of text) IsCount
+pub number_good : (text : List ℕ) → IfSome (number_of text) IsCount
 unfolding number_of
 number_good text = count_good (decimal_value text)
 

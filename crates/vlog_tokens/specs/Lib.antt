@@ -10,5 +10,6 @@ pub mod Parts
 pub mod Language
 pub mod Finding
 pub mod Held
+pub mod Plains
 pub mod Proper
 pub mod SoFar

@@ -20,6 +20,7 @@ pub mod mark;
 pub mod next;
 pub mod number;
 pub mod phase;
+pub mod plain;
 pub mod scan;
 pub mod start;
 pub mod string;
@@ -28,5 +29,6 @@ pub mod tokens;
 pub mod whole;
 
 pub use keyword::is_keyword;
+pub use plain::Plain;
 pub use token::{VFound, VToken};
 pub use tokens::VTokens;

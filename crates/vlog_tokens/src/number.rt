@@ -13,7 +13,7 @@ fn with_byte(value: u128, byte: u8) -> Option<u128>
         return Some(value);
     }
     let digit = u128::from(byte - b'0');
-    if value > (u128::MAX - digit) / 10 {
+    if value > u128::MAX / 16 && value > (u128::MAX - digit) / 10 {
         return None;
     }
     Some(value * 10 + digit)

@@ -3,6 +3,7 @@ ghost use Rattle.nl_bytes.specs.declared.bytes.TheConstants.{LIMIT};
 
 use crate::finding::found;
 use crate::next::{held_word, pass_word};
+use crate::plain::{Plain, held_plain, pass_plain};
 use crate::token::VFound;
 use crate::whole::{held_mark, pass_mark};
 use nl_base::{NoMemory, Place, ReadError};
@@ -35,6 +36,7 @@ impl VTokens {
     ghost use Rattle.vlog_tokens.specs.declared.token.VToken.TheVariants.{Punct};
     ghost use Rattle.vlog_tokens.specs.Language.{vlog, fresh};
     ghost use Rattle.vlog_tokens.specs.Held.{held_mark, past_mark, held_word, past_word};
+    ghost use Rattle.vlog_tokens.specs.Plains.{held_plain, past_plain, plain_token};
     ghost use Rattle.vlog_tokens.specs.Items.{word_token};
     ghost use Rattle.vlog_tokens.specs.Proper.{IsProper};
 
@@ -118,6 +120,32 @@ impl VTokens {
         // The buffer holds at most 4,096 bytes, as its call says.
         let _here = self.bytes.place();
         pass_word(&mut self.bytes, count)
+    }
+
+    /// The number or the bracket of attributes that is next, where the bytes that are held show it and its end.
+    #[inline(always)]
+    pub fn held_plain(&self) -> Option<Plain>
+        ensures plain { result ≡ held_plain self.now.window }
+        ensures held { length self.now.window.held ≤ 4096 }
+        ensures proper { IfSome result (λ plain. IsProper (plain_token plain)) }
+    {
+        // The buffer holds at most 4,096 bytes, as its call says.
+        let _here = self.bytes.place();
+        held_plain(&self.bytes)
+    }
+
+    /// Takes the number or the bracket of attributes that is next.
+    ///
+    /// A reader that is not spent then stands as after a call of `next` that answers it.
+    #[inline(always)]
+    pub fn take_plain(&mut self)
+        requires { (plain : Plain) × (held_plain self.old.window ≡ Some plain) }
+        ensures left { self.new ≡ record { window = past_plain self.old.window; spent = self.old.spent } }
+        ensures reads { (plain : Plain) → held_plain self.old.window ≡ Some plain → IsFalse self.old.spent → (i : Supply) → (x : VFound) × (x.token ≡ plain_token plain) × ReadsToken vlog (Ok (Some x)) self.old.window self.old.spent self.new.window self.new.spent i i }
+    {
+        // The buffer holds at most 4,096 bytes, as its call says.
+        let _here = self.bytes.place();
+        pass_plain(&mut self.bytes)
     }
 
     /// Reads the next token, or `None` at the end of the input.

@@ -1,9 +1,9 @@
+use Rattle.std.proofs.Common.{◌∙◌, Some, refl, sym, ap}
+use Rattle.vlog_tokens.specs.declared.plain.Plain.TheVariants as plains
 use Rattle.vlog_exprs.specs.Reasons.{group_end_of}
-use Rattle.vlog_exprs.proofs.OneToken.{one_says, one_fails}
+use Rattle.vlog_exprs.proofs.HeldPlains.{plain_says}
 use Rattle.vlog_exprs.proofs.attr.take_group_end.Goals as goal
 
-pub returns-in_err-place : goal.returns-in_err-place
-returns-in_err-place g c = one_fails (λ _ x. group_end_of x.token) _ _ _ _ _ _ c.in_err-place.ensures.reads c.from_residual.ensures.1
-
-pub returns : goal.returns
-returns g c = one_says (λ _ x. group_end_of x.token) _ _ _ _ _ c.in_ok-place.ensures.reads c.in_ok-place.ensures.near _ _ _ c.group_end_of-said.ensures c.judged.ensures.answer c.judged.ensures.left
+pub returns-in-AttrStop : goal.returns-in-AttrStop
+returns-in-AttrStop g c =
+    plain_says c.args.cursor.now c.take_plain.new.self plains.AttrStop (sym c.in-Some.ensures.plain ∙ ap Some c.in-AttrStop.is) c.held_plain.ensures.held _ group_end_of tt refl c.take_plain.ensures

@@ -1,13 +1,15 @@
+use Rattle.std.proofs.Common.{◌∙◌, Some, refl, sym, ap}
+use Rattle.vlog_tokens.specs.declared.plain.Plain.TheVariants as plains
+use Rattle.vlog_tokens.specs.Plains.{plain_token}
+use Rattle.vlog_exprs.specs.declared.start.ConstStart.TheVariants as starts
 use Rattle.vlog_exprs.specs.Reasons.{const_start}
-use Rattle.vlog_exprs.proofs.OneToken.{one_says, one_fails}
-use Rattle.vlog_exprs.proofs.Known.{value_says, const_start_is}
+use Rattle.vlog_exprs.proofs.HeldPlains.{plain_says}
+use Rattle.vlog_exprs.proofs.Known.{const_start_is}
 use Rattle.vlog_exprs.proofs.constant.take_const_start.Goals as goal
 
-pub returns-in_err-place-clause-reads : goal.returns-in_err-place-clause-reads
-returns-in_err-place-clause-reads g c = one_fails (λ _ x. const_start x.token) _ _ _ _ _ _ c.in_err-place.ensures.reads c.from_residual.ensures.1
+pub returns-in-Number-clause-reads : goal.returns-in-Number-clause-reads
+returns-in-Number-clause-reads g c =
+    plain_says c.args.cursor.now c.take_plain.new.self (plains.Number c.in-Number.number) (sym c.in-Some.ensures.plain ∙ ap Some c.in-Number.is) c.held_plain.ensures.held _ const_start (starts.Number c.in-Number.number) refl c.take_plain.ensures
 
-pub returns-clause-reads : goal.returns-clause-reads
-returns-clause-reads g c = one_says (λ _ x. const_start x.token) _ _ _ _ _ c.in_ok-place.ensures.reads c.in_ok-place.ensures.near _ _ _ c.const_start-said.ensures c.judged.ensures.answer c.judged.ensures.left
-
-pub returns-clause-value : goal.returns-clause-value
-returns-clause-value g c = value_says const_start _ c.in_ok-place.field-0.token (const_start_is _ c.in_ok-place.ensures.proper) _ _ _ _ c.const_start-said.ensures c.judged.ensures.answer
+pub returns-in-Number-clause-value : goal.returns-in-Number-clause-value
+returns-in-Number-clause-value g c = const_start_is (plain_token (plains.Number c.in-Number.number)) (rw c.in-Number.is at c.in-Some.ensures.proper) (starts.Number c.in-Number.number) refl
