@@ -34,6 +34,11 @@ place_is n size at e = by (nat_lt n size) refl e
     by true t h = (cc, ltb-true n size t)
     by false t h = absurd cc
 
+pub under_nothing : {A : Type 0} (entries : Entries A) (name : List ℕ) → length entries ≡ 0 → [] ≡ under (groups_of entries) name
+unfolding under
+under_nothing [] name e = refl
+under_nothing (x ∷ xs) name e = absurd cc
+
 module _ {A : Type 0} (name : List ℕ) (test : Bor (List ℕ) → Bool) (same : IsTestOf name test) where
   found_under : (entries : Entries A) → items_of (lookup test entries) ≡ under (groups_of entries) name
   unfolding under

@@ -1,11 +1,12 @@
 -- The nets of a module by the table of its names.
-use Rattle.std.proofs.Common.{◌≡◌, ℕ, ◌+◌, ◌<◌, ◌≤◌, Bool, true, false, not, ◌||◌, cond, List, [], ◌∷◌, ◌++◌, Option, None, Some, bytes_eq, filter, find, flat_map, length, map, option_map, refl, sym, ap, ◌∙◌, length-append, arith, if◌then◌else◌}
+use Rattle.std.proofs.Common.{◌≡◌, ℕ, ◌+◌, ◌<◌, ◌≤◌, Bool, true, false, not, ◌||◌, cond, List, [], ◌∷◌, ◌++◌, Option, None, Some, bytes_eq, filter, find, flat_map, length, map, option_map, refl, sym, ap, ◌∙◌, length-append, arith, append_assoc, if◌then◌else◌}
 use Rattle.std.specs.Prelude.{nat_le}
 use Rattle.std.specs.Option.{option_map_or}
 use Rattle.std.proofs.lemmas.Bool.Decides.{nat_tests}
 use Rattle.std.proofs.lemmas.Grind.{flat_map-append}
 use Rattle.std.proofs.lemmas.List.FromFn.{length-map-range_with_len}
-use Rattle.nl_base.specs.Ranges.{Bounds}
+use Rattle.nl_base.specs.Ranges.{Bounds, index_at}
+use Rattle.std.specs.Fmt.{signed_decimal}
 use Rattle.net_hier.specs.Cells.{width_of}
 use Rattle.net_hier.specs.declared.cells.HNet.{HNet}
 use Rattle.vlog_design.specs.Design.{attr_props, module_nets, net_name, wire_nets}
@@ -108,3 +109,7 @@ nets_are m table made whole is =
     ∙ (ports_early (length made) m 0 (port_names m) (net_signals 0 (declared ++ implicit))
     ∙ (wires_early (length made) 0 declared implicit (omega (arith, ap length first)) ∙ implicit_late (length made) (length made) (implicit_names m) (omega arith))) in
     (λ j. first j ++ late j) ∙ sym (flat_map-append wire_nets declared implicit)
+
+-- the name of a bit, made of the name and a bracket
+pub indexed : (name front : List ℕ) (range : Bounds) (bit : ℕ) → front ≡ name ++ 91 ∷ [] → front ++ signed_decimal (index_at range bit) ++ 93 ∷ [] ≡ net_name name (Some range) bit
+indexed name front range bit e = rw e (ap (λ l. l ++ 93 ∷ []) (append_assoc name (91 ∷ []) (signed_decimal (index_at range bit))))

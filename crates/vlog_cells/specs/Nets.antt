@@ -1,7 +1,10 @@
 -- The nets of a module by the table of its names.
-use Rattle.std.specs.Prelude.{ℕ, Bool, false, not, nat_le, List, [], ◌∷◌, map, filter, flat_map, if◌then◌else◌}
+use Rattle.std.specs.Prelude.{ℕ, Bool, false, not, nat_le, Some, List, [], ◌∷◌, map, filter, flat_map, if◌then◌else◌}
+use Rattle.std.specs.List.{range_with_len}
 use Rattle.std.specs.Option.{option_map_or}
+use Rattle.nl_base.specs.Ranges.{Bounds}
 use Rattle.net_hier.specs.declared.cells.HNet.{HNet}
+use Rattle.vlog_design.specs.Design.{attr_props, net_name}
 use Rattle.vlog_design.specs.Names.{Name, Signal, Wire, signal_named}
 use Rattle.vlog_design.specs.declared.signals.SignalAt.{SignalAt}
 use Rattle.vlog_design.specs.declared.signals.SignalAt.TheVariants.{AtPort, AtNet}
@@ -41,3 +44,7 @@ late_net from signal = if is_late from signal.slot.place then record { name = si
 -- the nets of this number and later ones
 abbrev pub late_nets : ℕ → List Signal → List HNet
 late_nets from = flat_map (late_net from)
+
+-- the nets of the first bits of a wire with this range, from the left
+abbrev pub bit_nets : WireOf → Bounds → ℕ → List HNet
+bit_nets wire range count = map (λ bit. record { name = net_name wire.name.now (Some range) bit; props = attr_props wire.attrs.now }) (range_with_len 0 count)

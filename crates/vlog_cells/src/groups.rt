@@ -36,6 +36,10 @@ impl<'a, T> Groups<'a, T> {
     pub fn of(&self, name: &[u8]) -> &[T]
         ensures { result.now ≡ under self.now name.now }
     {
+        // Most modules have no such values, and the name is then not hashed.
+        if self.lists.is_empty() {
+            return &[];
+        }
         match self.lists.get(name) {
             None => &[],
             Some(list) => list.as_slice(),

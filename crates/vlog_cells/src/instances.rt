@@ -7,7 +7,7 @@ ghost use Rattle.vlog_values.specs.declared.module.Module.{Module};
 ghost use Rattle.vlog_cells.specs.Instances.{instance_by, instances_by, props_by, sets_for, sets_of, sets_under};
 
 use crate::groups::Groups;
-use crate::properties::{add_attrs, add_params, add_sets};
+use crate::properties::{add_attrs, add_params, add_sets, room_for};
 use net_hier::{HInst, HProp};
 use nl_base::{NoMemory, Seq, Text};
 use std::alloc::Global;
@@ -69,14 +69,6 @@ fn number_of(names: &NameSet, name: &[u8]) -> u32
         None => names.len() as u32,
         Some(place) => place as u32,
     }
-}
-
-/// A list with room for so many properties.
-fn room_for(alloc: Global, count: usize) -> Result<Seq<HProp>, NoMemory>
-    ensures { IfOk result (λ props. props ≡ []) }
-{
-    let room = Vec::with_capacity(alloc, count)?;
-    Ok(Seq::of(room))
 }
 
 /// The properties of an instance: the attributes and parameters of its statement, and then the values by `defparam`.
@@ -170,13 +162,42 @@ fn add_items(
     Ok(())
 }
 
+/// How many instances an item has.
+fn count_in(item: &ItemV) -> usize {
+    match item {
+        ItemV::Instances(statement) => statement.insts.len(),
+        ItemV::Port(_) => 0,
+        ItemV::Net(_) => 0,
+        ItemV::Param(_) => 0,
+        ItemV::Assign(_) => 0,
+        ItemV::Defparam(_) => 0,
+    }
+}
+
+/// How many instances items have.
+fn instance_count(items: &[ItemV]) -> usize {
+    let mut count: usize = 0;
+    for item in items {
+        count = count.saturating_add(count_in(item));
+    }
+    count
+}
+
+/// A list with room for so many instances.
+fn instance_room(alloc: Global, count: usize) -> Result<Seq<HInst>, NoMemory>
+    ensures { IfOk result (λ made. made ≡ []) }
+{
+    let room = Vec::with_capacity(alloc, count)?;
+    Ok(Seq::of(room))
+}
+
 /// The instances of a module. The names are those of the modules of the design.
 pub fn instances_made(alloc: Global, names: &NameSet, m: &Module) -> Result<Seq<HInst>, NoMemory>
     requires few { length names.now < 2 ^ 32 }
     ensures { IfOk result (λ made. (modules : List Module) → names.now ≡ map (λ m. m.name) modules → made ≡ module_instances modules m.now) }
 {
     let found = sets_in(alloc, m)?;
-    let mut made = Seq::empty(alloc);
+    let mut made = instance_room(alloc, instance_count(m.items.items()))?;
     add_items(alloc, names, &found, m.items.items(), &mut made)?;
     Ok(made)
 }

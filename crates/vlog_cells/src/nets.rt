@@ -1,17 +1,19 @@
 // The nets of a cell, one for each bit of its wires.
-ghost use Rattle.std.specs.Prelude.{◌≡◌, ◌<◌, ◌++◌, flat_map, option_to_list, slice_get, IfOk, OnOk};
-ghost use Rattle.net_hier.specs.Cells.{width_of};
-ghost use Rattle.vlog_design.specs.Design.{attr_props, module_nets, net_name, wire_nets};
+ghost use Rattle.std.specs.Prelude.{◌≡◌, ◌<◌, ◌++◌, ◌∷◌, [], flat_map, option_to_list, slice_get, IfOk, OnOk};
+ghost use Rattle.std.specs.Fmt.{signed_decimal};
+ghost use Rattle.nl_base.specs.Ranges.{index_at, range_bits};
+ghost use Rattle.vlog_design.specs.Design.{attr_props, module_nets, wire_nets};
 ghost use Rattle.vlog_design.specs.Names.{net_decl, signals};
-ghost use Rattle.vlog_cells.specs.Nets.{is_late, late_nets, names_port, wire_of, wires_by, wires_in};
+ghost use Rattle.vlog_cells.specs.Nets.{bit_nets, is_late, late_nets, names_port, wire_of, wires_by, wires_in};
 
 use crate::properties::attrs_made;
 use itoa::Buffer;
 use net_hier::HNet;
 use nl_base::{NoMemory, Range, Seq, Text};
 use std::alloc::Global;
-use vlog_design::signals::SignalAt;
+use vlog_design::signals::{SignalAt, Slot};
 use vlog_design::table::Table;
+use vlog_design::widths::range_width;
 use vlog_values::{Attr, ItemV, Module, NetDecl};
 
 /// The most bytes of an index in brackets.
@@ -25,58 +27,75 @@ pub struct WireOf<'a> {
     pub attrs: &'a [Attr],
 }
 
-/// How many bits a net has.
-fn bit_count(range: Option<Range>) -> u32
-    ensures { result ≡ width_of range }
+/// The name of a bit: the front, which is the name and a bracket, and then the index and a bracket.
+fn bit_name(alloc: Global, range: Range, bit: u32, front: &mut Vec<u8>) -> Result<Text, NoMemory>
+    requires { bit < range_bits range }
+    ensures name { IfOk result (λ text. text ≡ front.old.items ++ signed_decimal (index_at range bit) ++ 93 ∷ []) }
+    ensures kept { OnOk result (front.new.items ≡ front.old.items) }
 {
-    match range {
-        None => 1,
-        Some(range) => range.bits() as u32,
-    }
+    let mut buffer = Buffer::new();
+    let length = front.len();
+    front.extend_from_slice(buffer.format(range.index(bit)).as_bytes())?;
+    front.push(b']')?;
+    let name = Text::copy(alloc, front.as_slice())?;
+    front.truncate(length);
+    Ok(name)
 }
 
-/// The name of the net that a bit is: `name`, or `name[index]` where there is a range.
-fn net_name(alloc: Global, name: &[u8], range: Option<Range>, bit: u32) -> Result<Text, NoMemory>
-    requires { bit < width_of range }
-    ensures { IfOk result (λ text. text ≡ net_name name.now range bit) }
+/// The net that a bit of a wire is, where the front is the name and a bracket.
+fn bit_net(
+    alloc: Global,
+    wire: &WireOf,
+    range: Range,
+    bit: u32,
+    front: &mut Vec<u8>,
+) -> Result<HNet, NoMemory>
+    requires { bit < range_bits range }
+    ensures net { IfOk result (λ made. made ≡ record { name = front.old.items ++ signed_decimal (index_at range bit) ++ 93 ∷ []; props = attr_props wire.now.attrs.now }) }
+    ensures kept { OnOk result (front.new.items ≡ front.old.items) }
 {
-    match range {
-        None => {
-            let text = Text::copy(alloc, name)?;
-            Ok(text)
-        }
-        Some(range) => {
-            let mut buffer = Buffer::new();
-            let mut bytes = Vec::with_capacity(alloc, name.len().saturating_add(INDEX_ROOM))?;
-            bytes.extend_from_slice(name)?;
-            bytes.push(b'[')?;
-            bytes.extend_from_slice(buffer.format(range.index(bit)).as_bytes())?;
-            bytes.push(b']')?;
-            let text = Text::of(alloc, bytes)?;
-            Ok(text)
-        }
-    }
-}
-
-/// The net that a bit of a wire is.
-fn net_of(alloc: Global, wire: &WireOf, bit: u32) -> Result<HNet, NoMemory>
-    requires { bit < width_of wire.now.range }
-    ensures { IfOk result (λ made. made ≡ record { name = net_name wire.now.name.now wire.now.range bit; props = attr_props wire.now.attrs.now }) }
-{
-    let name = net_name(alloc, wire.name, wire.range, bit)?;
+    let name = bit_name(alloc, range, bit, front)?;
     let props = attrs_made(alloc, wire.attrs)?;
     Ok(HNet { name, props })
+}
+
+/// Adds the nets of a wire with this range.
+fn add_bits(
+    alloc: Global,
+    wire: &WireOf,
+    range: Range,
+    made: &mut Seq<HNet>,
+) -> Result<(), NoMemory>
+    ensures added { OnOk result (made.new ≡ made.old ++ bit_nets wire.now range (range_bits range)) }
+{
+    let mut front = Vec::with_capacity(alloc, wire.name.len().saturating_add(INDEX_ROOM))?;
+    front.extend_from_slice(wire.name)?;
+    front.push(b'[')?;
+    for bit in 0..range.bits() as u32 {
+        let net = bit_net(alloc, wire, range, bit, &mut front)?;
+        made.push(net)?;
+    }
+    Ok(())
+}
+
+/// Adds the net of a wire without a range.
+fn add_scalar(alloc: Global, wire: &WireOf, made: &mut Seq<HNet>) -> Result<(), NoMemory>
+    ensures added { OnOk result (made.new ≡ made.old ++ record { name = wire.now.name.now; props = attr_props wire.now.attrs.now } ∷ []) }
+{
+    let name = Text::copy(alloc, wire.name)?;
+    let props = attrs_made(alloc, wire.attrs)?;
+    made.push(HNet { name, props })?;
+    Ok(())
 }
 
 /// Adds the nets of a wire.
 fn add_wire(alloc: Global, wire: &WireOf, made: &mut Seq<HNet>) -> Result<(), NoMemory>
     ensures added { OnOk result (made.new ≡ made.old ++ wire_nets (wire_of wire.now)) }
 {
-    for bit in 0..bit_count(wire.range) {
-        let net = net_of(alloc, wire, bit)?;
-        made.push(net)?;
+    match wire.range {
+        None => add_scalar(alloc, wire, made),
+        Some(range) => add_bits(alloc, wire, range, made),
     }
-    Ok(())
 }
 
 /// Whether the name is that of a port.
@@ -198,12 +217,36 @@ fn add_implicit(
     Ok(())
 }
 
+/// How many nets this entry of a table and those before it make.
+fn nets_up_to(slot: Slot) -> u64 {
+    match slot.place {
+        SignalAt::AtPort(_) => 0,
+        SignalAt::AtNet(first) => first.saturating_add(range_width(slot.range)),
+    }
+}
+
+/// How many nets a table has, by its last entry; the nets stand behind the ports.
+fn net_count(table: &Table) -> u64 {
+    match table.entry(table.len().saturating_sub(1)) {
+        None => 0,
+        Some((_name, slot)) => nets_up_to(slot),
+    }
+}
+
+/// A list with room for so many nets.
+fn room_for(alloc: Global, count: u64) -> Result<Seq<HNet>, NoMemory>
+    ensures { IfOk result (λ nets. nets ≡ []) }
+{
+    let room = Vec::with_capacity(alloc, count as usize)?;
+    Ok(Seq::of(room))
+}
+
 /// The nets of a module.
 pub fn nets_made(alloc: Global, m: &Module, table: &Table) -> Result<Seq<HNet>, NoMemory>
     requires { table.now ≡ signals m.now }
     ensures { IfOk result (λ made. made ≡ module_nets m.now) }
 {
-    let mut made = Seq::empty(alloc);
+    let mut made = room_for(alloc, net_count(table))?;
     add_items(alloc, table, m.items.items(), &mut made)?;
     let from = made.len() as u64;
     add_implicit(alloc, from, table, &mut made)?;

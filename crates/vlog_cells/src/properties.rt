@@ -1,5 +1,5 @@
 // Attributes and parameters as properties.
-ghost use Rattle.std.specs.Prelude.{◌≡◌, ◌++◌, map, IfOk, OnOk};
+ghost use Rattle.std.specs.Prelude.{◌≡◌, ◌++◌, [], map, IfOk, OnOk};
 ghost use Rattle.vlog_design.specs.Design.{attr_props, attr_value, param_props, param_value};
 ghost use Rattle.vlog_values.specs.Spelling.{base_letter, based_spelling, literal_spelling};
 ghost use Rattle.vlog_values.specs.declared.expression.Const.TheVariants.{Lit};
@@ -137,11 +137,22 @@ pub fn add_attrs(alloc: Global, props: &mut Seq<HProp>, attrs: &[Attr]) -> Resul
     Ok(())
 }
 
+/// A list with room for so many properties.
+pub fn room_for(alloc: Global, count: usize) -> Result<Seq<HProp>, NoMemory>
+    ensures { IfOk result (λ props. props ≡ []) }
+{
+    let room = Vec::with_capacity(alloc, count)?;
+    Ok(Seq::of(room))
+}
+
 /// The properties that attributes are.
 pub fn attrs_made(alloc: Global, attrs: &[Attr]) -> Result<Seq<HProp>, NoMemory>
     ensures { IfOk result (λ made. made ≡ attr_props attrs.now) }
 {
-    let mut made = Seq::empty(alloc);
+    if attrs.is_empty() {
+        return Ok(Seq::empty(alloc));
+    }
+    let mut made = room_for(alloc, attrs.len())?;
     add_attrs(alloc, &mut made, attrs)?;
     Ok(made)
 }

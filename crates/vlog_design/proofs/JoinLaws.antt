@@ -1,14 +1,15 @@
 -- Joins of two sides, part by part.
-use Rattle.std.proofs.Common.{◌≡◌, ℕ, zero, suc, ◌+◌, ◌-◌, ◌<◌, ◌≤◌, List, [], ◌∷◌, ◌++◌, Option, None, Some, drop, flat_map, get_or, length, replicate, ap, refl, sym, ◌∙◌, append_assoc, append-nil, arith}
-use Rattle.std.proofs.lemmas.List.{drop_all}
+use Rattle.std.proofs.Common.{◌≡◌, ℕ, zero, suc, ◌+◌, ◌-◌, ◌<◌, ◌≤◌, List, [], ◌∷◌, ◌++◌, Option, None, Some, drop, flat_map, get_or, length, replicate, ap, refl, sym, ◌∙◌, append_assoc, append-nil, arith, length-append}
+use Rattle.std.proofs.lemmas.List.{drop-drop, drop_all}
 use Rattle.net_hier.specs.declared.nodes.Join.{Join}
 use Rattle.net_hier.specs.declared.nodes.Node.{Node}
 use Rattle.vlog_design.specs.Design.{join_of, joins_between}
-use Rattle.vlog_design.proofs.RunLaws.{length-run, node_here, nodes_left}
+use Rattle.vlog_design.proofs.RunLaws.{node_here, nodes_left, nodes_of_span}
 use Rattle.vlog_design.proofs.Steps.{done, flat_map_left, moved}
+use Rattle.vlog_design.specs.Exprs.{node_at, span_bits}
 use Rattle.vlog_design.specs.declared.runs.Run.{Run}
-use Rattle.vlog_design.specs.Runs.{node_after, nodes_from, run_bits, runs_bits}
-use Rattle.vlog_design.specs.declared.runs.Run.{Run}
+use Rattle.vlog_design.specs.declared.signals.SignalAt.{SignalAt}
+use Rattle.vlog_design.specs.Runs.{bits_behind, node_after, nodes_from, run_bits, runs_bits}
 
 pub nothing_right : (left : List (Option Node)) → joins_between left [] ≡ []
 unfolding joins_between
@@ -91,27 +92,54 @@ run_ended made rest first count i {all} h e =
     let k : count - i ≡ 0 = omega arith in
     done made e (ap (λ n. joins_between rest (nodes_from (node_after first i) n)) k ∙ nothing_right rest)
 
--- one run more of the right
-pub run_joined : (made after : List Join) (rest left : List (Option Node)) (runs : List Run) (i : ℕ) (d : Run) {all : List Join} → i < length runs →
-    made ++ joins_between rest (flat_map run_bits (drop i runs)) ≡ all → after ≡ made ++ joins_between rest (run_bits (get_or runs i d)) →
-    left ≡ drop ((get_or runs i d).gap + (get_or runs i d).count) rest →
-    after ++ joins_between left (flat_map run_bits (drop (i + 1) runs)) ≡ all
-run_joined made after rest left runs i d {all} h so_far e f =
-    let run = get_or runs i d in
-    let later = flat_map run_bits (drop (i + 1) runs) in
-    let is_left : left ≡ drop (length (run_bits run)) rest = f ∙ ap (λ n. drop n rest) (sym (length-run run)) in
-    ap (λ l. l ++ joins_between left later) e
-    ∙ (ap (λ l. (made ++ joins_between rest (run_bits run)) ++ joins_between l later) is_left
-    ∙ moved made (joins_between rest (run_bits run)) (joins_between (drop (length (run_bits run)) rest) later) so_far
-    (ap (joins_between rest) (flat_map_left run_bits runs i d h) ∙ joins_parts rest (run_bits run) later))
+-- one part more of the right
+module _ {A : Type 0} (f : A → List (Option Node)) (rest left : List (Option Node)) (parts : List A) (i : ℕ) (d : A) (within : i < length parts) (is_left : left ≡ drop (length (f (get_or parts i d))) rest) where
+  pub part_joined : (made after : List Join) {all : List Join} → made ++ joins_between rest (flat_map f (drop i parts)) ≡ all → after ≡ made ++ joins_between rest (f (get_or parts i d)) →
+      after ++ joins_between left (flat_map f (drop (i + 1) parts)) ≡ all
+  part_joined made after {all} so_far e =
+      let part = f (get_or parts i d) in
+      let later = flat_map f (drop (i + 1) parts) in
+      ap (λ l. l ++ joins_between left later) e
+      ∙ (ap (λ l. (made ++ joins_between rest part) ++ joins_between l later) is_left
+      ∙ moved made (joins_between rest part) (joins_between (drop (length part) rest) later) so_far
+      (ap (joins_between rest) (flat_map_left f parts i d within) ∙ joins_parts rest part later))
 
-pub runs_joined : (made : List Join) (rest : List (Option Node)) (runs : List Run) (i : ℕ) {all : List Join} → length runs ≤ i →
-    made ++ joins_between rest (flat_map run_bits (drop i runs)) ≡ all → made ≡ all
-runs_joined made rest runs i {all} h e = done made e (ap (λ l. joins_between rest (flat_map run_bits l)) (drop_all i runs h) ∙ nothing_right rest)
+  pub part_passed : {whole : List (Option Node)} → drop (length (flat_map f (drop i parts))) rest ≡ whole → drop (length (flat_map f (drop (i + 1) parts))) left ≡ whole
+  part_passed {whole} so_far =
+      let part = f (get_or parts i d) in
+      let later = flat_map f (drop (i + 1) parts) in
+      ap (drop (length later)) is_left
+      ∙ (drop-drop (length later) (length part) rest
+      ∙ (ap (λ n. drop n rest) (sym (length-append part later) ∙ ap length (sym (flat_map_left f parts i d within))) ∙ so_far))
 
--- both sides as a whole
-pub whole_joined : (ls rs : List Run) (g h : ℕ) {left right : List (Option Node)} → runs_bits ls g ≡ left → runs_bits rs h ≡ right →
-    joins_between (flat_map run_bits ls) (flat_map run_bits rs) ≡ joins_between left right
-whole_joined ls rs g h {left} {right} e f =
-    sym (gap_behind_left (flat_map run_bits ls) g (flat_map run_bits rs))
-    ∙ (sym (gap_behind_right (runs_bits ls g) (flat_map run_bits rs) h) ∙ (ap (λ l. joins_between l (runs_bits rs h)) e ∙ ap (joins_between left) f))
+-- no part is left of the right
+module _ {A : Type 0} (f : A → List (Option Node)) (rest : List (Option Node)) (parts : List A) (i : ℕ) (all_met : length parts ≤ i) where
+  pub parts_joined : (made : List Join) {all : List Join} → made ++ joins_between rest (flat_map f (drop i parts)) ≡ all → made ≡ all
+  parts_joined made e = done made e (ap (λ l. joins_between rest (flat_map f l)) (drop_all i parts all_met) ∙ nothing_right rest)
+
+  pub parts_passed : {whole : List (Option Node)} → drop (length (flat_map f (drop i parts))) rest ≡ whole → rest ≡ whole
+  parts_passed e = ap (λ l. drop (length (flat_map f l)) rest) (sym (drop_all i parts all_met)) ∙ e
+
+-- a right side without bits
+pub nothing_met : (made : List Join) (left right : List (Option Node)) → right ≡ [] → made ≡ made ++ joins_between left right
+nothing_met made left right e = sym (ap (λ l. made ++ joins_between left l) e ∙ (ap (λ l. made ++ l) (nothing_right left) ∙ append-nil made))
+
+pub nothing_passed : (left right : List (Option Node)) → right ≡ [] → left ≡ drop (length right) left
+nothing_passed left right e = ap (λ l. drop (length l) left) (sym e)
+
+-- the bits of a span as a run
+pub span_run : (place : SignalAt) (first count : ℕ) (node : Node) → node ≡ node_at place first → run_bits (record { gap = 0; first = node; count = count }) ≡ span_bits place (record { first = first; count = count })
+unfolding run_bits
+span_run place first count node e = ap (λ n. nodes_from n count) e ∙ nodes_of_span place first count
+
+-- the bits of nodes in a row as a run
+pub run_alone : (first : Node) (count : ℕ) → bits_behind 0 (record { gap = 0; first = first; count = count } ∷ []) ≡ nodes_from first count
+unfolding run_bits
+run_alone first count = append-nil (nodes_from first count)
+
+-- bits that are nothing behind the runs of a side
+pub left_joined : (runs : List Run) (gap : ℕ) (right : List (Option Node)) {left : List (Option Node)} → runs_bits runs gap ≡ left → joins_between (flat_map run_bits runs) right ≡ joins_between left right
+left_joined runs gap right {left} e = sym (gap_behind_left (flat_map run_bits runs) gap right) ∙ ap (λ l. joins_between l right) e
+
+pub right_joined : (left : List (Option Node)) (runs : List Run) (gap : ℕ) {right : List (Option Node)} → runs_bits runs gap ≡ right → joins_between left (flat_map run_bits runs) ≡ joins_between left right
+right_joined left runs gap {right} e = sym (gap_behind_right left (flat_map run_bits runs) gap) ∙ ap (joins_between left) e

@@ -1,5 +1,5 @@
 // Joins of two sides, run by run.
-ghost use Rattle.std.specs.Prelude.{◌≡◌, ◌+◌, ◌≤◌, ◌<◌, ◌^◌, ◌++◌, All, drop, flat_map, get_or, None, IfOk, OnOk};
+ghost use Rattle.std.specs.Prelude.{◌≡◌, ◌+◌, ◌≤◌, ◌<◌, ◌^◌, ◌++◌, All, drop, flat_map, get_or, length, None, IfOk, OnOk};
 ghost use Rattle.vlog_design.specs.Design.{join_of, joins_between};
 ghost use Rattle.vlog_design.specs.Runs.{IsRun, bits_behind, run_bits};
 
@@ -10,7 +10,7 @@ use std::marker::Model;
 
 /// What is left of one side: runs, of whose bits so many are passed. One run can have more than 2^64 bits.
 #[derive(Drop)]
-struct Rest<'a> {
+pub(crate) struct Rest<'a> {
     passed: u128,
     runs: &'a [Run],
 }
@@ -43,7 +43,7 @@ fn push_join(a: Option<Node>, b: Option<Node>, out: &mut Vec<Join>) -> Result<()
 }
 
 /// What is left of runs behind so many bits.
-fn behind<'a>(count: u128, all: &'a [Run]) -> Rest<'a>
+pub(crate) fn behind<'a>(count: u128, all: &'a [Run]) -> Rest<'a>
     requires { All IsRun all.now }
     ensures { result ≡ bits_behind count all.now }
 {
@@ -93,7 +93,11 @@ impl<'a> Rest<'a> {
 }
 
 /// Adds the joins of a run with the bits of the other side that stand there, and answers what is left of that side.
-fn push_run_joins<'a>(left: Rest<'a>, run: Run, out: &mut Vec<Join>) -> Result<Rest<'a>, NoMemory>
+pub(crate) fn push_run_joins<'a>(
+    left: Rest<'a>,
+    run: Run,
+    out: &mut Vec<Join>,
+) -> Result<Rest<'a>, NoMemory>
     requires { IsRun run }
     ensures added { OnOk result (out.new.items ≡ out.old.items ++ joins_between left.entry (run_bits run)) }
     ensures left { IfOk result (λ rest. rest ≡ drop (run.gap + run.count) left.entry) }
@@ -106,22 +110,41 @@ fn push_run_joins<'a>(left: Rest<'a>, run: Run, out: &mut Vec<Join>) -> Result<R
     Ok(rest)
 }
 
-/// Adds the joins of runs.
-fn push_runs_joins(left: &[Run], right: &[Run], out: &mut Vec<Join>) -> Result<(), NoMemory>
-    requires left { All IsRun left.now }
-    requires right { All IsRun right.now }
-    ensures added { OnOk result (out.new.items ≡ out.old.items ++ joins_between (flat_map run_bits left.now) (flat_map run_bits right.now)) }
+/// Adds the joins of what is left of one side with runs, and answers what is left then.
+fn push_runs_joins<'a>(
+    left: Rest<'a>,
+    right: &[Run],
+    out: &mut Vec<Join>,
+) -> Result<Rest<'a>, NoMemory>
+    requires { All IsRun right.now }
+    ensures added { OnOk result (out.new.items ≡ out.old.items ++ joins_between left.entry (flat_map run_bits right.now)) }
+    ensures left { IfOk result (λ rest. rest ≡ drop (length (flat_map run_bits right.now)) left.entry) }
 {
-    let mut rest = behind(0, left);
+    let mut rest = left;
     for run in right {
         rest = push_run_joins(rest, *run, out)?;
     }
-    Ok(())
+    Ok(rest)
+}
+
+/// Adds the joins of what is left of one side with the other side, and answers what is left then.
+pub(crate) fn push_side_joins<'a>(
+    left: Rest<'a>,
+    right: &Runs,
+    out: &mut Vec<Join>,
+) -> Result<Rest<'a>, NoMemory>
+    ensures added { OnOk result (out.new.items ≡ out.old.items ++ joins_between left.entry right.now) }
+    ensures left { IfOk result (λ rest. rest ≡ drop (length right.now) left.entry) }
+{
+    let rest = push_runs_joins(left, &right.runs, out)?;
+    Ok(rest.skip(right.gap))
 }
 
 /// Adds the joins of two sides. The time is in proportion to the runs of the left and the nodes of the right.
 pub fn push_joins(left: &Runs, right: &Runs, out: &mut Vec<Join>) -> Result<(), NoMemory>
     ensures added { OnOk result (out.new.items ≡ out.old.items ++ joins_between left.now right.now) }
 {
-    push_runs_joins(&left.runs, &right.runs, out)
+    let side = behind(0, &left.runs);
+    let _rest = push_side_joins(side, right, out)?;
+    Ok(())
 }

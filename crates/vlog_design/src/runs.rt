@@ -20,7 +20,7 @@ pub struct Run {
 #[derive(Drop)]
 pub struct Runs {
     pub(crate) runs: Vec<Run>,
-    gap: u64,
+    pub(crate) gap: u64,
 }
 
 impl Model for Runs {

@@ -41,6 +41,18 @@ impl<'a> Table<'a> {
         self.slots.get(name).copied()
     }
 
+    /// What the name stands for, found without a search where it is the name of this number.
+    pub fn find_at(&self, number: usize, name: &[u8]) -> Option<Slot>
+        ensures { result ≡ signal_named self.now name.now }
+    {
+        if let Some((key, slot)) = self.slots.get_index(number) {
+            if *key == name {
+                return Some(*slot);
+            }
+        }
+        self.find(name)
+    }
+
     /// How many names there are.
     pub fn len(&self) -> usize
         ensures { result ≡ length self.now }

@@ -47,10 +47,12 @@ fn push_pin<'a>(
     }
 }
 
+/// Adds the tie of a connection by name. Connections are often written in the order of the ports: the place among them is tried first.
 fn push_by_name<'a>(
     table: &Table,
     instance: &'a [u8],
     number: u32,
+    place: usize,
     conn: &'a NamedConn,
     out: &mut Vec<Tie<'a>>,
 ) -> Result<(), NoMemory>
@@ -58,7 +60,7 @@ fn push_by_name<'a>(
 {
     match &conn.value {
         None => Ok(()),
-        Some(value) => match table.find(conn.port.bytes()) {
+        Some(value) => match table.find_at(place, conn.port.bytes()) {
             None => Ok(()),
             Some(slot) => push_pin(instance, number, conn.port.bytes(), slot, value, out),
         },
@@ -93,8 +95,8 @@ fn push_named<'a>(
 ) -> Result<(), NoMemory>
     ensures added { OnOk result (all_tied out.new.items ≡ all_tied out.old.items ++ map (pin_of instance.now number) (flat_map (λ conn. connection_by_name table.now conn.port conn.value) conns.now)) }
 {
-    for conn in conns {
-        push_by_name(table, instance, number, conn, out)?;
+    for place in 0..conns.len() {
+        push_by_name(table, instance, number, place, &conns[place], out)?;
     }
     Ok(())
 }

@@ -15,6 +15,7 @@ use std::alloc::Global;
 use vlog_design::bits::{node, push_bits};
 use vlog_design::joins::push_joins;
 use vlog_design::names::NameSet;
+use vlog_design::node_joins::push_node_joins;
 use vlog_design::runs::Runs;
 use vlog_design::signals::Slot;
 use vlog_design::table::Table;
@@ -76,11 +77,7 @@ fn push_tie(alloc: Global, table: &Table, tie: &Tie, out: &mut Vec<Join>) -> Res
                 port: port_number,
                 bit: 0,
             };
-            let mut pin_bits = Runs::empty(alloc);
-            pin_bits.push_nodes(first, width)?;
-            let mut value_bits = Runs::empty(alloc);
-            push_bits(alloc, table, value, &mut value_bits)?;
-            push_joins(&pin_bits, &value_bits, out)
+            push_node_joins(alloc, table, first, width, value, out)
         }
         Tie::Assign { left, right } => push_assign(alloc, table, left, right, out),
         Tie::Supply { name, constant } => match table.find(name) {

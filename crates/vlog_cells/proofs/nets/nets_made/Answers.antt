@@ -12,4 +12,4 @@ returns c =
     c.in_ok-add_implicit.ensures.added
     ∙ (ap (λ n. declared ++ late_nets n table) c.len-from.ensures
     ∙ nets_are c.args.m.now table declared c.requires (c.in_ok-add_items.ensures.added
-    ∙ (ap (λ l. l ++ flat_map wire_nets (wires_in table (flat_map net_decl c.items.result.now))) c.empty-made.ensures ∙ ap (λ items. flat_map wire_nets (wires_in table (flat_map net_decl items))) c.items.ensures)))
+    ∙ (ap (λ l. l ++ flat_map wire_nets (wires_in table (flat_map net_decl c.items.result.now))) c.in_ok-made.ensures ∙ ap (λ items. flat_map wire_nets (wires_in table (flat_map net_decl items))) c.items.ensures)))

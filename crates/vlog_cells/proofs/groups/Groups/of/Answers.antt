@@ -1,7 +1,10 @@
 use Rattle.std.proofs.Common.{ap, refl, sym, ◌∙◌}
 use Rattle.vlog_cells.specs.Groups.{under}
-use Rattle.vlog_cells.proofs.GroupLaws.{under_none, under_some}
+use Rattle.vlog_cells.proofs.GroupLaws.{under_none, under_nothing, under_some}
 use Rattle.vlog_cells.proofs.groups.Groups.of.Goals as goal
+
+pub returns-then-is_empty : goal.returns-then-is_empty
+returns-then-is_empty g c = under_nothing c.self.inside.lists.entries c.args.name.now (c.is_empty.ensures.0 c.if-is_empty.true) ∙ ap (λ s. under s c.args.name.now) c.self.view_is
 
 pub returns-in-None : goal.returns-in-None
 returns-in-None g c = under_none c.args.name.now _ (λ k. refl) c.self.inside.lists.entries (sym c.in-None.ensures.value) ∙ ap (λ s. under s c.args.name.now) c.self.view_is

@@ -1,0 +1,143 @@
+// Joins of nodes in a row with an expression: no list is made of the bits of a name.
+ghost use Rattle.std.specs.Prelude.{◌≡◌, ◌+◌, ◌≤◌, ◌^◌, ◌++◌, All, drop, flat_map, length, IfOk, OnOk, Some};
+ghost use Rattle.vlog_design.specs.Design.{joins_between};
+ghost use Rattle.vlog_design.specs.Exprs.{bits, literals, signal_bits};
+ghost use Rattle.vlog_design.specs.Numbers.{HasDigits, HasNumbers};
+ghost use Rattle.vlog_design.specs.Runs.{node_number, nodes_from};
+
+use crate::bits::{node, push_bits, select_span};
+use crate::joins::{Rest, behind, push_run_joins, push_side_joins};
+use crate::runs::{Run, Runs};
+use crate::signals::Slot;
+use crate::table::Table;
+use net_hier::{Join, Node};
+use nl_base::NoMemory;
+use std::alloc::Global;
+use vlog_values::{Expr, Select};
+
+/// Adds the joins of what is left of a side with a selected part of a port or net, and answers what is left then.
+fn push_selected_joins<'a>(
+    left: Rest<'a>,
+    slot: Slot,
+    select: Select,
+    out: &mut Vec<Join>,
+) -> Result<Rest<'a>, NoMemory>
+    requires { HasNumbers slot }
+    ensures added { OnOk result (out.new.items ≡ out.old.items ++ joins_between left.entry (signal_bits (Some slot) select)) }
+    ensures left { IfOk result (λ rest. rest ≡ drop (length (signal_bits (Some slot) select)) left.entry) }
+{
+    match select_span(slot.range, select) {
+        None => Ok(left),
+        Some(span) => {
+            let run = Run {
+                gap: 0,
+                first: node(slot.place, span.first),
+                count: span.count,
+            };
+            push_run_joins(left, run, out)
+        }
+    }
+}
+
+/// Adds the joins of what is left of a side with the bits of an expression, which are made first.
+fn push_made_joins<'a>(
+    alloc: Global,
+    table: &Table,
+    left: Rest<'a>,
+    expr: &Expr,
+    out: &mut Vec<Join>,
+) -> Result<Rest<'a>, NoMemory>
+    requires digits { All HasDigits (literals expr.now) }
+    requires numbers { All (λ signal. HasNumbers signal.slot) table.now }
+    ensures added { OnOk result (out.new.items ≡ out.old.items ++ joins_between left.entry (bits table.now expr.now)) }
+    ensures left { IfOk result (λ rest. rest ≡ drop (length (bits table.now expr.now)) left.entry) }
+{
+    let mut made = Runs::empty(alloc);
+    push_bits(alloc, table, expr, &mut made)?;
+    push_side_joins(left, &made, out)
+}
+
+/// Adds the joins of what is left of a side with a part of a concatenation, and answers what is left then.
+fn push_part_joins<'a>(
+    alloc: Global,
+    table: &Table,
+    left: Rest<'a>,
+    expr: &Expr,
+    out: &mut Vec<Join>,
+) -> Result<Rest<'a>, NoMemory>
+    requires digits { All HasDigits (literals expr.now) }
+    requires numbers { All (λ signal. HasNumbers signal.slot) table.now }
+    ensures added { OnOk result (out.new.items ≡ out.old.items ++ joins_between left.entry (bits table.now expr.now)) }
+    ensures left { IfOk result (λ rest. rest ≡ drop (length (bits table.now expr.now)) left.entry) }
+{
+    if let Expr::Ref { name, select } = expr {
+        return match table.find(name.bytes()) {
+            None => Ok(left),
+            Some(slot) => push_selected_joins(left, slot, *select, out),
+        };
+    }
+    push_made_joins(alloc, table, left, expr, out)
+}
+
+/// Adds the joins of what is left of a side with the parts of a concatenation, and answers what is left then.
+fn push_parts_joins<'a>(
+    alloc: Global,
+    table: &Table,
+    left: Rest<'a>,
+    parts: &[Expr],
+    out: &mut Vec<Join>,
+) -> Result<Rest<'a>, NoMemory>
+    requires digits { All HasDigits (flat_map literals parts.now) }
+    requires numbers { All (λ signal. HasNumbers signal.slot) table.now }
+    ensures added { OnOk result (out.new.items ≡ out.old.items ++ joins_between left.entry (flat_map (bits table.now) parts.now)) }
+    ensures left { IfOk result (λ rest. rest ≡ drop (length (flat_map (bits table.now) parts.now)) left.entry) }
+{
+    let mut rest = left;
+    for part in parts {
+        rest = push_part_joins(alloc, table, rest, part, out)?;
+    }
+    Ok(rest)
+}
+
+/// Adds the joins of what is left of a side with an expression, and answers what is left then.
+fn push_expr_joins<'a>(
+    alloc: Global,
+    table: &Table,
+    left: Rest<'a>,
+    expr: &Expr,
+    out: &mut Vec<Join>,
+) -> Result<Rest<'a>, NoMemory>
+    requires digits { All HasDigits (literals expr.now) }
+    requires numbers { All (λ signal. HasNumbers signal.slot) table.now }
+    ensures added { OnOk result (out.new.items ≡ out.old.items ++ joins_between left.entry (bits table.now expr.now)) }
+    ensures left { IfOk result (λ rest. rest ≡ drop (length (bits table.now expr.now)) left.entry) }
+{
+    if let Expr::Cat(parts) = expr {
+        return push_parts_joins(alloc, table, left, parts.items(), out);
+    }
+    push_part_joins(alloc, table, left, expr, out)
+}
+
+/// Adds the joins of so many nodes, from the first on, with the bits of an expression.
+pub fn push_node_joins(
+    alloc: Global,
+    table: &Table,
+    first: Node,
+    count: u32,
+    expr: &Expr,
+    out: &mut Vec<Join>,
+) -> Result<(), NoMemory>
+    requires fits { node_number first + count ≤ 2 ^ 32 }
+    requires digits { All HasDigits (literals expr.now) }
+    requires numbers { All (λ signal. HasNumbers signal.slot) table.now }
+    ensures added { OnOk result (out.new.items ≡ out.old.items ++ joins_between (nodes_from first count) (bits table.now expr.now)) }
+{
+    let run = [Run {
+        gap: 0,
+        first,
+        count,
+    }];
+    let left = behind(0, &run);
+    let _rest = push_expr_joins(alloc, table, left, expr, out)?;
+    Ok(())
+}
