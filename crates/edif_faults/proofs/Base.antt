@@ -1,6 +1,6 @@
 -- Live by proper tokens: the parts that all forms are made of.
-use Rattle.std.proofs.Common.{◌≡◌, refl, ℕ, true, List, [], ◌∷◌, Some, Ok, Result, pos, codes, arith}
-use Rattle.grammar.specs.Part.{Glance, gives, sequence, takes}
+use Rattle.std.proofs.Common.{◌≡◌, refl, ℕ, Bool, true, false, cond, List, [], ◌∷◌, Some, Ok, Result, pos, codes, arith}
+use Rattle.grammar.specs.Part.{Glance, takes}
 use Rattle.grammar.specs.Whole.{Terminal, proper, end}
 use Rattle.nl_base.specs.declared.place.Place.{Place}
 use Rattle.nl_base.specs.declared.fault.Reason.{Reason}
@@ -8,6 +8,7 @@ use Rattle.edif_values.specs.Proper.{IsProper}
 use Rattle.edif_tokens.specs.declared.token.Found.{Found}
 use Rattle.edif_values.specs.declared.token.Token.TheVariants.{LeftParen, RightParen, Word, Number, Str}
 use Rattle.readers.specs.Parts.{of_token, at_token, one, if_next, while_next}
+use Rattle.readers.specs.Items.{as_item}
 use Rattle.edif_values.specs.declared.keyword.Keyword.{Keyword}
 use Rattle.edif_values.specs.declared.keyword.Keyword.TheVariants as k
 use Rattle.edif_values.specs.Keywords.{spelling, has}
@@ -23,6 +24,15 @@ use Rattle.grammar_laws.proofs.GoingOn.{IsKeptBy}
 
 abbrev pub Lives : {A : Type 0} → Edif A → Type 0
 Lives p = (table : List Alias) → IsKeptBy CanStand IsToken table p
+
+-- a part as one form of an item, whichever form it is
+pub live_as_item : {A : Type 0} (part : Edif A) → Lives part → Lives (as_item (λ v. v) part)
+live_as_item part live table = (live table, λ _. tt)
+
+-- one part or the other
+pub live_one_of : {A : Type 0} (b : Bool) (p q : Edif A) → Lives p → Lives q → Lives (cond b p q)
+live_one_of true p q h l = h
+live_one_of false p q h l = l
 
 -- no part takes the end of the input
 pub one_takes : {A : Type 0} (f : Found → Result A Reason) (x : Terminal Found Place) (a : A) → of_token f x ≡ Ok a → IsToken x

@@ -1,18 +1,19 @@
 -- Ported: live by proper tokens.
-use Rattle.std.proofs.Common.{◌≡◌, refl, arith, Bool, true, false, cond, List, [], ◌∷◌, pos, codes}
+use Rattle.std.proofs.Common.{◌≡◌, refl, arith, Bool, true, false, List, [], ◌∷◌, pos, codes}
 use Rattle.edif_values.specs.declared.token.Token.TheVariants.{Number}
 use Rattle.edif_faults.proofs.Base.{live_one}
 use Rattle.edif_values.specs.declared.keyword.Keyword.{Keyword}
 use Rattle.edif_values.specs.declared.keyword.Keyword.TheVariants as k
 use Rattle.edif_values.specs.Keywords.{has, same_keyword}
-use Rattle.edif_keywords.specs.Language.{Edif}
+use Rattle.edif_names.specs.Grammar.{property}
+use Rattle.edif_nets.specs.Grammar.{designator, instance, net, port}
 use Rattle.edif_keywords.specs.Reasons as say
 use Rattle.edif_keywords.specs.Grammar.{level}
-use Rattle.edif_faults.proofs.Base.{Lives, live_word, live_closing, live_choice, live_view_type, live_keyword, live_begin, seen, live_items}
+use Rattle.edif_faults.proofs.Base.{Lives, live_as_item, live_one_of, live_word, live_closing, live_choice, live_view_type, live_keyword, live_begin, seen, live_items}
 use Rattle.edif_values.specs.declared.name.NameDef.{NameDef}
 use Rattle.edif_faults.proofs.NamesLive.{live_name, live_scaled, live_property}
 use Rattle.edif_values.specs.declared.note.Note.{Note}
-use Rattle.edif_status.specs.Grammar.{note_keywords, note}
+use Rattle.edif_status.specs.Grammar.{note_keywords, note, status}
 use Rattle.edif_faults.proofs.StatusLive.{live_note, live_status}
 use Rattle.edif_faults.proofs.NetsLive.{live_designator, live_port, live_instance, live_net}
 use Rattle.edif_values.specs.declared.view.InterfaceItem.{InterfaceItem}
@@ -24,11 +25,7 @@ use Rattle.edif_values.specs.declared.library.Scale.{Scale}
 use Rattle.edif_values.specs.declared.library.LibraryItem.{LibraryItem}
 use Rattle.edif_values.specs.declared.file.DesignItem.{DesignItem}
 use Rattle.edif_values.specs.declared.file.FileItem.{FileItem}
-use Rattle.edif_library.specs.Grammar.{cell, cell_item, cell_keywords, cell_note, cell_property, cell_ref, cell_rest, cell_status, cell_type, cell_view, contents_instance, contents_item, contents_keywords, contents_net, contents_note, contents_rest, design, design_item, design_keywords, design_note, design_property, design_rest, design_status, file_body, file_design, file_item, file_keywords, file_library, file_note, file_rest, file_status, has_contents, has_view, interface, interface_designator, interface_item, interface_keywords, interface_note, interface_port, interface_property, interface_rest, kind_words, library, library_cell, library_item, library_keywords, library_note, library_ref, library_rest, library_status, netlist, notes_rest, number_definition, scale, scales_rest, technology, unit, view, view_contents, view_item, view_keywords, view_note, view_property, view_rest, view_status}
-
-live_one_of : {A : Type 0} (b : Bool) (p q : Edif A) → Lives p → Lives q → Lives (cond b p q)
-live_one_of true p q h l = h
-live_one_of false p q h l = l
+use Rattle.edif_library.specs.Grammar.{cell, cell_item, cell_keywords, cell_ref, cell_rest, cell_type, contents_item, contents_keywords, contents_rest, design, design_item, design_keywords, design_rest, file_body, file_item, file_keywords, file_rest, has_contents, has_view, interface, interface_item, interface_keywords, interface_rest, kind_words, library, library_item, library_keywords, library_ref, library_rest, netlist, notes_rest, number_definition, scale, scales_rest, technology, unit, view, view_item, view_keywords, view_rest}
 
 live_level : Lives level
 unfolding level has
@@ -38,24 +35,11 @@ has_note : has note_keywords k.Comment ≡ true
 unfolding has
 has_note = refl
 
-live_interface_port : Lives interface_port
-unfolding interface_port
-live_interface_port table = (live_port table, λ _. tt)
-
-live_interface_property : Lives interface_property
-unfolding interface_property
-live_interface_property table = (live_property table, λ _. tt)
-
-live_interface_designator : Lives interface_designator
-unfolding interface_designator
-live_interface_designator table = (live_designator table, λ _. tt)
-
-live_interface_note : (q : Keyword) → Lives (interface_note q)
-unfolding interface_note
-live_interface_note q table = (live_note q table, λ _. tt)
-
 live_interface_item : (q : Keyword) → Lives (interface_item q)
-live_interface_item q = live_one_of (same_keyword q k.Port) _ _ live_interface_port (live_one_of (same_keyword q k.Property) _ _ live_interface_property (live_one_of (same_keyword q k.Designator) _ _ live_interface_designator (live_interface_note q)))
+live_interface_item q =
+    live_one_of (same_keyword q k.Port) _ _ (live_as_item port live_port)
+    (live_one_of (same_keyword q k.Property) _ _ (live_as_item property live_property)
+    (live_one_of (same_keyword q k.Designator) _ _ (live_as_item designator live_designator) (live_as_item (note q) (live_note q))))
 
 live_interface_rest : (so_far : List InterfaceItem) → Lives (interface_rest so_far)
 unfolding interface_rest has
@@ -65,43 +49,20 @@ pub live_interface : Lives interface
 unfolding interface has
 live_interface table = (live_begin k.Interface (k.Interface ∷ []) refl table, λ _. live_interface_rest [] table)
 
-live_contents_instance : Lives contents_instance
-unfolding contents_instance
-live_contents_instance table = (live_instance table, λ _. tt)
-
-live_contents_net : Lives contents_net
-unfolding contents_net
-live_contents_net table = (live_net table, λ _. tt)
-
-live_contents_note : (q : Keyword) → Lives (contents_note q)
-unfolding contents_note
-live_contents_note q table = (live_note q table, λ _. tt)
-
 live_contents_item : (q : Keyword) → Lives (contents_item q)
-live_contents_item q = live_one_of (same_keyword q k.Instance) _ _ live_contents_instance (live_one_of (same_keyword q k.Net) _ _ live_contents_net (live_contents_note q))
+live_contents_item q =
+    live_one_of (same_keyword q k.Instance) _ _ (live_as_item instance live_instance)
+    (live_one_of (same_keyword q k.Net) _ _ (live_as_item net live_net) (live_as_item (note q) (live_note q)))
 
 live_contents_rest : (so_far : List ContentsItem) → Lives (contents_rest so_far)
 unfolding contents_rest has
 live_contents_rest so_far = live_items (λ _. contents_keywords) contents_item so_far (λ _. live_keyword k.Instance contents_keywords refl) live_contents_item
 
-live_view_contents : Lives view_contents
-unfolding view_contents
-live_view_contents table = (live_contents_rest [] table, λ _. tt)
-
-live_view_property : Lives view_property
-unfolding view_property
-live_view_property table = (live_property table, λ _. tt)
-
-live_view_status : Lives view_status
-unfolding view_status
-live_view_status table = (live_status table, λ _. tt)
-
-live_view_note : (q : Keyword) → Lives (view_note q)
-unfolding view_note
-live_view_note q table = (live_note q table, λ _. tt)
-
 live_view_item : (q : Keyword) → Lives (view_item q)
-live_view_item q = live_one_of (same_keyword q k.Contents) _ _ live_view_contents (live_one_of (same_keyword q k.Property) _ _ live_view_property (live_one_of (same_keyword q k.Status) _ _ live_view_status (live_view_note q)))
+live_view_item q =
+    live_one_of (same_keyword q k.Contents) _ _ (live_as_item (contents_rest []) (live_contents_rest []))
+    (live_one_of (same_keyword q k.Property) _ _ (live_as_item property live_property)
+    (live_one_of (same_keyword q k.Status) _ _ (live_as_item status live_status) (live_as_item (note q) (live_note q))))
 
 has_view_keyword : (b : Bool) → has (view_keywords b) k.Property ≡ true
 unfolding has view_keywords
@@ -124,24 +85,11 @@ pub live_cell_type : Lives cell_type
 unfolding cell_type has say.meant_by
 live_cell_type table = (live_begin k.CellType (k.CellType ∷ []) refl table, λ _. (live_choice kind_words (codes "GENERIC") kinds.Generic refl (refl, omega arith) table, λ _. (live_closing table, λ _. tt)))
 
-live_cell_view : Lives cell_view
-unfolding cell_view
-live_cell_view table = (live_view table, λ _. tt)
-
-live_cell_property : Lives cell_property
-unfolding cell_property
-live_cell_property table = (live_property table, λ _. tt)
-
-live_cell_status : Lives cell_status
-unfolding cell_status
-live_cell_status table = (live_status table, λ _. tt)
-
-live_cell_note : (q : Keyword) → Lives (cell_note q)
-unfolding cell_note
-live_cell_note q table = (live_note q table, λ _. tt)
-
 live_cell_item : (q : Keyword) → Lives (cell_item q)
-live_cell_item q = live_one_of (same_keyword q k.View) _ _ live_cell_view (live_one_of (same_keyword q k.Property) _ _ live_cell_property (live_one_of (same_keyword q k.Status) _ _ live_cell_status (live_cell_note q)))
+live_cell_item q =
+    live_one_of (same_keyword q k.View) _ _ (live_as_item view live_view)
+    (live_one_of (same_keyword q k.Property) _ _ (live_as_item property live_property)
+    (live_one_of (same_keyword q k.Status) _ _ (live_as_item status live_status) (live_as_item (note q) (live_note q))))
 
 has_cell_keyword : (b : Bool) → has (cell_keywords b) k.Property ≡ true
 unfolding has cell_keywords
@@ -180,20 +128,10 @@ pub live_technology : Lives technology
 unfolding technology has
 live_technology table = (live_begin k.Technology (k.Technology ∷ []) refl table, λ _. (live_number_definition table, λ _. (live_notes_rest [] table, λ _. tt)))
 
-live_library_cell : Lives library_cell
-unfolding library_cell
-live_library_cell table = (live_cell table, λ _. tt)
-
-live_library_status : Lives library_status
-unfolding library_status
-live_library_status table = (live_status table, λ _. tt)
-
-live_library_note : (q : Keyword) → Lives (library_note q)
-unfolding library_note
-live_library_note q table = (live_note q table, λ _. tt)
-
 live_library_item : (q : Keyword) → Lives (library_item q)
-live_library_item q = live_one_of (same_keyword q k.Cell) _ _ live_library_cell (live_one_of (same_keyword q k.Status) _ _ live_library_status (live_library_note q))
+live_library_item q =
+    live_one_of (same_keyword q k.Cell) _ _ (live_as_item cell live_cell)
+    (live_one_of (same_keyword q k.Status) _ _ (live_as_item status live_status) (live_as_item (note q) (live_note q)))
 
 live_library_rest : (so_far : List LibraryItem) → Lives (library_rest so_far)
 unfolding library_rest has
@@ -211,20 +149,10 @@ pub live_cell_ref : Lives cell_ref
 unfolding cell_ref has
 live_cell_ref table = (live_begin k.CellRef (k.CellRef ∷ []) refl table, λ _. (live_word table, λ _. (live_library_ref table, λ _. (live_closing table, λ _. tt))))
 
-live_design_property : Lives design_property
-unfolding design_property
-live_design_property table = (live_property table, λ _. tt)
-
-live_design_status : Lives design_status
-unfolding design_status
-live_design_status table = (live_status table, λ _. tt)
-
-live_design_note : (q : Keyword) → Lives (design_note q)
-unfolding design_note
-live_design_note q table = (live_note q table, λ _. tt)
-
 live_design_item : (q : Keyword) → Lives (design_item q)
-live_design_item q = live_one_of (same_keyword q k.Property) _ _ live_design_property (live_one_of (same_keyword q k.Status) _ _ live_design_status (live_design_note q))
+live_design_item q =
+    live_one_of (same_keyword q k.Property) _ _ (live_as_item property live_property)
+    (live_one_of (same_keyword q k.Status) _ _ (live_as_item status live_status) (live_as_item (note q) (live_note q)))
 
 live_design_rest : (so_far : List DesignItem) → Lives (design_rest so_far)
 unfolding design_rest has
@@ -234,24 +162,12 @@ pub live_design : Lives design
 unfolding design
 live_design table = (live_name table, λ _. (live_cell_ref table, λ _. (live_design_rest [] table, λ _. tt)))
 
-live_file_library : (e : Bool) → Lives (file_library e)
-unfolding file_library
-live_file_library e table = (live_library e table, λ _. tt)
-
-live_file_design : Lives file_design
-unfolding file_design
-live_file_design table = (live_design table, λ _. tt)
-
-live_file_status : Lives file_status
-unfolding file_status
-live_file_status table = (live_status table, λ _. tt)
-
-live_file_note : (q : Keyword) → Lives (file_note q)
-unfolding file_note
-live_file_note q table = (live_note q table, λ _. tt)
-
 live_file_item : (q : Keyword) → Lives (file_item q)
-live_file_item q = live_one_of (same_keyword q k.Library) _ _ (live_file_library false) (live_one_of (same_keyword q k.External) _ _ (live_file_library true) (live_one_of (same_keyword q k.Design) _ _ live_file_design (live_one_of (same_keyword q k.Status) _ _ live_file_status (live_file_note q))))
+live_file_item q =
+    live_one_of (same_keyword q k.Library) _ _ (live_as_item (library false) (live_library false))
+    (live_one_of (same_keyword q k.External) _ _ (live_as_item (library true) (live_library true))
+    (live_one_of (same_keyword q k.Design) _ _ (live_as_item design live_design)
+    (live_one_of (same_keyword q k.Status) _ _ (live_as_item status live_status) (live_as_item (note q) (live_note q)))))
 
 live_file_rest : (so_far : List FileItem) → Lives (file_rest so_far)
 unfolding file_rest has

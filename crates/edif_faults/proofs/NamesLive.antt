@@ -1,20 +1,17 @@
 -- Ported: live by proper tokens.
-use Rattle.std.proofs.Common.{refl, Bool, true, false, cond, List, [], ◌∷◌}
+use Rattle.std.proofs.Common.{refl, Bool, true, false, List, [], ◌∷◌}
 use Rattle.grammar.specs.Part.{sequence}
 use Rattle.edif_faults.proofs.Base.{live_if}
 use Rattle.edif_values.specs.declared.keyword.Keyword.{Keyword}
 use Rattle.edif_values.specs.declared.keyword.Keyword.TheVariants as k
 use Rattle.edif_values.specs.Keywords.{has, same_keyword}
-use Rattle.edif_keywords.specs.Language.{Edif}
 use Rattle.edif_keywords.specs.Reasons as say
-use Rattle.edif_keywords.specs.Grammar.{keyword, form_or}
-use Rattle.edif_faults.proofs.Base.{Lives, live_word, live_string, live_integer, live_closing, live_keyword, live_begin, live_items, live_comment}
+use Rattle.edif_keywords.specs.Grammar.{keyword, form_or, comment}
+use Rattle.edif_faults.proofs.Base.{Lives, live_as_item, live_one_of, live_word, live_string, live_integer, live_closing, live_keyword, live_begin, live_items, live_comment}
 use Rattle.edif_values.specs.declared.property.PropTail.{PropTail}
-use Rattle.edif_names.specs.Grammar.{renamed, plain, name, array, renamed_port, plain_port, port_form, port_name, exponential, whole, scaled, string_value, integer_value, number_value, boolean_value, value_form, value, owner, remark, tail_form, tail_item, tails, property}
-
-live_one_of : {A : Type 0} (b : Bool) (p q : Edif A) → Lives p → Lives q → Lives (cond b p q)
-live_one_of true p q h l = h
-live_one_of false p q h l = l
+use Rattle.readers.specs.Items.{as_item}
+use Rattle.edif_values.specs.declared.name.PortName.TheVariants.{Single}
+use Rattle.edif_names.specs.Grammar.{renamed, plain, name, array, port_form, port_name, exponential, whole, scaled, string_value, integer_value, number_value, boolean_value, value_form, value, owner, tail_form, tail_item, tails, property}
 
 live_renamed : Lives renamed
 unfolding renamed
@@ -33,19 +30,14 @@ unfolding array
 live_array table = (live_name table, λ _. (live_integer table, λ _. (live_closing table, λ _. tt)))
 
 live_port_form : (b : Bool) → Lives (port_form b)
-unfolding renamed_port
 live_port_form true table = live_array table
 live_port_form false table = (live_renamed table, λ _. tt)
-
-live_plain_port : Lives plain_port
-unfolding plain_port
-live_plain_port table = (live_plain table, λ _. tt)
 
 pub live_port_name : Lives port_name
 unfolding port_name form_or has
 live_port_name table =
-    live_if (λ _ x. say.at_opening x.token) (λ _. sequence (keyword (k.Rename ∷ k.Array ∷ [])) (λ q. port_form (same_keyword q k.Array))) plain_port table
-    (λ _. (live_keyword k.Rename (k.Rename ∷ k.Array ∷ []) refl table, λ q. live_port_form (same_keyword q k.Array) table)) (live_plain_port table)
+    live_if (λ _ x. say.at_opening x.token) (λ _. sequence (keyword (k.Rename ∷ k.Array ∷ [])) (λ q. port_form (same_keyword q k.Array))) (as_item Single plain) table
+    (λ _. (live_keyword k.Rename (k.Rename ∷ k.Array ∷ []) refl table, λ q. live_port_form (same_keyword q k.Array) table)) ((live_as_item plain live_plain) table)
 
 live_exponential : Lives exponential
 unfolding exponential
@@ -90,13 +82,9 @@ live_owner : Lives owner
 unfolding owner
 live_owner table = (live_string table, λ _. (live_closing table, λ _. tt))
 
-live_remark : Lives remark
-unfolding remark
-live_remark table = (live_comment table, λ _. tt)
-
 live_tail_form : (q : Keyword) → Lives (tail_form q)
 unfolding tail_form
-live_tail_form q = live_one_of (same_keyword q k.Owner) owner remark live_owner live_remark
+live_tail_form q = live_one_of (same_keyword q k.Owner) owner _ live_owner (live_as_item comment live_comment)
 
 pub live_tail_item : Lives tail_item
 unfolding tail_item has

@@ -1,27 +1,24 @@
 -- Ported: live by proper tokens.
-use Rattle.std.proofs.Common.{◌≡◌, refl, arith, Bool, true, false, cond, List, [], ◌∷◌, None, codes}
+use Rattle.std.proofs.Common.{◌≡◌, refl, arith, Bool, true, false, List, [], ◌∷◌, None, codes}
 use Rattle.grammar.specs.Part.{gives, sequence}
 use Rattle.nl_base.specs.declared.value.Dir.TheVariants as dirs
 use Rattle.edif_faults.proofs.Base.{live_if}
 use Rattle.edif_values.specs.declared.keyword.Keyword.{Keyword}
 use Rattle.edif_values.specs.declared.keyword.Keyword.TheVariants as k
 use Rattle.edif_values.specs.Keywords.{has, same_keyword}
-use Rattle.edif_keywords.specs.Language.{Edif}
+use Rattle.edif_names.specs.Grammar.{property}
+use Rattle.edif_status.specs.Grammar.{note}
 use Rattle.edif_keywords.specs.Reasons as say
 use Rattle.edif_keywords.specs.Reasons.{meant_by}
 use Rattle.edif_keywords.specs.Grammar.{closing, keyword, form_or}
-use Rattle.edif_faults.proofs.Base.{Lives, live_word, live_string, live_integer, live_closing, live_choice, live_keyword, live_begin, live_items}
+use Rattle.edif_faults.proofs.Base.{Lives, live_as_item, live_one_of, live_word, live_string, live_integer, live_closing, live_choice, live_keyword, live_begin, live_items}
 use Rattle.edif_faults.proofs.NamesLive.{live_name, live_port_name, live_property}
 use Rattle.edif_faults.proofs.StatusLive.{live_note}
 use Rattle.edif_values.specs.declared.port.PortItem.{PortItem}
 use Rattle.edif_values.specs.declared.instance.InstanceItem.{InstanceItem}
 use Rattle.edif_values.specs.declared.net.PortRef.{PortRef}
 use Rattle.edif_values.specs.declared.net.NetItem.{NetItem}
-use Rattle.edif_nets.specs.Grammar.{designator, direction_words, direction, port_property, port_designator, port_note, port_item, has_direction, port_keywords, port_rest, port, library_named, no_library, maybe_library, cell_ref, view_ref, instance_property, instance_designator, instance_note, instance_item, instance_keywords, instance_rest, instance, member, whole_port, port_or_member, instance_named, no_instance, maybe_instance, port_ref, joined_keywords, joined_rest, joined, net_property, net_note, net_item, net_keywords, net_rest, net}
-
-live_one_of : {A : Type 0} (b : Bool) (p q : Edif A) → Lives p → Lives q → Lives (cond b p q)
-live_one_of true p q h l = h
-live_one_of false p q h l = l
+use Rattle.edif_nets.specs.Grammar.{designator, direction_words, direction, port_item, has_direction, port_keywords, port_rest, port, library_named, no_library, maybe_library, cell_ref, view_ref, instance_item, instance_keywords, instance_rest, instance, member, whole_port, port_or_member, instance_named, no_instance, maybe_instance, port_ref, joined_keywords, joined_rest, joined, net_item, net_keywords, net_rest, net}
 
 pub live_designator : Lives designator
 unfolding designator
@@ -31,23 +28,12 @@ live_direction : Lives direction
 unfolding direction meant_by
 live_direction table = (live_choice direction_words (codes "INPUT") dirs.Input refl (refl, omega arith) table, λ _. (live_closing table, λ _. tt))
 
-live_port_property : Lives port_property
-unfolding port_property
-live_port_property table = (live_property table, λ _. tt)
-
-live_port_designator : Lives port_designator
-unfolding port_designator
-live_port_designator table = (live_designator table, λ _. tt)
-
-live_port_note : (q : Keyword) → Lives (port_note q)
-unfolding port_note
-live_port_note q table = (live_note q table, λ _. tt)
-
 live_port_item : (q : Keyword) → Lives (port_item q)
 unfolding port_item
 live_port_item q =
     live_one_of (same_keyword q k.Direction) direction _ live_direction
-    (live_one_of (same_keyword q k.Property) port_property _ live_port_property (live_one_of (same_keyword q k.Designator) port_designator (port_note q) live_port_designator (live_port_note q)))
+    (live_one_of (same_keyword q k.Property) _ _ (live_as_item property live_property)
+    (live_one_of (same_keyword q k.Designator) _ _ (live_as_item designator live_designator) (live_as_item (note q) (live_note q))))
 
 has_property : (b : Bool) → has (port_keywords b) k.Property ≡ true
 unfolding has port_keywords
@@ -80,23 +66,11 @@ live_view_ref : Lives view_ref
 unfolding view_ref has
 live_view_ref table = (live_begin k.ViewRef (k.ViewRef ∷ []) refl table, λ _. (live_word table, λ _. (live_cell_ref table, λ _. (live_closing table, λ _. tt))))
 
-live_instance_property : Lives instance_property
-unfolding instance_property
-live_instance_property table = (live_property table, λ _. tt)
-
-live_instance_designator : Lives instance_designator
-unfolding instance_designator
-live_instance_designator table = (live_designator table, λ _. tt)
-
-live_instance_note : (q : Keyword) → Lives (instance_note q)
-unfolding instance_note
-live_instance_note q table = (live_note q table, λ _. tt)
-
 live_instance_item : (q : Keyword) → Lives (instance_item q)
 unfolding instance_item
 live_instance_item q =
-    live_one_of (same_keyword q k.Property) instance_property _ live_instance_property
-    (live_one_of (same_keyword q k.Designator) instance_designator (instance_note q) live_instance_designator (live_instance_note q))
+    live_one_of (same_keyword q k.Property) _ _ (live_as_item property live_property)
+    (live_one_of (same_keyword q k.Designator) _ _ (live_as_item designator live_designator) (live_as_item (note q) (live_note q)))
 
 live_instance_rest : (so_far : List InstanceItem) → Lives (instance_rest so_far)
 unfolding instance_rest has
@@ -142,17 +116,9 @@ live_joined : Lives joined
 unfolding joined has
 live_joined table = (live_begin k.Joined (k.Joined ∷ []) refl table, λ _. live_joined_rest [] table)
 
-live_net_property : Lives net_property
-unfolding net_property
-live_net_property table = (live_property table, λ _. tt)
-
-live_net_note : (q : Keyword) → Lives (net_note q)
-unfolding net_note
-live_net_note q table = (live_note q table, λ _. tt)
-
 live_net_item : (q : Keyword) → Lives (net_item q)
 unfolding net_item
-live_net_item q = live_one_of (same_keyword q k.Property) net_property (net_note q) live_net_property (live_net_note q)
+live_net_item q = live_one_of (same_keyword q k.Property) _ _ (live_as_item property live_property) (live_as_item (note q) (live_note q))
 
 live_net_rest : (so_far : List NetItem) → Lives (net_rest so_far)
 unfolding net_rest has

@@ -1,5 +1,5 @@
 -- Ported: live by proper tokens.
-use Rattle.std.proofs.Common.{refl, ℕ, zero, suc, Bool, true, false, cond, List, [], ◌∷◌, None, ℤ}
+use Rattle.std.proofs.Common.{refl, ℕ, zero, suc, List, [], ◌∷◌, None, ℤ}
 use Rattle.grammar.specs.Part.{gives, sequence}
 use Rattle.edif_faults.proofs.Base.{live_if, live_while}
 use Rattle.edif_values.specs.declared.keyword.Keyword.{Keyword}
@@ -7,14 +7,10 @@ use Rattle.edif_values.specs.declared.keyword.Keyword.TheVariants as k
 use Rattle.edif_values.specs.Keywords.{has, same_keyword}
 use Rattle.edif_keywords.specs.Language.{Edif}
 use Rattle.edif_keywords.specs.Reasons as say
-use Rattle.edif_keywords.specs.Grammar.{closing, keyword, form_or}
-use Rattle.edif_faults.proofs.Base.{Lives, live_word, live_string, live_integer, live_closing, live_keyword, live_begin, live_items, live_comment}
+use Rattle.edif_keywords.specs.Grammar.{closing, keyword, form_or, comment}
+use Rattle.edif_faults.proofs.Base.{Lives, live_as_item, live_one_of, live_word, live_string, live_integer, live_closing, live_keyword, live_begin, live_items, live_comment}
 use Rattle.edif_values.specs.declared.user.UserTree.{UserTree}
-use Rattle.edif_status.specs.Grammar.{TreeStart, Whole, Opens, tree_of, tree_rest, trees_by, trees, user, remark, user_note, note, clock, stamp, version_text, no_version, maybe_version, author, program, data_origin, written_note, written_item, written_keywords, written_rest, written, status_written, status_note, status_item, status_keywords, status_rest, status}
-
-live_one_of : {A : Type 0} (b : Bool) (p q : Edif A) → Lives p → Lives q → Lives (cond b p q)
-live_one_of true p q h l = h
-live_one_of false p q h l = l
+use Rattle.edif_status.specs.Grammar.{TreeStart, Whole, Opens, tree_of, tree_rest, trees_by, trees, user, note, clock, stamp, version_text, no_version, maybe_version, author, program, data_origin, written_item, written_keywords, written_rest, written, status_item, status_keywords, status_rest, status}
 
 live_rest : (inner : Edif (List UserTree)) (c : TreeStart) → Lives inner → Lives (tree_rest inner c)
 live_rest inner (Whole t) h table = tt
@@ -33,16 +29,8 @@ pub live_user : Lives user
 unfolding user
 live_user table = (live_word table, λ _. (live_trees 64 [] table, λ _. tt))
 
-live_remark : Lives remark
-unfolding remark
-live_remark table = (live_comment table, λ _. tt)
-
-live_user_note : Lives user_note
-unfolding user_note
-live_user_note table = (live_user table, λ _. tt)
-
 pub live_note : (q : Keyword) → Lives (note q)
-live_note q = live_one_of (same_keyword q k.Comment) remark user_note live_remark live_user_note
+live_note q = live_one_of (same_keyword q k.Comment) _ _ (live_as_item comment live_comment) (live_as_item user live_user)
 
 live_clock : (year month day : ℤ) → Lives (clock year month day)
 unfolding clock
@@ -74,14 +62,11 @@ live_data_origin : Lives data_origin
 unfolding data_origin
 live_data_origin table = (live_string table, λ _. (live_maybe_version table, λ _. tt))
 
-live_written_note : (q : Keyword) → Lives (written_note q)
-unfolding written_note
-live_written_note q table = (live_note q table, λ _. tt)
-
 live_written_item : (q : Keyword) → Lives (written_item q)
 live_written_item q =
     live_one_of (same_keyword q k.Author) author _ live_author
-    (live_one_of (same_keyword q k.Program) program _ live_program (live_one_of (same_keyword q k.DataOrigin) data_origin (written_note q) live_data_origin (live_written_note q)))
+    (live_one_of (same_keyword q k.Program) program _ live_program
+    (live_one_of (same_keyword q k.DataOrigin) data_origin _ live_data_origin (live_as_item (note q) (live_note q))))
 
 live_written_rest : (so_far : List _) → Lives (written_rest so_far)
 unfolding written_rest has
@@ -91,16 +76,8 @@ pub live_written : Lives written
 unfolding written has
 live_written table = (live_begin k.TimeStamp (k.TimeStamp ∷ []) refl table, λ _. (live_stamp table, λ _. (live_written_rest [] table, λ _. tt)))
 
-live_status_written : Lives status_written
-unfolding status_written
-live_status_written table = (live_written table, λ _. tt)
-
-live_status_note : (q : Keyword) → Lives (status_note q)
-unfolding status_note
-live_status_note q table = (live_note q table, λ _. tt)
-
 live_status_item : (q : Keyword) → Lives (status_item q)
-live_status_item q = live_one_of (same_keyword q k.Written) status_written (status_note q) live_status_written (live_status_note q)
+live_status_item q = live_one_of (same_keyword q k.Written) _ _ (live_as_item written live_written) (live_as_item (note q) (live_note q))
 
 live_status_rest : (so_far : List _) → Lives (status_rest so_far)
 unfolding status_rest has

@@ -2,6 +2,9 @@
 use Rattle.std.proofs.Common.{◌≡◌, refl, Bool, true, false, cond, List, [], ◌∷◌, pos, codes}
 use Rattle.edif_values.specs.declared.token.Token.TheVariants.{Number}
 use Rattle.grammar.specs.Part.{under}
+use Rattle.readers.proofs.Items.{live_as_item, closed_as_item, live_one_of, closed_one_of}
+use Rattle.edif_names.specs.Grammar.{property}
+use Rattle.edif_nets.specs.Grammar.{designator, instance, net, port}
 use Rattle.readers.proofs.Shapes.{live_one, Shut, shut_gives, shut_one, shut_then}
 use Rattle.edif_values.specs.declared.keyword.Keyword.{Keyword}
 use Rattle.edif_values.specs.declared.keyword.Keyword.TheVariants as k
@@ -12,9 +15,9 @@ use Rattle.edif_keywords.specs.Reasons as say
 use Rattle.edif_keywords.specs.Grammar.{word, choice, view_type, level}
 use Rattle.edif_keywords.proofs.Live.{Lives, Closes, live_word, live_closing, live_choice, live_view_type, live_keyword, live_begin, closed_closing, closed_begin, seen, live_items, closed_items, live_header, closed_header}
 use Rattle.edif_values.specs.declared.name.NameDef.{NameDef}
-use Rattle.edif_names.proofs.Live.{live_name, closed_name, live_scaled, closed_scaled, live_property, closed_property}
+use Rattle.edif_names.proofs.Live.{closed_word, live_name, closed_name, live_scaled, closed_scaled, live_property, closed_property}
 use Rattle.edif_values.specs.declared.note.Note.{Note}
-use Rattle.edif_status.specs.Grammar.{note_keywords, note}
+use Rattle.edif_status.specs.Grammar.{note_keywords, note, status}
 use Rattle.edif_status.proofs.Live.{live_note, closed_note, live_status, closed_status}
 use Rattle.edif_nets.proofs.Live.{live_designator, closed_designator, live_port, closed_port, live_instance, closed_instance, live_net, closed_net}
 use Rattle.edif_values.specs.declared.view.InterfaceItem.{InterfaceItem}
@@ -26,21 +29,9 @@ use Rattle.edif_values.specs.declared.library.Scale.{Scale}
 use Rattle.edif_values.specs.declared.library.LibraryItem.{LibraryItem}
 use Rattle.edif_values.specs.declared.file.DesignItem.{DesignItem}
 use Rattle.edif_values.specs.declared.file.FileItem.{FileItem}
-use Rattle.edif_library.specs.Grammar.{cell, cell_item, cell_keywords, cell_note, cell_property, cell_ref, cell_rest, cell_status, cell_type, cell_view, contents_instance, contents_item, contents_keywords, contents_net, contents_note, contents_rest, design, design_item, design_keywords, design_note, design_property, design_rest, design_status, file, file_body, file_design, file_item, file_keywords, file_library, file_note, file_rest, file_status, has_contents, has_view, interface, interface_designator, interface_item, interface_keywords, interface_note, interface_port, interface_property, interface_rest, kind_words, library, library_cell, library_item, library_keywords, library_note, library_ref, library_rest, library_status, netlist, notes_rest, number_definition, scale, scales_rest, technology, unit, view, view_contents, view_item, view_keywords, view_note, view_property, view_rest, view_status}
-
--- one part or the other
-live_one_of : {A : Type 0} (b : Bool) (p q : Edif A) → Lives p → Lives q → Lives (cond b p q)
-live_one_of true p q h l = h
-live_one_of false p q h l = l
-
-closed_one_of : {A : Type 0} (b : Bool) (p q : Edif A) → Closes p → Closes q → Closes (cond b p q)
-closed_one_of true p q h l = h
-closed_one_of false p q h l = l
+use Rattle.edif_library.specs.Grammar.{cell, cell_item, cell_keywords, cell_ref, cell_rest, cell_type, contents_item, contents_keywords, contents_rest, design, design_item, design_keywords, design_rest, file, file_body, file_item, file_keywords, file_rest, has_contents, has_view, interface, interface_item, interface_keywords, interface_rest, kind_words, library, library_item, library_keywords, library_ref, library_rest, netlist, notes_rest, number_definition, scale, scales_rest, technology, unit, view, view_item, view_keywords, view_rest}
 
 -- ---- parts of the crates below
-
-closed_word : Closes word
-closed_word table = shut_one table (λ _ x. say.word_of x.token)
 
 -- what is read under other aliases
 shut_under : {A : Type 0} {p : Edif A} (table other : List Alias) → Shut other p → Shut table (under other p)
@@ -67,43 +58,17 @@ has_note = refl
 
 -- ---- interfaces and contents
 
-live_interface_port : Lives interface_port
-unfolding interface_port
-live_interface_port table = (live_port table, λ _. tt)
-
-closed_interface_port : Closes interface_port
-unfolding interface_port
-closed_interface_port table = shut_then (closed_port table) (λ _. shut_gives table _)
-
-live_interface_property : Lives interface_property
-unfolding interface_property
-live_interface_property table = (live_property table, λ _. tt)
-
-closed_interface_property : Closes interface_property
-unfolding interface_property
-closed_interface_property table = shut_then (closed_property table) (λ _. shut_gives table _)
-
-live_interface_designator : Lives interface_designator
-unfolding interface_designator
-live_interface_designator table = (live_designator table, λ _. tt)
-
-closed_interface_designator : Closes interface_designator
-unfolding interface_designator
-closed_interface_designator table = shut_then (closed_designator table) (λ _. shut_gives table _)
-
-live_interface_note : (q : Keyword) → Lives (interface_note q)
-unfolding interface_note
-live_interface_note q table = (live_note q table, λ _. tt)
-
-closed_interface_note : (q : Keyword) → Closes (interface_note q)
-unfolding interface_note
-closed_interface_note q table = shut_then (closed_note q table) (λ _. shut_gives table _)
-
 live_interface_item : (q : Keyword) → Lives (interface_item q)
-live_interface_item q = live_one_of (same_keyword q k.Port) _ _ live_interface_port (live_one_of (same_keyword q k.Property) _ _ live_interface_property (live_one_of (same_keyword q k.Designator) _ _ live_interface_designator (live_interface_note q)))
+live_interface_item q =
+    live_one_of (same_keyword q k.Port) _ _ (live_as_item port live_port)
+    (live_one_of (same_keyword q k.Property) _ _ (live_as_item property live_property)
+    (live_one_of (same_keyword q k.Designator) _ _ (live_as_item designator live_designator) (live_as_item (note q) (live_note q))))
 
 closed_interface_item : (q : Keyword) → Closes (interface_item q)
-closed_interface_item q = closed_one_of (same_keyword q k.Port) _ _ closed_interface_port (closed_one_of (same_keyword q k.Property) _ _ closed_interface_property (closed_one_of (same_keyword q k.Designator) _ _ closed_interface_designator (closed_interface_note q)))
+closed_interface_item q =
+    closed_one_of (same_keyword q k.Port) _ _ (closed_as_item closed_port)
+    (closed_one_of (same_keyword q k.Property) _ _ (closed_as_item closed_property)
+    (closed_one_of (same_keyword q k.Designator) _ _ (closed_as_item closed_designator) (closed_as_item (closed_note q))))
 
 live_interface_rest : (so_far : List InterfaceItem) → Lives (interface_rest so_far)
 unfolding interface_rest has
@@ -121,35 +86,15 @@ pub closed_interface : Closes interface
 unfolding interface
 closed_interface table = shut_then (closed_begin (k.Interface ∷ []) table) (λ _. closed_interface_rest [] table)
 
-live_contents_instance : Lives contents_instance
-unfolding contents_instance
-live_contents_instance table = (live_instance table, λ _. tt)
-
-closed_contents_instance : Closes contents_instance
-unfolding contents_instance
-closed_contents_instance table = shut_then (closed_instance table) (λ _. shut_gives table _)
-
-live_contents_net : Lives contents_net
-unfolding contents_net
-live_contents_net table = (live_net table, λ _. tt)
-
-closed_contents_net : Closes contents_net
-unfolding contents_net
-closed_contents_net table = shut_then (closed_net table) (λ _. shut_gives table _)
-
-live_contents_note : (q : Keyword) → Lives (contents_note q)
-unfolding contents_note
-live_contents_note q table = (live_note q table, λ _. tt)
-
-closed_contents_note : (q : Keyword) → Closes (contents_note q)
-unfolding contents_note
-closed_contents_note q table = shut_then (closed_note q table) (λ _. shut_gives table _)
-
 live_contents_item : (q : Keyword) → Lives (contents_item q)
-live_contents_item q = live_one_of (same_keyword q k.Instance) _ _ live_contents_instance (live_one_of (same_keyword q k.Net) _ _ live_contents_net (live_contents_note q))
+live_contents_item q =
+    live_one_of (same_keyword q k.Instance) _ _ (live_as_item instance live_instance)
+    (live_one_of (same_keyword q k.Net) _ _ (live_as_item net live_net) (live_as_item (note q) (live_note q)))
 
 closed_contents_item : (q : Keyword) → Closes (contents_item q)
-closed_contents_item q = closed_one_of (same_keyword q k.Instance) _ _ closed_contents_instance (closed_one_of (same_keyword q k.Net) _ _ closed_contents_net (closed_contents_note q))
+closed_contents_item q =
+    closed_one_of (same_keyword q k.Instance) _ _ (closed_as_item closed_instance)
+    (closed_one_of (same_keyword q k.Net) _ _ (closed_as_item closed_net) (closed_as_item (closed_note q)))
 
 live_contents_rest : (so_far : List ContentsItem) → Lives (contents_rest so_far)
 unfolding contents_rest has
@@ -161,43 +106,17 @@ closed_contents_rest so_far = closed_items (λ _. contents_keywords) contents_it
 
 -- ---- views
 
-live_view_contents : Lives view_contents
-unfolding view_contents
-live_view_contents table = (live_contents_rest [] table, λ _. tt)
-
-closed_view_contents : Closes view_contents
-unfolding view_contents
-closed_view_contents table = shut_then (closed_contents_rest [] table) (λ _. shut_gives table _)
-
-live_view_property : Lives view_property
-unfolding view_property
-live_view_property table = (live_property table, λ _. tt)
-
-closed_view_property : Closes view_property
-unfolding view_property
-closed_view_property table = shut_then (closed_property table) (λ _. shut_gives table _)
-
-live_view_status : Lives view_status
-unfolding view_status
-live_view_status table = (live_status table, λ _. tt)
-
-closed_view_status : Closes view_status
-unfolding view_status
-closed_view_status table = shut_then (closed_status table) (λ _. shut_gives table _)
-
-live_view_note : (q : Keyword) → Lives (view_note q)
-unfolding view_note
-live_view_note q table = (live_note q table, λ _. tt)
-
-closed_view_note : (q : Keyword) → Closes (view_note q)
-unfolding view_note
-closed_view_note q table = shut_then (closed_note q table) (λ _. shut_gives table _)
-
 live_view_item : (q : Keyword) → Lives (view_item q)
-live_view_item q = live_one_of (same_keyword q k.Contents) _ _ live_view_contents (live_one_of (same_keyword q k.Property) _ _ live_view_property (live_one_of (same_keyword q k.Status) _ _ live_view_status (live_view_note q)))
+live_view_item q =
+    live_one_of (same_keyword q k.Contents) _ _ (live_as_item (contents_rest []) (live_contents_rest []))
+    (live_one_of (same_keyword q k.Property) _ _ (live_as_item property live_property)
+    (live_one_of (same_keyword q k.Status) _ _ (live_as_item status live_status) (live_as_item (note q) (live_note q))))
 
 closed_view_item : (q : Keyword) → Closes (view_item q)
-closed_view_item q = closed_one_of (same_keyword q k.Contents) _ _ closed_view_contents (closed_one_of (same_keyword q k.Property) _ _ closed_view_property (closed_one_of (same_keyword q k.Status) _ _ closed_view_status (closed_view_note q)))
+closed_view_item q =
+    closed_one_of (same_keyword q k.Contents) _ _ (closed_as_item (closed_contents_rest []))
+    (closed_one_of (same_keyword q k.Property) _ _ (closed_as_item closed_property)
+    (closed_one_of (same_keyword q k.Status) _ _ (closed_as_item closed_status) (closed_as_item (closed_note q))))
 
 -- a property may stand in a view, with contents or without
 has_view_keyword : (b : Bool) → has (view_keywords b) k.Property ≡ true
@@ -239,43 +158,17 @@ pub closed_cell_type : Closes cell_type
 unfolding cell_type
 closed_cell_type table = shut_then (closed_begin (k.CellType ∷ []) table) (λ _. shut_then (closed_choice_of_kinds table) (λ _. shut_then (closed_closing table) (λ _. shut_gives table _)))
 
-live_cell_view : Lives cell_view
-unfolding cell_view
-live_cell_view table = (live_view table, λ _. tt)
-
-closed_cell_view : Closes cell_view
-unfolding cell_view
-closed_cell_view table = shut_then (closed_view table) (λ _. shut_gives table _)
-
-live_cell_property : Lives cell_property
-unfolding cell_property
-live_cell_property table = (live_property table, λ _. tt)
-
-closed_cell_property : Closes cell_property
-unfolding cell_property
-closed_cell_property table = shut_then (closed_property table) (λ _. shut_gives table _)
-
-live_cell_status : Lives cell_status
-unfolding cell_status
-live_cell_status table = (live_status table, λ _. tt)
-
-closed_cell_status : Closes cell_status
-unfolding cell_status
-closed_cell_status table = shut_then (closed_status table) (λ _. shut_gives table _)
-
-live_cell_note : (q : Keyword) → Lives (cell_note q)
-unfolding cell_note
-live_cell_note q table = (live_note q table, λ _. tt)
-
-closed_cell_note : (q : Keyword) → Closes (cell_note q)
-unfolding cell_note
-closed_cell_note q table = shut_then (closed_note q table) (λ _. shut_gives table _)
-
 live_cell_item : (q : Keyword) → Lives (cell_item q)
-live_cell_item q = live_one_of (same_keyword q k.View) _ _ live_cell_view (live_one_of (same_keyword q k.Property) _ _ live_cell_property (live_one_of (same_keyword q k.Status) _ _ live_cell_status (live_cell_note q)))
+live_cell_item q =
+    live_one_of (same_keyword q k.View) _ _ (live_as_item view live_view)
+    (live_one_of (same_keyword q k.Property) _ _ (live_as_item property live_property)
+    (live_one_of (same_keyword q k.Status) _ _ (live_as_item status live_status) (live_as_item (note q) (live_note q))))
 
 closed_cell_item : (q : Keyword) → Closes (cell_item q)
-closed_cell_item q = closed_one_of (same_keyword q k.View) _ _ closed_cell_view (closed_one_of (same_keyword q k.Property) _ _ closed_cell_property (closed_one_of (same_keyword q k.Status) _ _ closed_cell_status (closed_cell_note q)))
+closed_cell_item q =
+    closed_one_of (same_keyword q k.View) _ _ (closed_as_item closed_view)
+    (closed_one_of (same_keyword q k.Property) _ _ (closed_as_item closed_property)
+    (closed_one_of (same_keyword q k.Status) _ _ (closed_as_item closed_status) (closed_as_item (closed_note q))))
 
 -- a property may stand in a cell, with a view or without
 has_cell_keyword : (b : Bool) → has (cell_keywords b) k.Property ≡ true
@@ -349,35 +242,15 @@ pub closed_technology : Closes technology
 unfolding technology
 closed_technology table = shut_then (closed_begin (k.Technology ∷ []) table) (λ _. shut_then (closed_number_definition table) (λ _. shut_then (closed_notes_rest [] table) (λ _. shut_gives table _)))
 
-live_library_cell : Lives library_cell
-unfolding library_cell
-live_library_cell table = (live_cell table, λ _. tt)
-
-closed_library_cell : Closes library_cell
-unfolding library_cell
-closed_library_cell table = shut_then (closed_cell table) (λ _. shut_gives table _)
-
-live_library_status : Lives library_status
-unfolding library_status
-live_library_status table = (live_status table, λ _. tt)
-
-closed_library_status : Closes library_status
-unfolding library_status
-closed_library_status table = shut_then (closed_status table) (λ _. shut_gives table _)
-
-live_library_note : (q : Keyword) → Lives (library_note q)
-unfolding library_note
-live_library_note q table = (live_note q table, λ _. tt)
-
-closed_library_note : (q : Keyword) → Closes (library_note q)
-unfolding library_note
-closed_library_note q table = shut_then (closed_note q table) (λ _. shut_gives table _)
-
 live_library_item : (q : Keyword) → Lives (library_item q)
-live_library_item q = live_one_of (same_keyword q k.Cell) _ _ live_library_cell (live_one_of (same_keyword q k.Status) _ _ live_library_status (live_library_note q))
+live_library_item q =
+    live_one_of (same_keyword q k.Cell) _ _ (live_as_item cell live_cell)
+    (live_one_of (same_keyword q k.Status) _ _ (live_as_item status live_status) (live_as_item (note q) (live_note q)))
 
 closed_library_item : (q : Keyword) → Closes (library_item q)
-closed_library_item q = closed_one_of (same_keyword q k.Cell) _ _ closed_library_cell (closed_one_of (same_keyword q k.Status) _ _ closed_library_status (closed_library_note q))
+closed_library_item q =
+    closed_one_of (same_keyword q k.Cell) _ _ (closed_as_item closed_cell)
+    (closed_one_of (same_keyword q k.Status) _ _ (closed_as_item closed_status) (closed_as_item (closed_note q)))
 
 live_library_rest : (so_far : List LibraryItem) → Lives (library_rest so_far)
 unfolding library_rest has
@@ -413,35 +286,15 @@ pub closed_cell_ref : Closes cell_ref
 unfolding cell_ref
 closed_cell_ref table = shut_then (closed_begin (k.CellRef ∷ []) table) (λ _. shut_then (closed_word table) (λ _. shut_then (closed_library_ref table) (λ _. shut_then (closed_closing table) (λ _. shut_gives table _))))
 
-live_design_property : Lives design_property
-unfolding design_property
-live_design_property table = (live_property table, λ _. tt)
-
-closed_design_property : Closes design_property
-unfolding design_property
-closed_design_property table = shut_then (closed_property table) (λ _. shut_gives table _)
-
-live_design_status : Lives design_status
-unfolding design_status
-live_design_status table = (live_status table, λ _. tt)
-
-closed_design_status : Closes design_status
-unfolding design_status
-closed_design_status table = shut_then (closed_status table) (λ _. shut_gives table _)
-
-live_design_note : (q : Keyword) → Lives (design_note q)
-unfolding design_note
-live_design_note q table = (live_note q table, λ _. tt)
-
-closed_design_note : (q : Keyword) → Closes (design_note q)
-unfolding design_note
-closed_design_note q table = shut_then (closed_note q table) (λ _. shut_gives table _)
-
 live_design_item : (q : Keyword) → Lives (design_item q)
-live_design_item q = live_one_of (same_keyword q k.Property) _ _ live_design_property (live_one_of (same_keyword q k.Status) _ _ live_design_status (live_design_note q))
+live_design_item q =
+    live_one_of (same_keyword q k.Property) _ _ (live_as_item property live_property)
+    (live_one_of (same_keyword q k.Status) _ _ (live_as_item status live_status) (live_as_item (note q) (live_note q)))
 
 closed_design_item : (q : Keyword) → Closes (design_item q)
-closed_design_item q = closed_one_of (same_keyword q k.Property) _ _ closed_design_property (closed_one_of (same_keyword q k.Status) _ _ closed_design_status (closed_design_note q))
+closed_design_item q =
+    closed_one_of (same_keyword q k.Property) _ _ (closed_as_item closed_property)
+    (closed_one_of (same_keyword q k.Status) _ _ (closed_as_item closed_status) (closed_as_item (closed_note q)))
 
 live_design_rest : (so_far : List DesignItem) → Lives (design_rest so_far)
 unfolding design_rest has
@@ -461,43 +314,19 @@ closed_design table = shut_then (closed_name table) (λ _. shut_then (closed_cel
 
 -- ---- the file
 
-live_file_library : (e : Bool) → Lives (file_library e)
-unfolding file_library
-live_file_library e table = (live_library e table, λ _. tt)
-
-closed_file_library : (e : Bool) → Closes (file_library e)
-unfolding file_library
-closed_file_library e table = shut_then (closed_library e table) (λ _. shut_gives table _)
-
-live_file_design : Lives file_design
-unfolding file_design
-live_file_design table = (live_design table, λ _. tt)
-
-closed_file_design : Closes file_design
-unfolding file_design
-closed_file_design table = shut_then (closed_design table) (λ _. shut_gives table _)
-
-live_file_status : Lives file_status
-unfolding file_status
-live_file_status table = (live_status table, λ _. tt)
-
-closed_file_status : Closes file_status
-unfolding file_status
-closed_file_status table = shut_then (closed_status table) (λ _. shut_gives table _)
-
-live_file_note : (q : Keyword) → Lives (file_note q)
-unfolding file_note
-live_file_note q table = (live_note q table, λ _. tt)
-
-closed_file_note : (q : Keyword) → Closes (file_note q)
-unfolding file_note
-closed_file_note q table = shut_then (closed_note q table) (λ _. shut_gives table _)
-
 live_file_item : (q : Keyword) → Lives (file_item q)
-live_file_item q = live_one_of (same_keyword q k.Library) _ _ (live_file_library false) (live_one_of (same_keyword q k.External) _ _ (live_file_library true) (live_one_of (same_keyword q k.Design) _ _ live_file_design (live_one_of (same_keyword q k.Status) _ _ live_file_status (live_file_note q))))
+live_file_item q =
+    live_one_of (same_keyword q k.Library) _ _ (live_as_item (library false) (live_library false))
+    (live_one_of (same_keyword q k.External) _ _ (live_as_item (library true) (live_library true))
+    (live_one_of (same_keyword q k.Design) _ _ (live_as_item design live_design)
+    (live_one_of (same_keyword q k.Status) _ _ (live_as_item status live_status) (live_as_item (note q) (live_note q)))))
 
 closed_file_item : (q : Keyword) → Closes (file_item q)
-closed_file_item q = closed_one_of (same_keyword q k.Library) _ _ (closed_file_library false) (closed_one_of (same_keyword q k.External) _ _ (closed_file_library true) (closed_one_of (same_keyword q k.Design) _ _ closed_file_design (closed_one_of (same_keyword q k.Status) _ _ closed_file_status (closed_file_note q))))
+closed_file_item q =
+    closed_one_of (same_keyword q k.Library) _ _ (closed_as_item (closed_library false))
+    (closed_one_of (same_keyword q k.External) _ _ (closed_as_item (closed_library true))
+    (closed_one_of (same_keyword q k.Design) _ _ (closed_as_item closed_design)
+    (closed_one_of (same_keyword q k.Status) _ _ (closed_as_item closed_status) (closed_as_item (closed_note q)))))
 
 live_file_rest : (so_far : List FileItem) → Lives (file_rest so_far)
 unfolding file_rest has

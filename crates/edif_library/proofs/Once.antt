@@ -43,11 +43,6 @@ once_more {A = A} p s x free once = subst (λ (z : List A). length z ≤ 1) (sym
     by true e h = subst (λ (z : List A). length z ≤ 1) (sym (ap (λ (b : Bool). filter p s ++ cond b (x ∷ []) []) (h refl) ∙ append-nil (filter p s))) once
     by false e h = subst (λ (z : List A). length (z ++ filter p (x ∷ [])) ≤ 1) (sym (none_kept p s e)) (first (p x))
 
--- what an item is where its keyword says whether it passes the test
-pub said_by : {A E : Type 0} (p : A → Bool) (a b : Bool) (r : Result A E) → a ≡ b → IfOk r (λ i. p i ≡ b) → IfOk r (λ i. p i ≡ a)
-said_by p a b (Ok i) e h = h ∙ sym e
-said_by p a b (Err x) e h = tt
-
 -- an item that passes the test only where it is the first
 pub only_first : {A E : Type 0} (p : A → Bool) (stands b : Bool) (r : Result A E) → (stands ≡ true → b ≡ false) → IfOk r (λ i. p i ≡ b) → IfOk r (λ i. stands ≡ true → p i ≡ false)
 only_first p stands b (Ok i) h is = λ e. is ∙ h e

@@ -2,6 +2,7 @@
 -- external, technology, numberDefinition, scale, unit, design, edif). Each reads on after its keyword, up to the `)` of the form.
 use Rattle.std.specs.Prelude.{ℕ, Bool, true, false, List, [], ◌∷◌, codes, cond}
 use Rattle.std.specs.List.{list_any}
+use Rattle.readers.specs.Items.{as_item}
 use Rattle.grammar.specs.Part.{gives, under, ◌>>=◌}
 use Rattle.edif_values.specs.declared.keyword.Keyword.{Keyword}
 use Rattle.edif_values.specs.declared.keyword.Keyword.TheVariants as k
@@ -40,31 +41,13 @@ use Rattle.edif_values.specs.Values.{is_contents, is_view}
 
 -- ---- interfaces and contents
 
--- a port, property, designator or note of an interface
-unfoldable pub interface_port : Edif InterfaceItem
-interface_port = do
-  p ← port
-  gives (interface_items.Port p)
-
-unfoldable pub interface_property : Edif InterfaceItem
-interface_property = do
-  p ← property
-  gives (interface_items.Property p)
-
-unfoldable pub interface_designator : Edif InterfaceItem
-interface_designator = do
-  s ← designator
-  gives (interface_items.Designator s)
-
-unfoldable pub interface_note : Keyword → Edif InterfaceItem
-interface_note q = do
-  n ← note q
-  gives (interface_items.Note n)
-
 -- port | property | designator | note
 abbrev pub interface_item : Keyword → Edif InterfaceItem
 interface_item q =
-    cond (same_keyword q k.Port) interface_port (cond (same_keyword q k.Property) interface_property (cond (same_keyword q k.Designator) interface_designator (interface_note q)))
+    cond (same_keyword q k.Port) (as_item interface_items.Port port)
+    (cond (same_keyword q k.Property) (as_item interface_items.Property property)
+    (cond (same_keyword q k.Designator) (as_item interface_items.Designator designator)
+    (as_item interface_items.Note (note q))))
 
 -- the keywords that may stand in an interface
 abbrev pub interface_keywords : List Keyword
@@ -80,25 +63,12 @@ interface = do
   _ ← begin (k.Interface ∷ [])
   interface_rest []
 
--- an instance, net or note of the contents
-unfoldable pub contents_instance : Edif ContentsItem
-contents_instance = do
-  u ← instance
-  gives (contents_items.Instance u)
-
-unfoldable pub contents_net : Edif ContentsItem
-contents_net = do
-  n ← net
-  gives (contents_items.Net n)
-
-unfoldable pub contents_note : Keyword → Edif ContentsItem
-contents_note q = do
-  n ← note q
-  gives (contents_items.Note n)
-
 -- instance | net | note
 abbrev pub contents_item : Keyword → Edif ContentsItem
-contents_item q = cond (same_keyword q k.Instance) contents_instance (cond (same_keyword q k.Net) contents_net (contents_note q))
+contents_item q =
+    cond (same_keyword q k.Instance) (as_item contents_items.Instance instance)
+    (cond (same_keyword q k.Net) (as_item contents_items.Net net)
+    (as_item contents_items.Note (note q)))
 
 -- the keywords that may stand in contents
 abbrev pub contents_keywords : List Keyword
@@ -111,31 +81,13 @@ contents_rest = items (λ _. contents_keywords) contents_item
 
 -- ---- views
 
--- contents, a property, a status or a note of a view
-unfoldable pub view_contents : Edif ViewItem
-view_contents = do
-  is ← contents_rest []
-  gives (view_items.Contents is)
-
-unfoldable pub view_property : Edif ViewItem
-view_property = do
-  p ← property
-  gives (view_items.Property p)
-
-unfoldable pub view_status : Edif ViewItem
-view_status = do
-  s ← status
-  gives (view_items.Status s)
-
-unfoldable pub view_note : Keyword → Edif ViewItem
-view_note q = do
-  n ← note q
-  gives (view_items.Note n)
-
 -- contents | property | status | note
 abbrev pub view_item : Keyword → Edif ViewItem
 view_item q =
-    cond (same_keyword q k.Contents) view_contents (cond (same_keyword q k.Property) view_property (cond (same_keyword q k.Status) view_status (view_note q)))
+    cond (same_keyword q k.Contents) (as_item view_items.Contents (contents_rest []))
+    (cond (same_keyword q k.Property) (as_item view_items.Property property)
+    (cond (same_keyword q k.Status) (as_item view_items.Status status)
+    (as_item view_items.Note (note q))))
 
 -- whether some items have contents
 unfoldable pub has_contents : List ViewItem → Bool
@@ -180,31 +132,13 @@ cell_type = do
   _ ← closing
   gives kind
 
--- a view, a property, a status or a note of a cell
-unfoldable pub cell_view : Edif CellItem
-cell_view = do
-  v ← view
-  gives (cell_items.View v)
-
-unfoldable pub cell_property : Edif CellItem
-cell_property = do
-  p ← property
-  gives (cell_items.Property p)
-
-unfoldable pub cell_status : Edif CellItem
-cell_status = do
-  s ← status
-  gives (cell_items.Status s)
-
-unfoldable pub cell_note : Keyword → Edif CellItem
-cell_note q = do
-  n ← note q
-  gives (cell_items.Note n)
-
 -- view | property | status | note
 abbrev pub cell_item : Keyword → Edif CellItem
 cell_item q =
-    cond (same_keyword q k.View) cell_view (cond (same_keyword q k.Property) cell_property (cond (same_keyword q k.Status) cell_status (cell_note q)))
+    cond (same_keyword q k.View) (as_item cell_items.View view)
+    (cond (same_keyword q k.Property) (as_item cell_items.Property property)
+    (cond (same_keyword q k.Status) (as_item cell_items.Status status)
+    (as_item cell_items.Note (note q))))
 
 -- whether some items have a view
 unfoldable pub has_view : List CellItem → Bool
@@ -268,25 +202,12 @@ technology = do
   ns ← notes_rest []
   gives (ss, ns)
 
--- a cell, a status or a note of a library
-unfoldable pub library_cell : Edif LibraryItem
-library_cell = do
-  c ← cell
-  gives (library_items.Cell c)
-
-unfoldable pub library_status : Edif LibraryItem
-library_status = do
-  s ← status
-  gives (library_items.Status s)
-
-unfoldable pub library_note : Keyword → Edif LibraryItem
-library_note q = do
-  n ← note q
-  gives (library_items.Note n)
-
 -- cell | status | note
 abbrev pub library_item : Keyword → Edif LibraryItem
-library_item q = cond (same_keyword q k.Cell) library_cell (cond (same_keyword q k.Status) library_status (library_note q))
+library_item q =
+    cond (same_keyword q k.Cell) (as_item library_items.Cell cell)
+    (cond (same_keyword q k.Status) (as_item library_items.Status status)
+    (as_item library_items.Note (note q)))
 
 -- the keywords that may stand in a library
 abbrev pub library_keywords : List Keyword
@@ -325,25 +246,12 @@ cell_ref = do
   _ ← closing
   gives (c, l)
 
--- a property, a status or a note of a design
-unfoldable pub design_property : Edif DesignItem
-design_property = do
-  p ← property
-  gives (design_items.Property p)
-
-unfoldable pub design_status : Edif DesignItem
-design_status = do
-  s ← status
-  gives (design_items.Status s)
-
-unfoldable pub design_note : Keyword → Edif DesignItem
-design_note q = do
-  n ← note q
-  gives (design_items.Note n)
-
 -- property | status | note
 abbrev pub design_item : Keyword → Edif DesignItem
-design_item q = cond (same_keyword q k.Property) design_property (cond (same_keyword q k.Status) design_status (design_note q))
+design_item q =
+    cond (same_keyword q k.Property) (as_item design_items.Property property)
+    (cond (same_keyword q k.Status) (as_item design_items.Status status)
+    (as_item design_items.Note (note q)))
 
 -- the keywords that may stand in a design
 abbrev pub design_keywords : List Keyword
@@ -363,31 +271,14 @@ design = do
 
 -- ---- the file
 
--- a library, a design, a status or a note of a file
-unfoldable pub file_library : Bool → Edif FileItem
-file_library external = do
-  l ← library external
-  gives (file_items.Library l)
-
-unfoldable pub file_design : Edif FileItem
-file_design = do
-  d ← design
-  gives (file_items.Design d)
-
-unfoldable pub file_status : Edif FileItem
-file_status = do
-  s ← status
-  gives (file_items.Status s)
-
-unfoldable pub file_note : Keyword → Edif FileItem
-file_note q = do
-  n ← note q
-  gives (file_items.Note n)
-
 -- fileItem  = library | design | status | note
 abbrev pub file_item : Keyword → Edif FileItem
 file_item q =
-    cond (same_keyword q k.Library) (file_library false) (cond (same_keyword q k.External) (file_library true) (cond (same_keyword q k.Design) file_design (cond (same_keyword q k.Status) file_status (file_note q))))
+    cond (same_keyword q k.Library) (as_item file_items.Library (library false))
+    (cond (same_keyword q k.External) (as_item file_items.Library (library true))
+    (cond (same_keyword q k.Design) (as_item file_items.Design design)
+    (cond (same_keyword q k.Status) (as_item file_items.Status status)
+    (as_item file_items.Note (note q)))))
 
 -- the keywords that may stand in a file
 abbrev pub file_keywords : List Keyword

@@ -7,7 +7,7 @@ ghost use Rattle.edif_values.specs.declared.keyword.Keyword.TheVariants as k;
 ghost use Rattle.edif_values.specs.Keywords.{same_keyword};
 ghost use Rattle.edif_values.specs.Values.{is_view, IsCellItem, IsCell};
 ghost use Rattle.edif_values.specs.Sizes.{list_size, cell_item_size, cell_size};
-ghost use Rattle.edif_library.specs.Grammar.{cell_view, cell_property, cell_status, cell_note, cell_item, cell_keywords, cell_rest, cell_type, cell};
+ghost use Rattle.edif_library.specs.Grammar.{cell_item, cell_keywords, cell_rest, cell_type, cell};
 
 use crate::view::read_view;
 use edif_keywords::Cursor;
@@ -140,70 +140,17 @@ fn cell_form<S: Source>(
     ensures size { IfOk result (λ i. cell_item_size i + room cursor.new < room cursor.old) }
 {
     if same_keyword(keyword, Keyword::View) {
-        return cell_view(alloc, cursor, source);
+        let view = read_view(alloc, cursor, source)?;
+        return Ok(CellItem::View(view));
     }
     if same_keyword(keyword, Keyword::Property) {
-        return cell_property(alloc, cursor, source);
+        let property = read_property(alloc, cursor, source)?;
+        return Ok(CellItem::Property(property));
     }
     if same_keyword(keyword, Keyword::Status) {
-        return cell_status(alloc, cursor, source);
+        let status = read_status(alloc, cursor, source)?;
+        return Ok(CellItem::Status(status));
     }
-    cell_note(alloc, cursor, keyword, source)
-}
-
-fn cell_view<S: Source>(
-    alloc: Global,
-    cursor: &mut Cursor,
-    source: &mut S,
-) -> Result<CellItem, ReadError>
-    ensures reads { Reads edif same cell_view result cursor.old cursor.new (S.supply source.old) (S.supply source.new) }
-    ensures value { IfOk result IsCellItem }
-    ensures kind { IfOk result (λ i. is_view i ≡ true) }
-    ensures size { IfOk result (λ i. cell_item_size i + room cursor.new < room cursor.old) }
-{
-    let view = read_view(alloc, cursor, source)?;
-    Ok(CellItem::View(view))
-}
-
-fn cell_property<S: Source>(
-    alloc: Global,
-    cursor: &mut Cursor,
-    source: &mut S,
-) -> Result<CellItem, ReadError>
-    ensures reads { Reads edif same cell_property result cursor.old cursor.new (S.supply source.old) (S.supply source.new) }
-    ensures value { IfOk result IsCellItem }
-    ensures kind { IfOk result (λ i. is_view i ≡ false) }
-    ensures size { IfOk result (λ i. cell_item_size i + room cursor.new < room cursor.old) }
-{
-    let property = read_property(alloc, cursor, source)?;
-    Ok(CellItem::Property(property))
-}
-
-fn cell_status<S: Source>(
-    alloc: Global,
-    cursor: &mut Cursor,
-    source: &mut S,
-) -> Result<CellItem, ReadError>
-    ensures reads { Reads edif same cell_status result cursor.old cursor.new (S.supply source.old) (S.supply source.new) }
-    ensures value { IfOk result IsCellItem }
-    ensures kind { IfOk result (λ i. is_view i ≡ false) }
-    ensures size { IfOk result (λ i. cell_item_size i + room cursor.new < room cursor.old) }
-{
-    let status = read_status(alloc, cursor, source)?;
-    Ok(CellItem::Status(status))
-}
-
-fn cell_note<S: Source>(
-    alloc: Global,
-    cursor: &mut Cursor,
-    keyword: Keyword,
-    source: &mut S,
-) -> Result<CellItem, ReadError>
-    ensures reads { Reads edif same (cell_note keyword) result cursor.old cursor.new (S.supply source.old) (S.supply source.new) }
-    ensures value { IfOk result IsCellItem }
-    ensures kind { IfOk result (λ i. is_view i ≡ false) }
-    ensures size { IfOk result (λ i. cell_item_size i + room cursor.new < room cursor.old) }
-{
     let note = read_note(alloc, cursor, keyword, source)?;
     Ok(CellItem::Note(note))
 }

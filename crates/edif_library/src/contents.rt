@@ -6,7 +6,7 @@ ghost use Rattle.edif_keywords.specs.Language.{edif};
 ghost use Rattle.edif_keywords.specs.Grammar.{item};
 ghost use Rattle.edif_values.specs.Values.{IsContentsItem};
 ghost use Rattle.edif_values.specs.Sizes.{list_size, contents_item_size};
-ghost use Rattle.edif_library.specs.Grammar.{contents_instance, contents_net, contents_note, contents_item, contents_keywords, contents_rest};
+ghost use Rattle.edif_library.specs.Grammar.{contents_item, contents_keywords, contents_rest};
 
 use edif_keywords::Cursor;
 use edif_nets::{read_instance, read_net};
@@ -60,6 +60,7 @@ fn contents_item<S: Source>(
 }
 
 /// Reads on after the keyword of a part of contents.
+#[tactic(auto, using(readers::proofs::Reading::sequences))]
 fn contents_form<S: Source>(
     alloc: Global,
     cursor: &mut Cursor,
@@ -71,51 +72,13 @@ fn contents_form<S: Source>(
     ensures size { IfOk result (λ i. contents_item_size i + room cursor.new < room cursor.old) }
 {
     if same_keyword(keyword, Keyword::Instance) {
-        return contents_instance(alloc, cursor, source);
+        let instance = read_instance(alloc, cursor, source)?;
+        return Ok(ContentsItem::Instance(instance));
     }
     if same_keyword(keyword, Keyword::Net) {
-        return contents_net(alloc, cursor, source);
+        let net = read_net(alloc, cursor, source)?;
+        return Ok(ContentsItem::Net(net));
     }
-    contents_note(alloc, cursor, keyword, source)
-}
-
-fn contents_instance<S: Source>(
-    alloc: Global,
-    cursor: &mut Cursor,
-    source: &mut S,
-) -> Result<ContentsItem, ReadError>
-    ensures reads { Reads edif same contents_instance result cursor.old cursor.new (S.supply source.old) (S.supply source.new) }
-    ensures value { IfOk result IsContentsItem }
-    ensures size { IfOk result (λ i. contents_item_size i + room cursor.new < room cursor.old) }
-{
-    let instance = read_instance(alloc, cursor, source)?;
-    Ok(ContentsItem::Instance(instance))
-}
-
-fn contents_net<S: Source>(
-    alloc: Global,
-    cursor: &mut Cursor,
-    source: &mut S,
-) -> Result<ContentsItem, ReadError>
-    ensures reads { Reads edif same contents_net result cursor.old cursor.new (S.supply source.old) (S.supply source.new) }
-    ensures value { IfOk result IsContentsItem }
-    ensures size { IfOk result (λ i. contents_item_size i + room cursor.new < room cursor.old) }
-{
-    let net = read_net(alloc, cursor, source)?;
-    Ok(ContentsItem::Net(net))
-}
-
-#[tactic(auto, using(readers::proofs::Reading::sequences), unfolding(crate::specs::Grammar::contents_note))]
-fn contents_note<S: Source>(
-    alloc: Global,
-    cursor: &mut Cursor,
-    keyword: Keyword,
-    source: &mut S,
-) -> Result<ContentsItem, ReadError>
-    ensures reads { Reads edif same (contents_note keyword) result cursor.old cursor.new (S.supply source.old) (S.supply source.new) }
-    ensures value { IfOk result IsContentsItem }
-    ensures size { IfOk result (λ i. contents_item_size i + room cursor.new < room cursor.old) }
-{
     let note = read_note(alloc, cursor, keyword, source)?;
     Ok(ContentsItem::Note(note))
 }

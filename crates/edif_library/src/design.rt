@@ -6,7 +6,7 @@ ghost use Rattle.edif_keywords.specs.Language.{edif};
 ghost use Rattle.edif_keywords.specs.Grammar.{item};
 ghost use Rattle.edif_values.specs.Values.{IsWord, IsDesignItem, IsDesign};
 ghost use Rattle.edif_values.specs.Sizes.{list_size, design_item_size, design_size};
-ghost use Rattle.edif_library.specs.Grammar.{library_ref, cell_ref, design_property, design_status, design_note, design_item, design_keywords, design_rest, design};
+ghost use Rattle.edif_library.specs.Grammar.{library_ref, cell_ref, design_item, design_keywords, design_rest, design};
 
 use edif_keywords::Cursor;
 use edif_names::{read_name, read_property};
@@ -122,50 +122,13 @@ fn design_form<S: Source>(
     ensures size { IfOk result (λ i. design_item_size i + room cursor.new < room cursor.old) }
 {
     if same_keyword(keyword, Keyword::Property) {
-        return design_property(alloc, cursor, source);
+        let property = read_property(alloc, cursor, source)?;
+        return Ok(DesignItem::Property(property));
     }
     if same_keyword(keyword, Keyword::Status) {
-        return design_status(alloc, cursor, source);
+        let status = read_status(alloc, cursor, source)?;
+        return Ok(DesignItem::Status(status));
     }
-    design_note(alloc, cursor, keyword, source)
-}
-
-fn design_property<S: Source>(
-    alloc: Global,
-    cursor: &mut Cursor,
-    source: &mut S,
-) -> Result<DesignItem, ReadError>
-    ensures reads { Reads edif same design_property result cursor.old cursor.new (S.supply source.old) (S.supply source.new) }
-    ensures value { IfOk result IsDesignItem }
-    ensures size { IfOk result (λ i. design_item_size i + room cursor.new < room cursor.old) }
-{
-    let property = read_property(alloc, cursor, source)?;
-    Ok(DesignItem::Property(property))
-}
-
-fn design_status<S: Source>(
-    alloc: Global,
-    cursor: &mut Cursor,
-    source: &mut S,
-) -> Result<DesignItem, ReadError>
-    ensures reads { Reads edif same design_status result cursor.old cursor.new (S.supply source.old) (S.supply source.new) }
-    ensures value { IfOk result IsDesignItem }
-    ensures size { IfOk result (λ i. design_item_size i + room cursor.new < room cursor.old) }
-{
-    let status = read_status(alloc, cursor, source)?;
-    Ok(DesignItem::Status(status))
-}
-
-fn design_note<S: Source>(
-    alloc: Global,
-    cursor: &mut Cursor,
-    keyword: Keyword,
-    source: &mut S,
-) -> Result<DesignItem, ReadError>
-    ensures reads { Reads edif same (design_note keyword) result cursor.old cursor.new (S.supply source.old) (S.supply source.new) }
-    ensures value { IfOk result IsDesignItem }
-    ensures size { IfOk result (λ i. design_item_size i + room cursor.new < room cursor.old) }
-{
     let note = read_note(alloc, cursor, keyword, source)?;
     Ok(DesignItem::Note(note))
 }

@@ -8,7 +8,7 @@ ghost use Rattle.edif_keywords.specs.Grammar.{item};
 ghost use Rattle.nl_bytes.specs.declared.bytes.TheConstants.{LIMIT};
 ghost use Rattle.edif_values.specs.Values.{IsNameDef, IsFileItem, IsEdifValue};
 ghost use Rattle.edif_values.specs.Sizes.{list_size, file_item_size, edif_size};
-ghost use Rattle.edif_library.specs.Grammar.{file_library, file_design, file_status, file_note, file_item, file_keywords, file_rest, file_body, file};
+ghost use Rattle.edif_library.specs.Grammar.{file_item, file_keywords, file_rest, file_body, file};
 
 use crate::design::read_design;
 use crate::library::read_library;
@@ -131,70 +131,21 @@ fn file_form<S: Source>(
     ensures size { IfOk result (λ i. file_item_size i + room cursor.new < room cursor.old) }
 {
     if same_keyword(keyword, Keyword::Library) {
-        return file_library(alloc, cursor, false, source);
+        let library = read_library(alloc, cursor, false, source)?;
+        return Ok(FileItem::Library(library));
     }
     if same_keyword(keyword, Keyword::External) {
-        return file_library(alloc, cursor, true, source);
+        let external = read_library(alloc, cursor, true, source)?;
+        return Ok(FileItem::Library(external));
     }
     if same_keyword(keyword, Keyword::Design) {
-        return file_design(alloc, cursor, source);
+        let design = read_design(alloc, cursor, source)?;
+        return Ok(FileItem::Design(design));
     }
     if same_keyword(keyword, Keyword::Status) {
-        return file_status(alloc, cursor, source);
+        let status = read_status(alloc, cursor, source)?;
+        return Ok(FileItem::Status(status));
     }
-    file_note(alloc, cursor, keyword, source)
-}
-
-fn file_library<S: Source>(
-    alloc: Global,
-    cursor: &mut Cursor,
-    external: bool,
-    source: &mut S,
-) -> Result<FileItem, ReadError>
-    ensures reads { Reads edif same (file_library external) result cursor.old cursor.new (S.supply source.old) (S.supply source.new) }
-    ensures value { IfOk result IsFileItem }
-    ensures size { IfOk result (λ i. file_item_size i + room cursor.new < room cursor.old) }
-{
-    let library = read_library(alloc, cursor, external, source)?;
-    Ok(FileItem::Library(library))
-}
-
-fn file_design<S: Source>(
-    alloc: Global,
-    cursor: &mut Cursor,
-    source: &mut S,
-) -> Result<FileItem, ReadError>
-    ensures reads { Reads edif same file_design result cursor.old cursor.new (S.supply source.old) (S.supply source.new) }
-    ensures value { IfOk result IsFileItem }
-    ensures size { IfOk result (λ i. file_item_size i + room cursor.new < room cursor.old) }
-{
-    let design = read_design(alloc, cursor, source)?;
-    Ok(FileItem::Design(design))
-}
-
-fn file_status<S: Source>(
-    alloc: Global,
-    cursor: &mut Cursor,
-    source: &mut S,
-) -> Result<FileItem, ReadError>
-    ensures reads { Reads edif same file_status result cursor.old cursor.new (S.supply source.old) (S.supply source.new) }
-    ensures value { IfOk result IsFileItem }
-    ensures size { IfOk result (λ i. file_item_size i + room cursor.new < room cursor.old) }
-{
-    let status = read_status(alloc, cursor, source)?;
-    Ok(FileItem::Status(status))
-}
-
-fn file_note<S: Source>(
-    alloc: Global,
-    cursor: &mut Cursor,
-    keyword: Keyword,
-    source: &mut S,
-) -> Result<FileItem, ReadError>
-    ensures reads { Reads edif same (file_note keyword) result cursor.old cursor.new (S.supply source.old) (S.supply source.new) }
-    ensures value { IfOk result IsFileItem }
-    ensures size { IfOk result (λ i. file_item_size i + room cursor.new < room cursor.old) }
-{
     let note = read_note(alloc, cursor, keyword, source)?;
     Ok(FileItem::Note(note))
 }

@@ -6,7 +6,7 @@ ghost use Rattle.edif_keywords.specs.Language.{edif};
 ghost use Rattle.edif_keywords.specs.Grammar.{item};
 ghost use Rattle.edif_values.specs.Values.{IsInterfaceItem};
 ghost use Rattle.edif_values.specs.Sizes.{list_size, interface_item_size};
-ghost use Rattle.edif_library.specs.Grammar.{interface_port, interface_property, interface_designator, interface_note, interface_item, interface_keywords, interface_rest, interface};
+ghost use Rattle.edif_library.specs.Grammar.{interface_item, interface_keywords, interface_rest, interface};
 
 use edif_keywords::Cursor;
 use edif_names::read_property;
@@ -86,66 +86,17 @@ fn interface_form<S: Source>(
     ensures size { IfOk result (λ i. interface_item_size i + room cursor.new < room cursor.old) }
 {
     if same_keyword(keyword, Keyword::Port) {
-        return interface_port(alloc, cursor, source);
+        let port = read_port(alloc, cursor, source)?;
+        return Ok(InterfaceItem::Port(port));
     }
     if same_keyword(keyword, Keyword::Property) {
-        return interface_property(alloc, cursor, source);
+        let property = read_property(alloc, cursor, source)?;
+        return Ok(InterfaceItem::Property(property));
     }
     if same_keyword(keyword, Keyword::Designator) {
-        return interface_designator(alloc, cursor, source);
+        let text = read_designator(alloc, cursor, source)?;
+        return Ok(InterfaceItem::Designator(text));
     }
-    interface_note(alloc, cursor, keyword, source)
-}
-
-fn interface_port<S: Source>(
-    alloc: Global,
-    cursor: &mut Cursor,
-    source: &mut S,
-) -> Result<InterfaceItem, ReadError>
-    ensures reads { Reads edif same interface_port result cursor.old cursor.new (S.supply source.old) (S.supply source.new) }
-    ensures value { IfOk result IsInterfaceItem }
-    ensures size { IfOk result (λ i. interface_item_size i + room cursor.new < room cursor.old) }
-{
-    let port = read_port(alloc, cursor, source)?;
-    Ok(InterfaceItem::Port(port))
-}
-
-fn interface_property<S: Source>(
-    alloc: Global,
-    cursor: &mut Cursor,
-    source: &mut S,
-) -> Result<InterfaceItem, ReadError>
-    ensures reads { Reads edif same interface_property result cursor.old cursor.new (S.supply source.old) (S.supply source.new) }
-    ensures value { IfOk result IsInterfaceItem }
-    ensures size { IfOk result (λ i. interface_item_size i + room cursor.new < room cursor.old) }
-{
-    let property = read_property(alloc, cursor, source)?;
-    Ok(InterfaceItem::Property(property))
-}
-
-fn interface_designator<S: Source>(
-    alloc: Global,
-    cursor: &mut Cursor,
-    source: &mut S,
-) -> Result<InterfaceItem, ReadError>
-    ensures reads { Reads edif same interface_designator result cursor.old cursor.new (S.supply source.old) (S.supply source.new) }
-    ensures value { IfOk result IsInterfaceItem }
-    ensures size { IfOk result (λ i. interface_item_size i + room cursor.new < room cursor.old) }
-{
-    let text = read_designator(alloc, cursor, source)?;
-    Ok(InterfaceItem::Designator(text))
-}
-
-fn interface_note<S: Source>(
-    alloc: Global,
-    cursor: &mut Cursor,
-    keyword: Keyword,
-    source: &mut S,
-) -> Result<InterfaceItem, ReadError>
-    ensures reads { Reads edif same (interface_note keyword) result cursor.old cursor.new (S.supply source.old) (S.supply source.new) }
-    ensures value { IfOk result IsInterfaceItem }
-    ensures size { IfOk result (λ i. interface_item_size i + room cursor.new < room cursor.old) }
-{
     let note = read_note(alloc, cursor, keyword, source)?;
     Ok(InterfaceItem::Note(note))
 }

@@ -5,7 +5,7 @@ ghost use Rattle.edif_keywords.specs.Language.{edif};
 ghost use Rattle.edif_keywords.specs.Grammar.{item};
 ghost use Rattle.edif_values.specs.Values.{IsLibraryItem, IsLibrary};
 ghost use Rattle.edif_values.specs.Sizes.{list_size, library_item_size, library_size};
-ghost use Rattle.edif_library.specs.Grammar.{library_cell, library_status, library_note, library_item, library_keywords, library_rest, library};
+ghost use Rattle.edif_library.specs.Grammar.{library_item, library_keywords, library_rest, library};
 
 use crate::cell::read_cell;
 use crate::technology::read_technology;
@@ -95,50 +95,13 @@ fn library_form<S: Source>(
     ensures size { IfOk result (λ i. library_item_size i + room cursor.new < room cursor.old) }
 {
     if same_keyword(keyword, Keyword::Cell) {
-        return library_cell(alloc, cursor, source);
+        let cell = read_cell(alloc, cursor, source)?;
+        return Ok(LibraryItem::Cell(cell));
     }
     if same_keyword(keyword, Keyword::Status) {
-        return library_status(alloc, cursor, source);
+        let status = read_status(alloc, cursor, source)?;
+        return Ok(LibraryItem::Status(status));
     }
-    library_note(alloc, cursor, keyword, source)
-}
-
-fn library_cell<S: Source>(
-    alloc: Global,
-    cursor: &mut Cursor,
-    source: &mut S,
-) -> Result<LibraryItem, ReadError>
-    ensures reads { Reads edif same library_cell result cursor.old cursor.new (S.supply source.old) (S.supply source.new) }
-    ensures value { IfOk result IsLibraryItem }
-    ensures size { IfOk result (λ i. library_item_size i + room cursor.new < room cursor.old) }
-{
-    let cell = read_cell(alloc, cursor, source)?;
-    Ok(LibraryItem::Cell(cell))
-}
-
-fn library_status<S: Source>(
-    alloc: Global,
-    cursor: &mut Cursor,
-    source: &mut S,
-) -> Result<LibraryItem, ReadError>
-    ensures reads { Reads edif same library_status result cursor.old cursor.new (S.supply source.old) (S.supply source.new) }
-    ensures value { IfOk result IsLibraryItem }
-    ensures size { IfOk result (λ i. library_item_size i + room cursor.new < room cursor.old) }
-{
-    let status = read_status(alloc, cursor, source)?;
-    Ok(LibraryItem::Status(status))
-}
-
-fn library_note<S: Source>(
-    alloc: Global,
-    cursor: &mut Cursor,
-    keyword: Keyword,
-    source: &mut S,
-) -> Result<LibraryItem, ReadError>
-    ensures reads { Reads edif same (library_note keyword) result cursor.old cursor.new (S.supply source.old) (S.supply source.new) }
-    ensures value { IfOk result IsLibraryItem }
-    ensures size { IfOk result (λ i. library_item_size i + room cursor.new < room cursor.old) }
-{
     let note = read_note(alloc, cursor, keyword, source)?;
     Ok(LibraryItem::Note(note))
 }

@@ -7,7 +7,7 @@ ghost use Rattle.edif_values.specs.declared.keyword.Keyword.TheVariants as k;
 ghost use Rattle.edif_values.specs.Keywords.{same_keyword};
 ghost use Rattle.edif_values.specs.Values.{is_contents, IsViewItem, IsView};
 ghost use Rattle.edif_values.specs.Sizes.{list_size, view_item_size, view_size};
-ghost use Rattle.edif_library.specs.Grammar.{view_contents, view_property, view_status, view_note, view_item, view_keywords, view_rest, netlist, view};
+ghost use Rattle.edif_library.specs.Grammar.{view_item, view_keywords, view_rest, netlist, view};
 
 use crate::contents::read_contents;
 use crate::interface::read_interface;
@@ -121,6 +121,7 @@ fn view_keywords(filled: bool) -> &'static [Keyword]
 }
 
 /// Reads on after the keyword of a part of a view.
+#[tactic(auto, using(readers::proofs::Reading::sequences))]
 fn view_form<S: Source>(
     alloc: Global,
     cursor: &mut Cursor,
@@ -133,71 +134,17 @@ fn view_form<S: Source>(
     ensures size { IfOk result (λ i. view_item_size i + room cursor.new < room cursor.old) }
 {
     if same_keyword(keyword, Keyword::Contents) {
-        return view_contents(alloc, cursor, source);
+        let items = read_contents(alloc, cursor, source)?;
+        return Ok(ViewItem::Contents(items));
     }
     if same_keyword(keyword, Keyword::Property) {
-        return view_property(alloc, cursor, source);
+        let property = read_property(alloc, cursor, source)?;
+        return Ok(ViewItem::Property(property));
     }
     if same_keyword(keyword, Keyword::Status) {
-        return view_status(alloc, cursor, source);
+        let status = read_status(alloc, cursor, source)?;
+        return Ok(ViewItem::Status(status));
     }
-    view_note(alloc, cursor, keyword, source)
-}
-
-#[tactic(auto, using(readers::proofs::Reading::sequences), unfolding(crate::specs::Grammar::view_contents))]
-fn view_contents<S: Source>(
-    alloc: Global,
-    cursor: &mut Cursor,
-    source: &mut S,
-) -> Result<ViewItem, ReadError>
-    ensures reads { Reads edif same view_contents result cursor.old cursor.new (S.supply source.old) (S.supply source.new) }
-    ensures value { IfOk result IsViewItem }
-    ensures kind { IfOk result (λ i. is_contents i ≡ true) }
-    ensures size { IfOk result (λ i. view_item_size i + room cursor.new < room cursor.old) }
-{
-    let items = read_contents(alloc, cursor, source)?;
-    Ok(ViewItem::Contents(items))
-}
-
-fn view_property<S: Source>(
-    alloc: Global,
-    cursor: &mut Cursor,
-    source: &mut S,
-) -> Result<ViewItem, ReadError>
-    ensures reads { Reads edif same view_property result cursor.old cursor.new (S.supply source.old) (S.supply source.new) }
-    ensures value { IfOk result IsViewItem }
-    ensures kind { IfOk result (λ i. is_contents i ≡ false) }
-    ensures size { IfOk result (λ i. view_item_size i + room cursor.new < room cursor.old) }
-{
-    let property = read_property(alloc, cursor, source)?;
-    Ok(ViewItem::Property(property))
-}
-
-fn view_status<S: Source>(
-    alloc: Global,
-    cursor: &mut Cursor,
-    source: &mut S,
-) -> Result<ViewItem, ReadError>
-    ensures reads { Reads edif same view_status result cursor.old cursor.new (S.supply source.old) (S.supply source.new) }
-    ensures value { IfOk result IsViewItem }
-    ensures kind { IfOk result (λ i. is_contents i ≡ false) }
-    ensures size { IfOk result (λ i. view_item_size i + room cursor.new < room cursor.old) }
-{
-    let status = read_status(alloc, cursor, source)?;
-    Ok(ViewItem::Status(status))
-}
-
-fn view_note<S: Source>(
-    alloc: Global,
-    cursor: &mut Cursor,
-    keyword: Keyword,
-    source: &mut S,
-) -> Result<ViewItem, ReadError>
-    ensures reads { Reads edif same (view_note keyword) result cursor.old cursor.new (S.supply source.old) (S.supply source.new) }
-    ensures value { IfOk result IsViewItem }
-    ensures kind { IfOk result (λ i. is_contents i ≡ false) }
-    ensures size { IfOk result (λ i. view_item_size i + room cursor.new < room cursor.old) }
-{
     let note = read_note(alloc, cursor, keyword, source)?;
     Ok(ViewItem::Note(note))
 }

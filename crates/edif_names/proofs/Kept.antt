@@ -6,7 +6,7 @@ use Rattle.edif_values.specs.Keywords.{same_keyword}
 use Rattle.edif_keywords.specs.Grammar.{closing}
 use Rattle.edif_keywords.proofs.Kept.{Kept, kept_gives, kept_then, kept_after, kept_cond, kept_word, kept_string, kept_integer, kept_begin, kept_item, kept_form_or, kept_all, kept_comment}
 use Rattle.edif_values.specs.declared.property.PropTail.{PropTail}
-use Rattle.edif_names.specs.Grammar.{renamed, plain, name, array, renamed_port, plain_port, port_form, port_name, exponential, whole, scaled, string_value, integer_value, number_value, boolean_value, value_form, value, owner, remark, tail_form, tails, property}
+use Rattle.edif_names.specs.Grammar.{renamed, plain, name, array, port_form, port_name, exponential, whole, scaled, string_value, integer_value, number_value, boolean_value, value_form, value, owner, tail_form, tails, property}
 use Rattle.edif_values.specs.Values.{IsNameDef, IsPortName, IsScaled, IsPropValue, IsPropTail, ArePropTails, IsProperty}
 
 -- ---- names
@@ -27,21 +27,13 @@ kept_array : Kept array IsPortName
 unfolding array
 kept_array = kept_then kept_name (λ n is_name. kept_then kept_integer (λ size is_size. kept_after closing (λ _. kept_gives _ (is_name, is_size))))
 
-kept_renamed_port : Kept renamed_port IsPortName
-unfolding renamed_port
-kept_renamed_port = kept_then kept_renamed (λ n is_name. kept_gives _ is_name)
-
-kept_plain_port : Kept plain_port IsPortName
-unfolding plain_port
-kept_plain_port = kept_then kept_plain (λ n is_name. kept_gives _ is_name)
-
 kept_port_form : (b : Bool) → Kept (port_form b) IsPortName
 kept_port_form true = kept_array
-kept_port_form false = kept_renamed_port
+kept_port_form false = (kept_then kept_renamed (λ n is_name. kept_gives _ is_name))
 
 pub kept_port_name : Kept port_name IsPortName
 unfolding port_name
-kept_port_name = kept_form_or (k.Rename ∷ k.Array ∷ []) (λ q _. kept_port_form (same_keyword q k.Array)) kept_plain_port
+kept_port_name = kept_form_or (k.Rename ∷ k.Array ∷ []) (λ q _. kept_port_form (same_keyword q k.Array)) (kept_then kept_plain (λ n is_name. kept_gives _ is_name))
 
 -- ---- values
 
@@ -89,13 +81,9 @@ kept_owner : Kept owner IsPropTail
 unfolding owner
 kept_owner = kept_then kept_string (λ s is_string. kept_after closing (λ _. kept_gives _ is_string))
 
-kept_remark : Kept remark IsPropTail
-unfolding remark
-kept_remark = kept_then kept_comment (λ texts are_strings. kept_gives _ are_strings)
-
 kept_tail_form : (q : Keyword) → Kept (tail_form q) IsPropTail
 unfolding tail_form
-kept_tail_form q = kept_cond (same_keyword q k.Owner) owner remark kept_owner kept_remark
+kept_tail_form q = kept_cond (same_keyword q k.Owner) owner _ kept_owner (kept_then kept_comment (λ texts are_strings. kept_gives _ are_strings))
 
 pub kept_tails : (so_far : List PropTail) → ArePropTails so_far → Kept (tails so_far) ArePropTails
 unfolding tails

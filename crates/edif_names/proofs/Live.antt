@@ -4,6 +4,7 @@ use Rattle.grammar.specs.Part.{gives, sequence, leaves}
 use Rattle.grammar.specs.Clear.{First, Empty}
 use Rattle.grammar.specs.Whole.{proper}
 use Rattle.edif_tokens.specs.declared.token.Found.{Found}
+use Rattle.readers.proofs.Items.{live_as_item, closed_as_item, live_one_of, closed_one_of}
 use Rattle.readers.proofs.Shapes.{live_if, closed_if, first_one, not_empty, shut_gives, shut_one, shut_then, shut_if}
 use Rattle.edif_values.specs.declared.keyword.Keyword.{Keyword}
 use Rattle.edif_values.specs.declared.keyword.Keyword.TheVariants as k
@@ -11,29 +12,22 @@ use Rattle.edif_values.specs.Keywords.{has, same_keyword}
 use Rattle.edif_keywords.specs.Aliases.{Alias}
 use Rattle.edif_keywords.specs.Language.{Edif}
 use Rattle.edif_keywords.specs.Reasons as say
-use Rattle.edif_keywords.specs.Grammar.{word, string, integer, keyword, form_or}
+use Rattle.edif_keywords.specs.Grammar.{word, string, integer, keyword, form_or, comment}
 use Rattle.edif_keywords.proofs.Live.{Lives, Closes, live_word, live_string, live_integer, live_closing, live_keyword, live_begin, closed_keyword, closed_closing, closed_begin, word_leaves, integer_leaves, live_items, closed_items, live_comment, closed_comment}
 use Rattle.edif_values.specs.declared.name.NameDef.{NameDef}
 use Rattle.edif_values.specs.declared.name.PortName.{PortName}
 use Rattle.edif_values.specs.declared.property.PropTail.{PropTail}
-use Rattle.edif_names.specs.Grammar.{renamed, plain, name, array, renamed_port, plain_port, port_form, port_name, exponential, whole, scaled, string_value, integer_value, number_value, boolean_value, value_form, value, owner, remark, tail_form, tail_item, tails, property}
+use Rattle.readers.specs.Items.{as_item}
+use Rattle.edif_values.specs.declared.name.PortName.TheVariants.{Single}
+use Rattle.edif_names.specs.Grammar.{renamed, plain, name, array, port_form, port_name, exponential, whole, scaled, string_value, integer_value, number_value, boolean_value, value_form, value, owner, tail_form, tail_item, tails, property}
 
--- one part or the other
-live_one_of : {A : Type 0} (b : Bool) (p q : Edif A) → Lives p → Lives q → Lives (cond b p q)
-live_one_of true p q h l = h
-live_one_of false p q h l = l
-
-closed_one_of : {A : Type 0} (b : Bool) (p q : Edif A) → Closes p → Closes q → Closes (cond b p q)
-closed_one_of true p q h l = h
-closed_one_of false p q h l = l
-
-closed_word : Closes word
+pub closed_word : Closes word
 closed_word table = shut_one table (λ _ x. say.word_of x.token)
 
-closed_string : Closes string
+pub closed_string : Closes string
 closed_string table = shut_one table (λ _ x. say.string_of x.token)
 
-closed_integer : Closes integer
+pub closed_integer : Closes integer
 closed_integer table = shut_one table (λ _ x. say.integer_of x.token)
 
 -- ---- names
@@ -73,48 +67,38 @@ unfolding array
 closed_array table = shut_then (closed_name table) (λ _. shut_then (closed_integer table) (λ _. shut_then (closed_closing table) (λ _. shut_gives table _)))
 
 live_port_form : (b : Bool) → Lives (port_form b)
-unfolding renamed_port
 live_port_form true table = live_array table
 live_port_form false table = (live_renamed table, λ _. tt)
 
 closed_port_form : (b : Bool) → Closes (port_form b)
-unfolding renamed_port
 closed_port_form true table = closed_array table
 closed_port_form false table = shut_then (closed_renamed table) (λ _. shut_gives table _)
-
-live_plain_port : Lives plain_port
-unfolding plain_port
-live_plain_port table = (live_plain table, λ _. tt)
-
-closed_plain_port : Closes plain_port
-unfolding plain_port
-closed_plain_port table = shut_then (closed_plain table) (λ _. shut_gives table _)
 
 -- an identifier as a name
 abbrev as_name : List ℕ → Edif NameDef
 as_name w = gives (record { ident = w; text = None })
 
 -- the name of a port that is no form begins with a word
-word_first : (table : List Alias) (x : Found) → First table plain_port (proper x) → say.at_opening x.token ≡ leaves
-unfolding plain_port plain
+word_first : (table : List Alias) (x : Found) → First table (as_item Single plain) (proper x) → say.at_opening x.token ≡ leaves
+unfolding plain
 word_first table x (inl h) = let w = first_one (λ _ y. say.word_of y.token) as_name table x h in word_leaves x.token w.0 w.1
 word_first table x (inr h) = absurd (not_empty (λ _ y. say.word_of y.token) as_name table h.0 h.1)
 
-port_not_empty : (table : List Alias) (v : PortName) → Empty table plain_port v → ⊥
-unfolding plain_port plain
+port_not_empty : (table : List Alias) (v : PortName) → Empty table (as_item Single plain) v → ⊥
+unfolding plain
 port_not_empty table v h = not_empty (λ _ y. say.word_of y.token) as_name table h.0 h.1
 
 pub live_port_name : Lives port_name
 unfolding port_name form_or has
 live_port_name table =
-    live_if (λ _ x. say.at_opening x.token) (λ _. sequence (keyword (k.Rename ∷ k.Array ∷ [])) (λ q. port_form (same_keyword q k.Array))) plain_port table
-    (λ _. (live_keyword k.Rename (k.Rename ∷ k.Array ∷ []) refl table, λ q. live_port_form (same_keyword q k.Array) table)) (live_plain_port table)
+    live_if (λ _ x. say.at_opening x.token) (λ _. sequence (keyword (k.Rename ∷ k.Array ∷ [])) (λ q. port_form (same_keyword q k.Array))) (as_item Single plain) table
+    (λ _. (live_keyword k.Rename (k.Rename ∷ k.Array ∷ []) refl table, λ q. live_port_form (same_keyword q k.Array) table)) ((live_as_item plain live_plain) table)
 
 pub closed_port_name : Closes port_name
 unfolding port_name form_or
 closed_port_name table = record {
-  closed = closed_if (λ _ x. say.at_opening x.token) (λ _. sequence (keyword (k.Rename ∷ k.Array ∷ [])) (λ q. port_form (same_keyword q k.Array))) plain_port table
-      (λ _. (shut_then (closed_keyword (k.Rename ∷ k.Array ∷ []) table) (λ q. closed_port_form (same_keyword q k.Array) table)).closed) (closed_plain_port table).closed (word_first table) (port_not_empty table);
+  closed = closed_if (λ _ x. say.at_opening x.token) (λ _. sequence (keyword (k.Rename ∷ k.Array ∷ [])) (λ q. port_form (same_keyword q k.Array))) (as_item Single plain) table
+      (λ _. (shut_then (closed_keyword (k.Rename ∷ k.Array ∷ []) table) (λ q. closed_port_form (same_keyword q k.Array) table)).closed) ((closed_as_item closed_plain) table).closed (word_first table) (port_not_empty table);
 }
 
 -- ---- values
@@ -204,21 +188,13 @@ closed_owner : Closes owner
 unfolding owner
 closed_owner table = shut_then (closed_string table) (λ _. shut_then (closed_closing table) (λ _. shut_gives table _))
 
-live_remark : Lives remark
-unfolding remark
-live_remark table = (live_comment table, λ _. tt)
-
-closed_remark : Closes remark
-unfolding remark
-closed_remark table = shut_then (closed_comment table) (λ _. shut_gives table _)
-
 live_tail_form : (q : Keyword) → Lives (tail_form q)
 unfolding tail_form
-live_tail_form q = live_one_of (same_keyword q k.Owner) owner remark live_owner live_remark
+live_tail_form q = live_one_of (same_keyword q k.Owner) owner _ live_owner (live_as_item comment live_comment)
 
 closed_tail_form : (q : Keyword) → Closes (tail_form q)
 unfolding tail_form
-closed_tail_form q = closed_one_of (same_keyword q k.Owner) owner remark closed_owner closed_remark
+closed_tail_form q = closed_one_of (same_keyword q k.Owner) owner _ closed_owner (closed_as_item closed_comment)
 
 pub live_tail_item : Lives tail_item
 unfolding tail_item has

@@ -14,15 +14,18 @@ use Rattle.edif_keywords.specs.Aliases.{Alias}
 use Rattle.edif_keywords.specs.Language.{edif}
 use Rattle.edif_keywords.specs.Reasons.{word_of, integer_of}
 use Rattle.edif_keywords.proofs.Forms.{form_or_other}
-use Rattle.edif_names.specs.Grammar.{plain, plain_port, whole, string_value, integer_value, number_value, boolean_value, value_form, owner, remark, tail_form}
+use Rattle.readers.specs.Items.{as_item}
+use Rattle.edif_values.specs.declared.name.PortName.TheVariants.{Single}
+use Rattle.edif_values.specs.declared.property.PropTail.TheVariants as tail
+use Rattle.edif_keywords.specs.Grammar.{comment}
+use Rattle.edif_names.specs.Grammar.{plain, whole, string_value, integer_value, number_value, boolean_value, value_form, owner, tail_form}
 
 module _ (e : ReadError) (table : List Alias) (s : Option (Ahead Found)) (h : IsCause e (reading edif any table s)) where
   pub plain_due : IsCause e (reading edif plain table s)
   unfolding plain
   plain_due = due_then e edif _ _ table s (due_one e edif (λ _ x. word_of x.token) table s h)
 
-  pub plain_port_due : IsCause e (reading edif plain_port table s)
-  unfolding plain_port
+  pub plain_port_due : IsCause e (reading edif (as_item Single plain) table s)
   plain_port_due = due_then e edif _ _ table s plain_due
 
   pub whole_due : IsCause e (reading edif whole table s)
@@ -50,7 +53,7 @@ module _ (q : Keyword) where
   unfolding tail_form
   owner_due h = rw h refl
 
-  pub remark_due : same_keyword q k.Owner ≡ false → tail_form q ≡ remark
+  pub remark_due : same_keyword q k.Owner ≡ false → tail_form q ≡ as_item tail.Comment comment
   unfolding tail_form
   remark_due h = rw h refl
 

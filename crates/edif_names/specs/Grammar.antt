@@ -1,6 +1,7 @@
 -- The productions of names and properties (EDIF 2 0 0, forms rename, array, property, string, integer, number, boolean, owner). A production
 -- whose form has a keyword of its own reads on after it, up to the `)` of the form.
 use Rattle.std.specs.Prelude.{Bool, true, false, List, [], ◌∷◌, Some, None, pos, cond}
+use Rattle.readers.specs.Items.{as_item}
 use Rattle.grammar.specs.Part.{gives, ◌>>=◌}
 use Rattle.nl_base.specs.declared.number.Scaled.{Scaled}
 use Rattle.nl_base.specs.declared.value.PropValue.{PropValue}
@@ -45,26 +46,14 @@ array = do
   _ ← closing
   gives (Array n size)
 
--- IDENT STR ) after `( rename`, as the name of a port
-unfoldable pub renamed_port : Edif PortName
-renamed_port = do
-  n ← renamed
-  gives (Single n)
-
--- IDENT as the name of a port
-unfoldable pub plain_port : Edif PortName
-plain_port = do
-  n ← plain
-  gives (Single n)
-
 -- rename or array, after its keyword
 abbrev pub port_form : Bool → Edif PortName
 port_form true = array
-port_form false = renamed_port
+port_form false = as_item Single renamed
 
 -- PORTNAME  = NAME | ( array NAME INT )
 unfoldable pub port_name : Edif PortName
-port_name = form_or (k.Rename ∷ k.Array ∷ []) (λ q. port_form (same_keyword q k.Array)) plain_port
+port_name = form_or (k.Rename ∷ k.Array ∷ []) (λ q. port_form (same_keyword q k.Array)) (as_item Single plain)
 
 -- ---- values
 
@@ -133,15 +122,9 @@ owner = do
   _ ← closing
   gives (tail.Owner s)
 
--- a comment behind the value of a property
-unfoldable pub remark : Edif PropTail
-remark = do
-  ts ← comment
-  gives (tail.Comment ts)
-
 -- owner or comment, after its keyword
 unfoldable pub tail_form : Keyword → Edif PropTail
-tail_form q = cond (same_keyword q k.Owner) owner remark
+tail_form q = cond (same_keyword q k.Owner) owner (as_item tail.Comment comment)
 
 -- ( owner STR ) | comment
 unfoldable pub tail_item : Edif PropTail

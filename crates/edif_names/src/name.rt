@@ -2,7 +2,7 @@ ghost use Rattle.std.specs.Prelude.{IfOk};
 ghost use Rattle.edif_values.specs.Values.{IsNameDef, IsPortName};
 ghost use Rattle.readers.specs.Readers.{same, Reads};
 ghost use Rattle.edif_keywords.specs.Language.{edif};
-ghost use Rattle.edif_names.specs.Grammar.{renamed, plain, name, array, renamed_port, plain_port, port_form, port_name};
+ghost use Rattle.edif_names.specs.Grammar.{renamed, plain, name, array, port_form, port_name};
 
 use edif_keywords::Cursor;
 use edif_values::{Keyword, NameDef, PortName, same_keyword};
@@ -73,7 +73,8 @@ pub fn read_port_name<S: Source>(
         let keyword = cursor.begin(alloc, &[Keyword::Rename, Keyword::Array], source)?;
         return port_form(alloc, cursor, same_keyword(keyword, Keyword::Array), source);
     }
-    plain_port(alloc, cursor, source)
+    let name = plain(alloc, cursor, source)?;
+    Ok(PortName::Single(name))
 }
 
 #[tactic(auto, using(readers::proofs::Reading::sequences))]
@@ -89,7 +90,8 @@ fn port_form<S: Source>(
     if is_array {
         return array(alloc, cursor, source);
     }
-    renamed_port(alloc, cursor, source)
+    let name = renamed(alloc, cursor, source)?;
+    Ok(PortName::Single(name))
 }
 
 /// Reads on after the keyword `array`.
@@ -106,30 +108,4 @@ fn array<S: Source>(
     let size = cursor.int(alloc, source)?;
     cursor.finish_form(alloc, source)?;
     Ok(PortName::Array(name, size))
-}
-
-#[tactic(auto, using(readers::proofs::Reading::sequences), unfolding(crate::specs::Grammar::renamed_port))]
-fn renamed_port<S: Source>(
-    alloc: Global,
-    cursor: &mut Cursor,
-    source: &mut S,
-) -> Result<PortName, ReadError>
-    ensures reads { Reads edif same renamed_port result cursor.old cursor.new (S.supply source.old) (S.supply source.new) }
-    ensures value { IfOk result IsPortName }
-{
-    let name = renamed(alloc, cursor, source)?;
-    Ok(PortName::Single(name))
-}
-
-#[tactic(auto, using(readers::proofs::Reading::sequences), unfolding(crate::specs::Grammar::plain_port))]
-fn plain_port<S: Source>(
-    alloc: Global,
-    cursor: &mut Cursor,
-    source: &mut S,
-) -> Result<PortName, ReadError>
-    ensures reads { Reads edif same plain_port result cursor.old cursor.new (S.supply source.old) (S.supply source.new) }
-    ensures value { IfOk result IsPortName }
-{
-    let name = plain(alloc, cursor, source)?;
-    Ok(PortName::Single(name))
 }

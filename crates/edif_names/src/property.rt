@@ -3,7 +3,7 @@ ghost use Rattle.edif_values.specs.Sizes.{list_size, tail_size, property_size};
 ghost use Rattle.edif_values.specs.Values.{IsPropTail, ArePropTails, IsProperty};
 ghost use Rattle.readers.specs.Readers.{same, Reads, room};
 ghost use Rattle.edif_keywords.specs.Language.{edif};
-ghost use Rattle.edif_names.specs.Grammar.{owner, remark, tail_form, tail_item, tails, property};
+ghost use Rattle.edif_names.specs.Grammar.{owner, tail_form, tail_item, tails, property};
 
 use crate::name::read_name;
 use crate::value::read_value;
@@ -78,7 +78,8 @@ fn tail_form<S: Source>(
     if same_keyword(keyword, Keyword::Owner) {
         return owner(alloc, cursor, source);
     }
-    remark(alloc, cursor, source)
+    let texts = read_comment(alloc, cursor, source)?;
+    Ok(PropTail::Comment(texts))
 }
 
 /// Reads on after the keyword `owner`.
@@ -95,18 +96,4 @@ fn owner<S: Source>(
     let text = cursor.string(alloc, source)?;
     cursor.finish_form(alloc, source)?;
     Ok(PropTail::Owner(text))
-}
-
-#[tactic(auto, using(readers::proofs::Reading::sequences), unfolding(crate::specs::Grammar::remark))]
-fn remark<S: Source>(
-    alloc: Global,
-    cursor: &mut Cursor,
-    source: &mut S,
-) -> Result<PropTail, ReadError>
-    ensures reads { Reads edif same remark result cursor.old cursor.new (S.supply source.old) (S.supply source.new) }
-    ensures value { IfOk result IsPropTail }
-    ensures size { IfOk result (λ t. tail_size t + room cursor.new < room cursor.old) }
-{
-    let texts = read_comment(alloc, cursor, source)?;
-    Ok(PropTail::Comment(texts))
 }

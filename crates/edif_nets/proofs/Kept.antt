@@ -9,6 +9,7 @@ use Rattle.edif_values.specs.declared.keyword.Keyword.{Keyword}
 use Rattle.edif_values.specs.declared.keyword.Keyword.TheVariants as k
 use Rattle.edif_values.specs.Keywords.{has, same_keyword}
 use Rattle.edif_values.specs.Values.{IsWord, IsInteger, IsString, IsPortItem, ArePortItems, IsPort, IsInstanceItem, IsInstance, IsPortRef, IsNetItem, IsNet}
+use Rattle.edif_keywords.specs.Language.{Edif}
 use Rattle.edif_keywords.specs.Grammar.{closing, choice, begin}
 use Rattle.edif_values.proofs.Same.{spelled_alike}
 use Rattle.edif_keywords.proofs.Kept.{Kept, kept_gives, kept_then, kept_after, kept_cond, kept_weaker, kept_word, kept_string, kept_integer, kept_form_or, kept_items, kept_all}
@@ -20,7 +21,7 @@ use Rattle.edif_values.specs.declared.instance.InstanceItem.{InstanceItem}
 use Rattle.edif_values.specs.declared.net.PortRef.{PortRef}
 use Rattle.edif_values.specs.declared.net.NetItem.{NetItem}
 use Rattle.edif_values.specs.Directions.{told, directions}
-use Rattle.edif_nets.specs.Grammar.{designator, direction_words, direction, port_property, port_designator, port_note, port_item, is_direction, has_direction, port_keywords, port_rest, port, library_named, no_library, maybe_library, cell_ref, view_ref, instance_property, instance_designator, instance_note, instance_item, instance_keywords, instance_rest, instance, member, whole_port, port_or_member, instance_named, no_instance, maybe_instance, port_ref, joined_keywords, joined_rest, joined, net_property, net_note, net_item, net_keywords, net_rest, net}
+use Rattle.edif_nets.specs.Grammar.{designator, direction_words, direction, port_item, is_direction, has_direction, port_keywords, port_rest, port, library_named, no_library, maybe_library, cell_ref, view_ref, instance_item, instance_keywords, instance_rest, instance, member, whole_port, port_or_member, instance_named, no_instance, maybe_instance, port_ref, joined_keywords, joined_rest, joined, net_item, net_keywords, net_rest, net}
 
 -- ---- ports
 
@@ -85,33 +86,24 @@ port_items_more is (port_items.Property p) b all ok e one = add_other is (port_i
 port_items_more is (port_items.Designator s) b all ok e one = add_other is (port_items.Designator s) all (ok, refl)
 port_items_more is (port_items.Note n) b all ok e one = add_other is (port_items.Note n) all (ok, refl)
 
-kept_direction : (is : List PortItem) → ArePortItems is → has_direction is ≡ false → Kept direction (λ i. ArePortItems (is ++ i ∷ []))
-unfolding direction
-kept_direction is all none = kept_after (choice direction_words) (λ d. kept_after closing (λ _. kept_gives (port_items.Direction d) (add_direction is d all none)))
+-- one part or the other, as a test of the item says
+pub kept_by : {I : Type 0} (Good : I → Type 0) (test : I → Bool) (b : Bool) (p q : Edif I) → Kept p (λ i. Good i × (test i ≡ true)) → Kept q (λ i. Good i × (test i ≡ false)) → Kept (cond b p q) (λ i. Good i × (test i ≡ b))
+kept_by Good test true p q one other = one
+kept_by Good test false p q one other = other
 
-kept_port_property : Kept port_property IsOther
-unfolding port_property told
-kept_port_property = kept_then kept_property (λ p is_property. kept_gives (port_items.Property p) (is_property, refl))
-
-kept_port_designator : Kept port_designator IsOther
-unfolding port_designator told
-kept_port_designator = kept_then kept_designator (λ s is_string. kept_gives (port_items.Designator s) (is_string, refl))
-
-kept_port_note : (q : Keyword) → Kept (port_note q) IsOther
-unfolding port_note told
-kept_port_note q = kept_then (kept_note q) (λ n is_note. kept_gives (port_items.Note n) (is_note, refl))
+kept_direction : Kept direction (λ i. IsPortItem i × (is_direction i ≡ true))
+unfolding direction is_direction
+kept_direction = kept_after (choice direction_words) (λ d. kept_after closing (λ _. kept_gives (port_items.Direction d) (tt, refl)))
 
 kept_port_item : (is : List PortItem) → ArePortItems is → (q : Keyword) → has (port_keywords (has_direction is)) q ≡ true → Kept (port_item q) (λ i. ArePortItems (is ++ i ∷ []))
-unfolding port_item
-kept_port_item is all q may_stand = by (same_keyword q k.Direction) refl
-  where
-    other : Kept (cond (same_keyword q k.Property) port_property (cond (same_keyword q k.Designator) port_designator (port_note q))) IsOther
-    other = kept_cond (same_keyword q k.Property) port_property _ kept_port_property (kept_cond (same_keyword q k.Designator) port_designator (port_note q) kept_port_designator (kept_port_note q))
-
-    by : (t : Bool) → same_keyword q k.Direction ≡ t
-        → Kept (cond t direction (cond (same_keyword q k.Property) port_property (cond (same_keyword q k.Designator) port_designator (port_note q)))) (λ i. ArePortItems (is ++ i ∷ []))
-    by true e = kept_direction is all (first_direction (has_direction is) q may_stand e)
-    by false e = kept_weaker other (λ i is_other. add_other is i all is_other)
+unfolding port_item is_direction
+kept_port_item is all q may_stand =
+    kept_weaker
+    (kept_by IsPortItem is_direction (same_keyword q k.Direction) _ _ kept_direction
+    (kept_cond (same_keyword q k.Property) _ _ (kept_then kept_property (λ p is_property. kept_gives (port_items.Property p) (is_property, refl)))
+    (kept_cond (same_keyword q k.Designator) _ _ (kept_then kept_designator (λ s is_string. kept_gives (port_items.Designator s) (is_string, refl)))
+    (kept_then (kept_note q) (λ n is_note. kept_gives (port_items.Note n) (is_note, refl))))))
+    (λ i known. port_items_more is i (has_direction is) all known.0 refl (one_direction (has_direction is) q i may_stand known.1))
 
 kept_port_rest : (so_far : List PortItem) → ArePortItems so_far → Kept (port_rest so_far) ArePortItems
 unfolding port_rest
@@ -144,23 +136,11 @@ unfolding view_ref
 kept_view_ref =
     kept_after (begin (k.ViewRef ∷ [])) (λ _. kept_then kept_word (λ v is_view. kept_then kept_cell_ref (λ c is_cell. kept_after closing (λ _. kept_gives (v, c.0, c.1) (is_view, is_cell.0, is_cell.1)))))
 
-kept_instance_property : Kept instance_property IsInstanceItem
-unfolding instance_property
-kept_instance_property = kept_then kept_property (λ p is_property. kept_gives _ is_property)
-
-kept_instance_designator : Kept instance_designator IsInstanceItem
-unfolding instance_designator
-kept_instance_designator = kept_then kept_designator (λ s is_string. kept_gives _ is_string)
-
-kept_instance_note : (q : Keyword) → Kept (instance_note q) IsInstanceItem
-unfolding instance_note
-kept_instance_note q = kept_then (kept_note q) (λ n is_note. kept_gives _ is_note)
-
 kept_instance_item : (q : Keyword) → Kept (instance_item q) IsInstanceItem
 unfolding instance_item
 kept_instance_item q =
-    kept_cond (same_keyword q k.Property) instance_property _ kept_instance_property
-    (kept_cond (same_keyword q k.Designator) instance_designator (instance_note q) kept_instance_designator (kept_instance_note q))
+    kept_cond (same_keyword q k.Property) _ _ (kept_then kept_property (λ p is_property. kept_gives _ is_property))
+    (kept_cond (same_keyword q k.Designator) _ _ (kept_then kept_designator (λ s is_string. kept_gives _ is_string)) (kept_then (kept_note q) (λ n is_note. kept_gives _ is_note)))
 
 kept_instance_rest : (so_far : List InstanceItem) → AllByRecursion IsInstanceItem so_far → Kept (instance_rest so_far) (λ is. AllByRecursion IsInstanceItem is)
 unfolding instance_rest
@@ -211,17 +191,9 @@ kept_joined : Kept joined (λ rs. AllByRecursion IsPortRef rs)
 unfolding joined
 kept_joined = kept_after (begin (k.Joined ∷ [])) (λ _. kept_joined_rest [] tt)
 
-kept_net_property : Kept net_property IsNetItem
-unfolding net_property
-kept_net_property = kept_then kept_property (λ p is_property. kept_gives _ is_property)
-
-kept_net_note : (q : Keyword) → Kept (net_note q) IsNetItem
-unfolding net_note
-kept_net_note q = kept_then (kept_note q) (λ n is_note. kept_gives _ is_note)
-
 kept_net_item : (q : Keyword) → Kept (net_item q) IsNetItem
 unfolding net_item
-kept_net_item q = kept_cond (same_keyword q k.Property) net_property (net_note q) kept_net_property (kept_net_note q)
+kept_net_item q = kept_cond (same_keyword q k.Property) _ _ (kept_then kept_property (λ p is_property. kept_gives _ is_property)) (kept_then (kept_note q) (λ n is_note. kept_gives _ is_note))
 
 kept_net_rest : (so_far : List NetItem) → AllByRecursion IsNetItem so_far → Kept (net_rest so_far) (λ is. AllByRecursion IsNetItem is)
 unfolding net_rest

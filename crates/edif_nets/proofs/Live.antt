@@ -2,6 +2,9 @@
 use Rattle.std.proofs.Common.{◌≡◌, refl, Bool, true, false, cond, List, [], ◌∷◌, None, codes}
 use Rattle.grammar.specs.Part.{gives, sequence}
 use Rattle.nl_base.specs.declared.value.Dir.TheVariants as dirs
+use Rattle.readers.proofs.Items.{live_as_item, closed_as_item, live_one_of, closed_one_of}
+use Rattle.edif_names.specs.Grammar.{property}
+use Rattle.edif_status.specs.Grammar.{note}
 use Rattle.readers.proofs.Shapes.{live_if, shut_gives, shut_one, shut_then, shut_if}
 use Rattle.edif_values.specs.declared.keyword.Keyword.{Keyword}
 use Rattle.edif_values.specs.declared.keyword.Keyword.TheVariants as k
@@ -11,31 +14,13 @@ use Rattle.edif_keywords.specs.Reasons as say
 use Rattle.edif_keywords.specs.Reasons.{meant_by}
 use Rattle.edif_keywords.specs.Grammar.{word, string, integer, closing, keyword, form_or}
 use Rattle.edif_keywords.proofs.Live.{Lives, Closes, live_word, live_string, live_integer, live_closing, live_choice, live_keyword, live_begin, closed_keyword, closed_closing, closed_begin, closing_leaves, word_leaves, live_items, closed_items}
-use Rattle.edif_names.proofs.Live.{live_name, closed_name, live_port_name, closed_port_name, live_property, closed_property}
+use Rattle.edif_names.proofs.Live.{closed_word, closed_string, closed_integer, live_name, closed_name, live_port_name, closed_port_name, live_property, closed_property}
 use Rattle.edif_status.proofs.Live.{live_note, closed_note}
 use Rattle.edif_values.specs.declared.port.PortItem.{PortItem}
 use Rattle.edif_values.specs.declared.instance.InstanceItem.{InstanceItem}
 use Rattle.edif_values.specs.declared.net.PortRef.{PortRef}
 use Rattle.edif_values.specs.declared.net.NetItem.{NetItem}
-use Rattle.edif_nets.specs.Grammar.{designator, direction_words, direction, port_property, port_designator, port_note, port_item, has_direction, port_keywords, port_rest, port, library_named, no_library, maybe_library, cell_ref, view_ref, instance_property, instance_designator, instance_note, instance_item, instance_keywords, instance_rest, instance, member, whole_port, port_or_member, instance_named, no_instance, maybe_instance, port_ref, joined_keywords, joined_rest, joined, net_property, net_note, net_item, net_keywords, net_rest, net}
-
--- one part or the other
-live_one_of : {A : Type 0} (b : Bool) (p q : Edif A) → Lives p → Lives q → Lives (cond b p q)
-live_one_of true p q h l = h
-live_one_of false p q h l = l
-
-closed_one_of : {A : Type 0} (b : Bool) (p q : Edif A) → Closes p → Closes q → Closes (cond b p q)
-closed_one_of true p q h l = h
-closed_one_of false p q h l = l
-
-closed_word : Closes word
-closed_word table = shut_one table (λ _ x. say.word_of x.token)
-
-closed_string : Closes string
-closed_string table = shut_one table (λ _ x. say.string_of x.token)
-
-closed_integer : Closes integer
-closed_integer table = shut_one table (λ _ x. say.integer_of x.token)
+use Rattle.edif_nets.specs.Grammar.{designator, direction_words, direction, port_item, has_direction, port_keywords, port_rest, port, library_named, no_library, maybe_library, cell_ref, view_ref, instance_item, instance_keywords, instance_rest, instance, member, whole_port, port_or_member, instance_named, no_instance, maybe_instance, port_ref, joined_keywords, joined_rest, joined, net_item, net_keywords, net_rest, net}
 
 -- ---- ports
 
@@ -55,41 +40,19 @@ closed_direction : Closes direction
 unfolding direction
 closed_direction table = shut_then (shut_one table (λ _ x. say.choice_of direction_words x.token)) (λ _. shut_then (closed_closing table) (λ _. shut_gives table _))
 
-live_port_property : Lives port_property
-unfolding port_property
-live_port_property table = (live_property table, λ _. tt)
-
-closed_port_property : Closes port_property
-unfolding port_property
-closed_port_property table = shut_then (closed_property table) (λ _. shut_gives table _)
-
-live_port_designator : Lives port_designator
-unfolding port_designator
-live_port_designator table = (live_designator table, λ _. tt)
-
-closed_port_designator : Closes port_designator
-unfolding port_designator
-closed_port_designator table = shut_then (closed_designator table) (λ _. shut_gives table _)
-
-live_port_note : (q : Keyword) → Lives (port_note q)
-unfolding port_note
-live_port_note q table = (live_note q table, λ _. tt)
-
-closed_port_note : (q : Keyword) → Closes (port_note q)
-unfolding port_note
-closed_port_note q table = shut_then (closed_note q table) (λ _. shut_gives table _)
-
 live_port_item : (q : Keyword) → Lives (port_item q)
 unfolding port_item
 live_port_item q =
     live_one_of (same_keyword q k.Direction) direction _ live_direction
-    (live_one_of (same_keyword q k.Property) port_property _ live_port_property (live_one_of (same_keyword q k.Designator) port_designator (port_note q) live_port_designator (live_port_note q)))
+    (live_one_of (same_keyword q k.Property) _ _ (live_as_item property live_property)
+    (live_one_of (same_keyword q k.Designator) _ _ (live_as_item designator live_designator) (live_as_item (note q) (live_note q))))
 
 closed_port_item : (q : Keyword) → Closes (port_item q)
 unfolding port_item
 closed_port_item q =
     closed_one_of (same_keyword q k.Direction) direction _ closed_direction
-    (closed_one_of (same_keyword q k.Property) port_property _ closed_port_property (closed_one_of (same_keyword q k.Designator) port_designator (port_note q) closed_port_designator (closed_port_note q)))
+    (closed_one_of (same_keyword q k.Property) _ _ (closed_as_item closed_property)
+    (closed_one_of (same_keyword q k.Designator) _ _ (closed_as_item closed_designator) (closed_as_item (closed_note q))))
 
 has_property : (b : Bool) → has (port_keywords b) k.Property ≡ true
 unfolding has port_keywords
@@ -151,41 +114,17 @@ unfolding view_ref
 closed_view_ref table =
     shut_then (closed_begin (k.ViewRef ∷ []) table) (λ _. shut_then (closed_word table) (λ _. shut_then (closed_cell_ref table) (λ _. shut_then (closed_closing table) (λ _. shut_gives table _))))
 
-live_instance_property : Lives instance_property
-unfolding instance_property
-live_instance_property table = (live_property table, λ _. tt)
-
-closed_instance_property : Closes instance_property
-unfolding instance_property
-closed_instance_property table = shut_then (closed_property table) (λ _. shut_gives table _)
-
-live_instance_designator : Lives instance_designator
-unfolding instance_designator
-live_instance_designator table = (live_designator table, λ _. tt)
-
-closed_instance_designator : Closes instance_designator
-unfolding instance_designator
-closed_instance_designator table = shut_then (closed_designator table) (λ _. shut_gives table _)
-
-live_instance_note : (q : Keyword) → Lives (instance_note q)
-unfolding instance_note
-live_instance_note q table = (live_note q table, λ _. tt)
-
-closed_instance_note : (q : Keyword) → Closes (instance_note q)
-unfolding instance_note
-closed_instance_note q table = shut_then (closed_note q table) (λ _. shut_gives table _)
-
 live_instance_item : (q : Keyword) → Lives (instance_item q)
 unfolding instance_item
 live_instance_item q =
-    live_one_of (same_keyword q k.Property) instance_property _ live_instance_property
-    (live_one_of (same_keyword q k.Designator) instance_designator (instance_note q) live_instance_designator (live_instance_note q))
+    live_one_of (same_keyword q k.Property) _ _ (live_as_item property live_property)
+    (live_one_of (same_keyword q k.Designator) _ _ (live_as_item designator live_designator) (live_as_item (note q) (live_note q)))
 
 closed_instance_item : (q : Keyword) → Closes (instance_item q)
 unfolding instance_item
 closed_instance_item q =
-    closed_one_of (same_keyword q k.Property) instance_property _ closed_instance_property
-    (closed_one_of (same_keyword q k.Designator) instance_designator (instance_note q) closed_instance_designator (closed_instance_note q))
+    closed_one_of (same_keyword q k.Property) _ _ (closed_as_item closed_property)
+    (closed_one_of (same_keyword q k.Designator) _ _ (closed_as_item closed_designator) (closed_as_item (closed_note q)))
 
 live_instance_rest : (so_far : List InstanceItem) → Lives (instance_rest so_far)
 unfolding instance_rest has
@@ -273,29 +212,13 @@ closed_joined : Closes joined
 unfolding joined
 closed_joined table = shut_then (closed_begin (k.Joined ∷ []) table) (λ _. closed_joined_rest [] table)
 
-live_net_property : Lives net_property
-unfolding net_property
-live_net_property table = (live_property table, λ _. tt)
-
-closed_net_property : Closes net_property
-unfolding net_property
-closed_net_property table = shut_then (closed_property table) (λ _. shut_gives table _)
-
-live_net_note : (q : Keyword) → Lives (net_note q)
-unfolding net_note
-live_net_note q table = (live_note q table, λ _. tt)
-
-closed_net_note : (q : Keyword) → Closes (net_note q)
-unfolding net_note
-closed_net_note q table = shut_then (closed_note q table) (λ _. shut_gives table _)
-
 live_net_item : (q : Keyword) → Lives (net_item q)
 unfolding net_item
-live_net_item q = live_one_of (same_keyword q k.Property) net_property (net_note q) live_net_property (live_net_note q)
+live_net_item q = live_one_of (same_keyword q k.Property) _ _ (live_as_item property live_property) (live_as_item (note q) (live_note q))
 
 closed_net_item : (q : Keyword) → Closes (net_item q)
 unfolding net_item
-closed_net_item q = closed_one_of (same_keyword q k.Property) net_property (net_note q) closed_net_property (closed_net_note q)
+closed_net_item q = closed_one_of (same_keyword q k.Property) _ _ (closed_as_item closed_property) (closed_as_item (closed_note q))
 
 live_net_rest : (so_far : List NetItem) → Lives (net_rest so_far)
 unfolding net_rest has

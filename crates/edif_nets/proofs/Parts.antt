@@ -19,7 +19,13 @@ use Rattle.edif_keywords.specs.Reasons.{word_of, closing_of}
 use Rattle.edif_keywords.proofs.Forms.{form_or_other}
 use Rattle.edif_keywords.proofs.Collected.{item_lists}
 use Rattle.edif_values.specs.declared.port.PortItem.{PortItem}
-use Rattle.edif_nets.specs.Grammar.{direction, port_property, port_designator, port_note, port_item, is_direction, has_direction, no_library, instance_property, instance_designator, instance_note, instance_item, whole_port, no_instance, net_property, net_note, net_item}
+use Rattle.edif_values.specs.declared.port.PortItem.TheVariants as port_items
+use Rattle.edif_values.specs.declared.instance.InstanceItem.TheVariants as instance_items
+use Rattle.edif_values.specs.declared.net.NetItem.TheVariants as net_items
+use Rattle.readers.specs.Items.{as_item}
+use Rattle.edif_names.specs.Grammar.{property}
+use Rattle.edif_status.specs.Grammar.{note}
+use Rattle.edif_nets.specs.Grammar.{designator, direction, port_item, is_direction, has_direction, no_library, instance_item, whole_port, no_instance, net_item}
 
 module _ (e : ReadError) (table : List Alias) (s : Option (Ahead Found)) (h : IsCause e (reading edif any table s)) where
   pub no_library_due : IsCause e (reading edif no_library table s)
@@ -39,35 +45,35 @@ module _ (q : Keyword) where
   unfolding port_item
   direction_due h = rw h refl
 
-  pub port_property_due : same_keyword q k.Direction ≡ false → same_keyword q k.Property ≡ true → port_item q ≡ port_property
+  pub port_property_due : same_keyword q k.Direction ≡ false → same_keyword q k.Property ≡ true → port_item q ≡ as_item port_items.Property property
   unfolding port_item
   port_property_due h i = rw (h, i) refl
 
-  pub port_designator_due : same_keyword q k.Direction ≡ false → same_keyword q k.Property ≡ false → same_keyword q k.Designator ≡ true → port_item q ≡ port_designator
+  pub port_designator_due : same_keyword q k.Direction ≡ false → same_keyword q k.Property ≡ false → same_keyword q k.Designator ≡ true → port_item q ≡ as_item port_items.Designator designator
   unfolding port_item
   port_designator_due h i j = rw (h, i, j) refl
 
-  pub port_note_due : same_keyword q k.Direction ≡ false → same_keyword q k.Property ≡ false → same_keyword q k.Designator ≡ false → port_item q ≡ port_note q
+  pub port_note_due : same_keyword q k.Direction ≡ false → same_keyword q k.Property ≡ false → same_keyword q k.Designator ≡ false → port_item q ≡ as_item port_items.Note (note q)
   unfolding port_item
   port_note_due h i j = rw (h, i, j) refl
 
-  pub instance_property_due : same_keyword q k.Property ≡ true → instance_item q ≡ instance_property
+  pub instance_property_due : same_keyword q k.Property ≡ true → instance_item q ≡ as_item instance_items.Property property
   unfolding instance_item
   instance_property_due h = rw h refl
 
-  pub instance_designator_due : same_keyword q k.Property ≡ false → same_keyword q k.Designator ≡ true → instance_item q ≡ instance_designator
+  pub instance_designator_due : same_keyword q k.Property ≡ false → same_keyword q k.Designator ≡ true → instance_item q ≡ as_item instance_items.Designator designator
   unfolding instance_item
   instance_designator_due h i = rw (h, i) refl
 
-  pub instance_note_due : same_keyword q k.Property ≡ false → same_keyword q k.Designator ≡ false → instance_item q ≡ instance_note q
+  pub instance_note_due : same_keyword q k.Property ≡ false → same_keyword q k.Designator ≡ false → instance_item q ≡ as_item instance_items.Note (note q)
   unfolding instance_item
   instance_note_due h i = rw (h, i) refl
 
-  pub net_property_due : same_keyword q k.Property ≡ true → net_item q ≡ net_property
+  pub net_property_due : same_keyword q k.Property ≡ true → net_item q ≡ as_item net_items.Property property
   unfolding net_item
   net_property_due h = rw h refl
 
-  pub net_note_due : same_keyword q k.Property ≡ false → net_item q ≡ net_note q
+  pub net_note_due : same_keyword q k.Property ≡ false → net_item q ≡ as_item net_items.Note (note q)
   unfolding net_item
   net_note_due h = rw h refl
 

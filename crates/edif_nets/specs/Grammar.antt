@@ -2,6 +2,7 @@
 -- joined, portRef, member, instanceRef). Each reads on after its keyword, up to the `)` of the form.
 use Rattle.std.specs.Prelude.{ℕ, ℤ, Bool, true, false, List, [], ◌∷◌, Option, Some, None, codes, cond}
 use Rattle.std.specs.List.{list_any}
+use Rattle.readers.specs.Items.{as_item}
 use Rattle.grammar.specs.Part.{gives, ◌>>=◌}
 use Rattle.nl_base.specs.declared.value.Dir.{Dir}
 use Rattle.nl_base.specs.declared.value.Dir.TheVariants as dirs
@@ -43,28 +44,13 @@ direction = do
   _ ← closing
   gives (port_items.Direction d)
 
--- a property of a port
-unfoldable pub port_property : Edif PortItem
-port_property = do
-  p ← property
-  gives (port_items.Property p)
-
--- a designator of a port
-unfoldable pub port_designator : Edif PortItem
-port_designator = do
-  s ← designator
-  gives (port_items.Designator s)
-
--- a note of a port
-unfoldable pub port_note : Keyword → Edif PortItem
-port_note q = do
-  n ← note q
-  gives (port_items.Note n)
-
 -- direction | property | designator | note
 unfoldable pub port_item : Keyword → Edif PortItem
 port_item q =
-    cond (same_keyword q k.Direction) direction (cond (same_keyword q k.Property) port_property (cond (same_keyword q k.Designator) port_designator (port_note q)))
+    cond (same_keyword q k.Direction) direction
+    (cond (same_keyword q k.Property) (as_item port_items.Property property)
+    (cond (same_keyword q k.Designator) (as_item port_items.Designator designator)
+    (as_item port_items.Note (note q))))
 
 -- whether an item is a direction
 unfoldable pub is_direction : PortItem → Bool
@@ -113,27 +99,12 @@ no_library = do
 unfoldable pub maybe_library : Edif (Option (List ℕ))
 maybe_library = form_or (k.LibraryRef ∷ []) (λ _. library_named) no_library
 
--- a property of an instance
-unfoldable pub instance_property : Edif InstanceItem
-instance_property = do
-  p ← property
-  gives (instance_items.Property p)
-
--- a designator of an instance
-unfoldable pub instance_designator : Edif InstanceItem
-instance_designator = do
-  s ← designator
-  gives (instance_items.Designator s)
-
--- a note of an instance
-unfoldable pub instance_note : Keyword → Edif InstanceItem
-instance_note q = do
-  n ← note q
-  gives (instance_items.Note n)
-
 -- property | designator | note
 unfoldable pub instance_item : Keyword → Edif InstanceItem
-instance_item q = cond (same_keyword q k.Property) instance_property (cond (same_keyword q k.Designator) instance_designator (instance_note q))
+instance_item q =
+    cond (same_keyword q k.Property) (as_item instance_items.Property property)
+    (cond (same_keyword q k.Designator) (as_item instance_items.Designator designator)
+    (as_item instance_items.Note (note q)))
 
 -- the keywords that may stand behind the reference of an instance
 abbrev pub instance_keywords : List Keyword
@@ -227,21 +198,11 @@ joined = do
   _ ← begin (k.Joined ∷ [])
   joined_rest []
 
--- a property of a net
-unfoldable pub net_property : Edif NetItem
-net_property = do
-  p ← property
-  gives (net_items.Property p)
-
--- a note of a net
-unfoldable pub net_note : Keyword → Edif NetItem
-net_note q = do
-  n ← note q
-  gives (net_items.Note n)
-
 -- property | note
 unfoldable pub net_item : Keyword → Edif NetItem
-net_item q = cond (same_keyword q k.Property) net_property (net_note q)
+net_item q =
+    cond (same_keyword q k.Property) (as_item net_items.Property property)
+    (as_item net_items.Note (note q))
 
 -- the keywords that may stand behind what a net joins
 abbrev pub net_keywords : List Keyword

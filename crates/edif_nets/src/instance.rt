@@ -5,7 +5,7 @@ ghost use Rattle.edif_keywords.specs.Grammar.{item};
 ghost use Rattle.std.specs.List.{AllByRecursion};
 ghost use Rattle.edif_values.specs.Values.{IsWord, IsInstanceItem, IsInstance};
 ghost use Rattle.edif_values.specs.Sizes.{list_size, instance_item_size, instance_size};
-ghost use Rattle.edif_nets.specs.Grammar.{library_named, no_library, maybe_library, cell_ref, view_ref, instance_property, instance_designator, instance_note, instance_item, instance_keywords, instance_rest, instance};
+ghost use Rattle.edif_nets.specs.Grammar.{library_named, no_library, maybe_library, cell_ref, view_ref, instance_item, instance_keywords, instance_rest, instance};
 
 use crate::port::read_designator;
 use edif_keywords::Cursor;
@@ -171,53 +171,13 @@ fn instance_form<S: Source>(
     ensures size { IfOk result (λ i. instance_item_size i + room cursor.new < room cursor.old) }
 {
     if same_keyword(keyword, Keyword::Property) {
-        return instance_property(alloc, cursor, source);
+        let property = read_property(alloc, cursor, source)?;
+        return Ok(InstanceItem::Property(property));
     }
     if same_keyword(keyword, Keyword::Designator) {
-        return instance_designator(alloc, cursor, source);
+        let text = read_designator(alloc, cursor, source)?;
+        return Ok(InstanceItem::Designator(text));
     }
-    instance_note(alloc, cursor, keyword, source)
-}
-
-#[tactic(auto, using(readers::proofs::Reading::sequences), unfolding(crate::specs::Grammar::instance_property))]
-fn instance_property<S: Source>(
-    alloc: Global,
-    cursor: &mut Cursor,
-    source: &mut S,
-) -> Result<InstanceItem, ReadError>
-    ensures reads { Reads edif same instance_property result cursor.old cursor.new (S.supply source.old) (S.supply source.new) }
-    ensures value { IfOk result IsInstanceItem }
-    ensures size { IfOk result (λ i. instance_item_size i + room cursor.new < room cursor.old) }
-{
-    let property = read_property(alloc, cursor, source)?;
-    Ok(InstanceItem::Property(property))
-}
-
-#[tactic(auto, using(readers::proofs::Reading::sequences), unfolding(crate::specs::Grammar::instance_designator))]
-fn instance_designator<S: Source>(
-    alloc: Global,
-    cursor: &mut Cursor,
-    source: &mut S,
-) -> Result<InstanceItem, ReadError>
-    ensures reads { Reads edif same instance_designator result cursor.old cursor.new (S.supply source.old) (S.supply source.new) }
-    ensures value { IfOk result IsInstanceItem }
-    ensures size { IfOk result (λ i. instance_item_size i + room cursor.new < room cursor.old) }
-{
-    let text = read_designator(alloc, cursor, source)?;
-    Ok(InstanceItem::Designator(text))
-}
-
-#[tactic(auto, using(readers::proofs::Reading::sequences), unfolding(crate::specs::Grammar::instance_note))]
-fn instance_note<S: Source>(
-    alloc: Global,
-    cursor: &mut Cursor,
-    keyword: Keyword,
-    source: &mut S,
-) -> Result<InstanceItem, ReadError>
-    ensures reads { Reads edif same (instance_note keyword) result cursor.old cursor.new (S.supply source.old) (S.supply source.new) }
-    ensures value { IfOk result IsInstanceItem }
-    ensures size { IfOk result (λ i. instance_item_size i + room cursor.new < room cursor.old) }
-{
     let note = read_note(alloc, cursor, keyword, source)?;
     Ok(InstanceItem::Note(note))
 }

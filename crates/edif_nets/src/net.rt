@@ -5,7 +5,7 @@ ghost use Rattle.edif_keywords.specs.Grammar.{item};
 ghost use Rattle.std.specs.List.{AllByRecursion};
 ghost use Rattle.edif_values.specs.Values.{IsWord, IsInteger, IsPortRef, IsNetItem, IsNet};
 ghost use Rattle.edif_values.specs.Sizes.{list_size, net_item_size, net_size};
-ghost use Rattle.edif_nets.specs.Grammar.{member, whole_port, port_or_member, instance_named, no_instance, maybe_instance, port_ref, joined_keywords, joined_rest, joined, net_property, net_note, net_item, net_keywords, net_rest, net};
+ghost use Rattle.edif_nets.specs.Grammar.{member, whole_port, port_or_member, instance_named, no_instance, maybe_instance, port_ref, joined_keywords, joined_rest, joined, net_item, net_keywords, net_rest, net};
 
 use edif_keywords::Cursor;
 use edif_names::{read_name, read_property};
@@ -243,36 +243,9 @@ fn net_form<S: Source>(
     ensures size { IfOk result (λ i. net_item_size i + room cursor.new < room cursor.old) }
 {
     if same_keyword(keyword, Keyword::Property) {
-        return net_property(alloc, cursor, source);
+        let property = read_property(alloc, cursor, source)?;
+        return Ok(NetItem::Property(property));
     }
-    net_note(alloc, cursor, keyword, source)
-}
-
-#[tactic(auto, using(readers::proofs::Reading::sequences), unfolding(crate::specs::Grammar::net_property))]
-fn net_property<S: Source>(
-    alloc: Global,
-    cursor: &mut Cursor,
-    source: &mut S,
-) -> Result<NetItem, ReadError>
-    ensures reads { Reads edif same net_property result cursor.old cursor.new (S.supply source.old) (S.supply source.new) }
-    ensures value { IfOk result IsNetItem }
-    ensures size { IfOk result (λ i. net_item_size i + room cursor.new < room cursor.old) }
-{
-    let property = read_property(alloc, cursor, source)?;
-    Ok(NetItem::Property(property))
-}
-
-#[tactic(auto, using(readers::proofs::Reading::sequences), unfolding(crate::specs::Grammar::net_note))]
-fn net_note<S: Source>(
-    alloc: Global,
-    cursor: &mut Cursor,
-    keyword: Keyword,
-    source: &mut S,
-) -> Result<NetItem, ReadError>
-    ensures reads { Reads edif same (net_note keyword) result cursor.old cursor.new (S.supply source.old) (S.supply source.new) }
-    ensures value { IfOk result IsNetItem }
-    ensures size { IfOk result (λ i. net_item_size i + room cursor.new < room cursor.old) }
-{
     let note = read_note(alloc, cursor, keyword, source)?;
     Ok(NetItem::Note(note))
 }

@@ -6,7 +6,7 @@ ghost use Rattle.edif_keywords.specs.Reasons.{rows};
 ghost use Rattle.edif_values.specs.Keywords.{same_keyword};
 ghost use Rattle.edif_values.specs.Values.{IsString, IsPortItem, ArePortItems, IsPort};
 ghost use Rattle.edif_values.specs.Sizes.{list_size, port_item_size, port_size};
-ghost use Rattle.edif_nets.specs.Grammar.{designator, direction_words, direction, port_property, port_designator, port_note, port_item, is_direction, port_keywords, port_rest, port};
+ghost use Rattle.edif_nets.specs.Grammar.{designator, direction_words, direction, port_item, is_direction, port_keywords, port_rest, port};
 
 use edif_keywords::Cursor;
 use edif_names::{read_port_name, read_property};
@@ -86,7 +86,7 @@ fn port_item<S: Source>(
 }
 
 /// The rest of an item of a port, by its keyword.
-#[tactic(auto, using(crate::proofs::Parts::by_keyword))]
+#[tactic(auto, using(crate::proofs::Parts::by_keyword), unfolding(crate::specs::Grammar::is_direction))]
 fn port_form<S: Source>(
     alloc: Global,
     cursor: &mut Cursor,
@@ -102,12 +102,15 @@ fn port_form<S: Source>(
         return direction_item(alloc, cursor, source);
     }
     if same_keyword(keyword, Keyword::Property) {
-        return port_property(alloc, cursor, source);
+        let property = read_property(alloc, cursor, source)?;
+        return Ok(PortItem::Property(property));
     }
     if same_keyword(keyword, Keyword::Designator) {
-        return port_designator(alloc, cursor, source);
+        let text = read_designator(alloc, cursor, source)?;
+        return Ok(PortItem::Designator(text));
     }
-    port_note(alloc, cursor, keyword, source)
+    let note = read_note(alloc, cursor, keyword, source)?;
+    Ok(PortItem::Note(note))
 }
 
 /// Reads on after the keyword `direction`.
@@ -125,52 +128,6 @@ fn direction_item<S: Source>(
     let direction = cursor.choose(alloc, direction_words(), source)?;
     cursor.finish_form(alloc, source)?;
     Ok(PortItem::Direction(direction))
-}
-
-#[tactic(auto, using(readers::proofs::Reading::sequences), unfolding(crate::specs::Grammar::port_property, crate::specs::Grammar::is_direction))]
-fn port_property<S: Source>(
-    alloc: Global,
-    cursor: &mut Cursor,
-    source: &mut S,
-) -> Result<PortItem, ReadError>
-    ensures reads { Reads edif same port_property result cursor.old cursor.new (S.supply source.old) (S.supply source.new) }
-    ensures value { IfOk result IsPortItem }
-    ensures size { IfOk result (λ i. port_item_size i + room cursor.new < room cursor.old) }
-    ensures kind { IfOk result (λ i. is_direction i ≡ false) }
-{
-    let property = read_property(alloc, cursor, source)?;
-    Ok(PortItem::Property(property))
-}
-
-#[tactic(auto, using(readers::proofs::Reading::sequences), unfolding(crate::specs::Grammar::port_designator, crate::specs::Grammar::is_direction))]
-fn port_designator<S: Source>(
-    alloc: Global,
-    cursor: &mut Cursor,
-    source: &mut S,
-) -> Result<PortItem, ReadError>
-    ensures reads { Reads edif same port_designator result cursor.old cursor.new (S.supply source.old) (S.supply source.new) }
-    ensures value { IfOk result IsPortItem }
-    ensures size { IfOk result (λ i. port_item_size i + room cursor.new < room cursor.old) }
-    ensures kind { IfOk result (λ i. is_direction i ≡ false) }
-{
-    let text = read_designator(alloc, cursor, source)?;
-    Ok(PortItem::Designator(text))
-}
-
-#[tactic(auto, using(readers::proofs::Reading::sequences), unfolding(crate::specs::Grammar::port_note, crate::specs::Grammar::is_direction))]
-fn port_note<S: Source>(
-    alloc: Global,
-    cursor: &mut Cursor,
-    keyword: Keyword,
-    source: &mut S,
-) -> Result<PortItem, ReadError>
-    ensures reads { Reads edif same (port_note keyword) result cursor.old cursor.new (S.supply source.old) (S.supply source.new) }
-    ensures value { IfOk result IsPortItem }
-    ensures size { IfOk result (λ i. port_item_size i + room cursor.new < room cursor.old) }
-    ensures kind { IfOk result (λ i. is_direction i ≡ false) }
-{
-    let note = read_note(alloc, cursor, keyword, source)?;
-    Ok(PortItem::Note(note))
 }
 
 /// The words of a direction.

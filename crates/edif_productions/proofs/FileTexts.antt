@@ -18,7 +18,7 @@ use Rattle.edif_values.specs.declared.file.FileItem.{FileItem}
 use Rattle.edif_values.specs.declared.file.FileItem.TheVariants as file_items
 use Rattle.edif_values.specs.declared.file.EdifFile.{EdifFile}
 use Rattle.edif_library.specs.Grammar as grammar
-use Rattle.edif_library.specs.Grammar.{file_library, file_design, file_status, file_note, file_keywords, file_rest, file_body}
+use Rattle.edif_library.specs.Grammar.{file_keywords, file_rest, file_body}
 use Rattle.edif_productions.specs.Production.{Production, many, form, meaning, ◌∣◌, Tokens, IsKeyword, Texts, HasTextsOf}
 use Rattle.edif_productions.specs.Notes.{note, status}
 use Rattle.edif_productions.specs.Libraries.{library_of, library, design}
@@ -38,7 +38,7 @@ abbrev OtherItem : Production FileItem
 OtherItem = meaning (λ d. file_items.Design d) design ∣ meaning (λ s. file_items.Status s) status ∣ meaning (λ n. file_items.Note n) note
 
 pub all_file_items : HasTextsOf (item file_keywords grammar.file_item) file_item
-unfolding file_item library file_library file_design file_status file_note
+unfolding file_item library
 all_file_items =
     has_same (choice_of_two (λ l. file_items.Library l) (form k.Library (library_of false)) (form k.External (library_of true)) OtherItem)
     (or_form grammar.file_item k.Library (k.External ∷ k.Design ∷ k.Status ∷ note_keywords)

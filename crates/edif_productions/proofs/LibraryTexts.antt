@@ -19,7 +19,7 @@ use Rattle.edif_values.specs.declared.file.DesignItem.{DesignItem}
 use Rattle.edif_values.specs.declared.file.DesignItem.TheVariants as design_items
 use Rattle.edif_library.specs.Grammar as grammar
 use Rattle.edif_values.specs.Values.{is_contents, is_view}
-use Rattle.edif_library.specs.Grammar.{interface_port, interface_property, interface_designator, interface_note, interface_item, interface_keywords, interface_rest, contents_instance, contents_net, contents_note, contents_item, contents_keywords, contents_rest, view_contents, view_property, view_status, view_note, view_item, has_contents, view_keywords, view_rest, kind_words, cell_type, cell_view, cell_property, cell_status, cell_note, cell_item, has_view, cell_keywords, cell_rest, unit, scales_rest, notes_rest, number_definition, library_cell, library_status, library_note, library_item, library_keywords, library_rest, library_ref, cell_ref, design_property, design_status, design_note, design_item, design_keywords, design_rest}
+use Rattle.edif_library.specs.Grammar.{interface_item, interface_keywords, interface_rest, contents_item, contents_keywords, contents_rest, view_item, has_contents, view_keywords, view_rest, kind_words, cell_type, cell_item, has_view, cell_keywords, cell_rest, unit, scales_rest, notes_rest, number_definition, library_item, library_keywords, library_rest, library_ref, cell_ref, design_item, design_keywords, design_rest}
 use Rattle.edif_productions.specs.Production.{Production, many, form, meaning, ◌·◌, ◌∣◌, Tokens, Texts, ident, HasTextsOf, form_of}
 use Rattle.edif_productions.specs.Names.{property}
 use Rattle.edif_productions.specs.Notes.{note, status}
@@ -45,7 +45,6 @@ InterfacePart =
     ∣ meaning (λ s. interface_items.Designator s) designator ∣ meaning (λ n. interface_items.Note n) note
 
 interface_parts : HasTextsOf (item interface_keywords interface_item) InterfacePart
-unfolding interface_port interface_property interface_designator interface_note
 interface_parts =
     or_form interface_item k.Port (k.Property ∷ k.Designator ∷ note_keywords) (meant (k.Port ∷ []) (λ p. interface_items.Port p) ports)
     (or_form interface_item k.Property (k.Designator ∷ note_keywords) (meant (k.Property ∷ []) (λ p. interface_items.Property p) properties)
@@ -61,7 +60,6 @@ abbrev ContentsPart : Production ContentsItem
 ContentsPart = meaning (λ u. contents_items.Instance u) instance ∣ meaning (λ n. contents_items.Net n) net ∣ meaning (λ n. contents_items.Note n) note
 
 contents_parts : HasTextsOf (item contents_keywords contents_item) ContentsPart
-unfolding contents_instance contents_net contents_note
 contents_parts =
     or_form contents_item k.Instance (k.Net ∷ note_keywords) (meant (k.Instance ∷ []) (λ u. contents_items.Instance u) instances)
     (or_form contents_item k.Net note_keywords (meant (k.Net ∷ []) (λ n. contents_items.Net n) nets)
@@ -72,7 +70,6 @@ unfolding contents contents_rest
 all_contents = whole_form k.Contents (many_forms contents_keywords contents_parts)
 
 view_parts : HasTextsOf (item (k.Property ∷ k.Status ∷ note_keywords) view_item) view_part
-unfolding view_property view_status view_note
 view_parts =
     or_form view_item k.Property (k.Status ∷ note_keywords) (meant (k.Property ∷ []) (λ p. view_items.Property p) properties)
     (or_form view_item k.Status note_keywords (meant (k.Status ∷ []) (λ s. view_items.Status s) status_forms)
@@ -80,7 +77,6 @@ view_parts =
 
 first_view_parts : HasTextsOf (item (k.Contents ∷ k.Property ∷ k.Status ∷ note_keywords) view_item)
     (meaning (λ is. view_items.Contents is) contents ∣ view_part)
-unfolding view_contents
 first_view_parts =
     or_form view_item k.Contents (k.Property ∷ k.Status ∷ note_keywords)
     (meant (k.Contents ∷ []) (λ is. view_items.Contents is) all_contents) view_parts
@@ -115,14 +111,12 @@ unfolding cell_type
 cell_types = whole_form k.CellType (ends_plainly kind_choices)
 
 cell_parts : HasTextsOf (item (k.Property ∷ k.Status ∷ note_keywords) cell_item) cell_part
-unfolding cell_property cell_status cell_note
 cell_parts =
     or_form cell_item k.Property (k.Status ∷ note_keywords) (meant (k.Property ∷ []) (λ p. cell_items.Property p) properties)
     (or_form cell_item k.Status note_keywords (meant (k.Status ∷ []) (λ s. cell_items.Status s) status_forms)
     (note_among (λ n. cell_items.Note n) cell_item refl refl))
 
 first_cell_parts : HasTextsOf (item (k.View ∷ k.Property ∷ k.Status ∷ note_keywords) cell_item) (meaning (λ v. cell_items.View v) view ∣ cell_part)
-unfolding cell_view
 first_cell_parts = or_form cell_item k.View (k.Property ∷ k.Status ∷ note_keywords) (meant (k.View ∷ []) (λ v. cell_items.View v) views) cell_parts
 
 no_view : (aliases : List Alias) (ts : Tokens) (i : CellItem) → Texts aliases cell_part ts i → is_view i ≡ false
@@ -166,7 +160,6 @@ abbrev LibraryPart : Production LibraryItem
 LibraryPart = meaning (λ c. library_items.Cell c) cell ∣ meaning (λ s. library_items.Status s) status ∣ meaning (λ n. library_items.Note n) note
 
 library_parts : HasTextsOf (item library_keywords library_item) LibraryPart
-unfolding library_cell library_status library_note
 library_parts =
     or_form library_item k.Cell (k.Status ∷ note_keywords) (meant (k.Cell ∷ []) (λ c. library_items.Cell c) cells)
     (or_form library_item k.Status note_keywords (meant (k.Status ∷ []) (λ s. library_items.Status s) status_forms)
@@ -198,7 +191,6 @@ abbrev DesignPart : Production DesignItem
 DesignPart = meaning (λ p. design_items.Property p) property ∣ meaning (λ s. design_items.Status s) status ∣ meaning (λ n. design_items.Note n) note
 
 design_parts : HasTextsOf (item design_keywords design_item) DesignPart
-unfolding design_property design_status design_note
 design_parts =
     or_form design_item k.Property (k.Status ∷ note_keywords) (meant (k.Property ∷ []) (λ p. design_items.Property p) properties)
     (or_form design_item k.Status note_keywords (meant (k.Status ∷ []) (λ s. design_items.Status s) status_forms)

@@ -18,7 +18,7 @@ use Rattle.edif_values.specs.declared.name.PortName.TheVariants as port_names
 use Rattle.edif_values.specs.declared.property.PropTail.{PropTail}
 use Rattle.edif_values.specs.declared.property.PropTail.TheVariants as tail
 use Rattle.edif_names.specs.Grammar as grammar
-use Rattle.edif_names.specs.Grammar.{renamed, plain, array, renamed_port, plain_port, port_form, exponential, whole, string_value, integer_value, number_value, boolean_value, value_form, owner, remark, tail_form, tails}
+use Rattle.edif_names.specs.Grammar.{renamed, plain, array, port_form, exponential, whole, string_value, integer_value, number_value, boolean_value, value_form, owner, tail_form, tails}
 use Rattle.edif_productions.specs.Production.{Production, nothing, many, form, meaning, ◌·◌, ◌∣◌, Tokens, IsToken, IsKeyword, Texts, ident, int, str, HasTextsOf, form_of}
 use Rattle.edif_productions.specs.Header.{comment}
 use Rattle.edif_productions.specs.Names.{name, port_name, scaled, value, property}
@@ -62,7 +62,7 @@ abbrev port_rest : Keyword → Edif PortName
 port_rest q = port_form (same_keyword q k.Array)
 
 pub port_names_read : HasTextsOf grammar.port_name port_name
-unfolding grammar.port_name port_name name plain_port renamed_port
+unfolding grammar.port_name port_name name
 port_names_read =
     has_same (choice_of_two (λ n. port_names.Single n) Plain (form k.Rename Renamed)
     (form k.Array (meaning (λ x. port_names.Array x.0 x.1) (name · int))))
@@ -189,7 +189,7 @@ abbrev Tail : Production PropTail
 Tail = form k.Owner (meaning (λ s. tail.Owner s) str) ∣ meaning (λ ts. tail.Comment ts) comment
 
 property_tails : HasTextsOf (item (k.Owner ∷ k.Comment ∷ []) tail_form) Tail
-unfolding tail_form owner remark
+unfolding tail_form owner
 property_tails =
     or_form tail_form k.Owner (k.Comment ∷ []) (whole_form k.Owner (ends_on (λ s. tail.Owner s) strings))
     (one_form tail_form k.Comment (meant (k.Comment ∷ []) (λ ts. tail.Comment ts) comments))

@@ -12,7 +12,7 @@ use Rattle.edif_values.specs.declared.instance.InstanceItem.TheVariants as insta
 use Rattle.edif_values.specs.declared.net.NetItem.{NetItem}
 use Rattle.edif_values.specs.declared.net.NetItem.TheVariants as net_items
 use Rattle.edif_nets.specs.Grammar as grammar
-use Rattle.edif_nets.specs.Grammar.{direction_words, port_property, port_designator, port_note, port_item, is_direction, has_direction, port_keywords, port_rest, library_named, no_library, maybe_library, instance_property, instance_designator, instance_note, instance_item, instance_keywords, instance_rest, cell_ref, member, whole_port, instance_named, no_instance, maybe_instance, joined_keywords, joined_rest, joined, net_property, net_note, net_item, net_keywords, net_rest}
+use Rattle.edif_nets.specs.Grammar.{direction_words, port_item, is_direction, has_direction, port_keywords, port_rest, library_named, no_library, maybe_library, instance_item, instance_keywords, instance_rest, cell_ref, member, whole_port, instance_named, no_instance, maybe_instance, joined_keywords, joined_rest, joined, net_item, net_keywords, net_rest}
 use Rattle.edif_productions.specs.Production.{Production, optional, many, form, meaning, ◌·◌, ◌∣◌, Tokens, Texts, ident, int, capitals, HasTextsOf, form_of}
 use Rattle.edif_productions.specs.Names.{property}
 use Rattle.edif_productions.specs.Notes.{note}
@@ -48,7 +48,7 @@ port_directions =
     (whole_form k.Direction (ends_on (λ d. port_items.Direction d) directions))
 
 port_parts : HasTextsOf (item (k.Property ∷ k.Designator ∷ note_keywords) port_item) port_part
-unfolding port_item port_property port_designator port_note
+unfolding port_item
 port_parts =
     or_form port_item k.Property (k.Designator ∷ note_keywords) (meant (k.Property ∷ []) (λ p. port_items.Property p) properties)
     (or_form port_item k.Designator note_keywords (meant (k.Designator ∷ []) (λ s. port_items.Designator s) designators)
@@ -89,7 +89,7 @@ unfolding grammar.view_ref
 views_named = whole_form k.ViewRef (then_on (λ v c. (v, c.0, c.1)) words (λ v. ends_on (λ c. (v, c.0, c.1)) cells_named))
 
 instance_parts : HasTextsOf (item instance_keywords instance_item) instance_part
-unfolding instance_item instance_property instance_designator instance_note
+unfolding instance_item
 instance_parts =
     or_form instance_item k.Property (k.Designator ∷ note_keywords) (meant (k.Property ∷ []) (λ p. instance_items.Property p) properties)
     (or_form instance_item k.Designator note_keywords (meant (k.Designator ∷ []) (λ s. instance_items.Designator s) designators)
@@ -131,7 +131,7 @@ abbrev NetPart : Production NetItem
 NetPart = meaning (λ p. net_items.Property p) property ∣ meaning (λ n. net_items.Note n) note
 
 net_parts : HasTextsOf (item net_keywords net_item) NetPart
-unfolding net_item net_property net_note
+unfolding net_item
 net_parts =
     or_form net_item k.Property note_keywords (meant (k.Property ∷ []) (λ p. net_items.Property p) properties)
     (note_among (λ n. net_items.Note n) net_item refl refl)

@@ -20,7 +20,7 @@ use Rattle.edif_values.specs.declared.note.Note.TheVariants as notes
 use Rattle.edif_values.specs.declared.written.WrittenItem.TheVariants as written_items
 use Rattle.edif_values.specs.declared.status.StatusItem.TheVariants as status_items
 use Rattle.edif_status.specs.Grammar as grammar
-use Rattle.edif_status.specs.Grammar.{TreeStart, Whole, Opens, tree_of, tree_rest, trees_by, trees, remark, user_note, note_keywords, clock, stamp, version_text, no_version, maybe_version, author, program, data_origin, written_note, written_keywords, written_rest, status_written, status_note, status_keywords, status_rest}
+use Rattle.edif_status.specs.Grammar.{TreeStart, Whole, Opens, tree_of, tree_rest, trees_by, trees, note_keywords, clock, stamp, version_text, no_version, maybe_version, author, program, data_origin, written_keywords, written_rest, status_keywords, status_rest}
 use Rattle.edif_productions.specs.Production.{Production, optional, many, form, list, meaning, ◌·◌, ◌∣◌, Tokens, IsToken, ManyText, no_more, one_more, Texts, ident, int, str, HasTextsOf, form_of}
 use Rattle.edif_productions.specs.Notes.{leaf, tree, user_data, note, written_item, stamp_of, written, status}
 use Rattle.edif_productions.proofs.OneToken.{alone, words, strings, integers, closing_text, text_closing}
@@ -243,7 +243,7 @@ unfolding user_data
 user_forms = whole_form k.UserData user_bodies
 
 pub all_notes : HasTextsOf (item note_keywords grammar.note) note
-unfolding note remark user_note
+unfolding note
 all_notes =
     or_form grammar.note k.Comment (k.UserData ∷ []) (meant (k.Comment ∷ []) (λ ts. notes.Comment ts) comments)
     (one_form grammar.note k.UserData (meant (k.UserData ∷ []) (λ u. notes.User u) user_forms))
@@ -269,7 +269,7 @@ unfolding maybe_version version_text no_version
 versions = optional_form k.Version strings
 
 written_parts : HasTextsOf (item written_keywords grammar.written_item) written_item
-unfolding written_item author program data_origin written_note
+unfolding written_item author program data_origin
 written_parts =
     or_form grammar.written_item k.Author (k.Program ∷ k.DataOrigin ∷ note_keywords)
     (whole_form k.Author (ends_on (λ s. written_items.Author s) strings))
@@ -292,7 +292,6 @@ written_forms = whole_form k.Written written_bodies
 
 status_parts : HasTextsOf (item status_keywords grammar.status_item)
     (meaning (λ w. status_items.Written w) written ∣ meaning (λ n. status_items.Note n) note)
-unfolding status_written status_note
 status_parts =
     or_form grammar.status_item k.Written note_keywords (meant (k.Written ∷ []) (λ w. status_items.Written w) written_forms)
     (note_among (λ n. status_items.Note n) grammar.status_item refl refl)

@@ -21,7 +21,7 @@ use Rattle.edif_values.specs.declared.file.DesignItem.{DesignItem}
 use Rattle.edif_values.specs.declared.file.DesignItem.TheVariants as design_items
 use Rattle.edif_values.specs.declared.file.FileItem.{FileItem}
 use Rattle.edif_values.specs.declared.file.FileItem.TheVariants as file_items
-use Rattle.edif_library.specs.Grammar.{interface_port, interface_property, interface_designator, interface_note, interface_item, interface_keywords, interface_rest, interface, contents_instance, contents_net, contents_note, contents_item, contents_keywords, contents_rest, view_contents, view_property, view_status, view_note, view_item, has_contents, view_keywords, view_rest, netlist, view, kind_words, cell_type, cell_view, cell_property, cell_status, cell_note, cell_item, has_view, cell_keywords, cell_rest, cell, unit, scale, scales_rest, notes_rest, number_definition, technology, library_cell, library_status, library_note, library_item, library_keywords, library_rest, library, library_ref, cell_ref, design_property, design_status, design_note, design_item, design_keywords, design_rest, design, file_library, file_design, file_status, file_note, file_item, file_keywords, file_rest, file_body}
+use Rattle.edif_library.specs.Grammar.{interface_item, interface_keywords, interface_rest, interface, contents_item, contents_keywords, contents_rest, view_item, has_contents, view_keywords, view_rest, netlist, view, kind_words, cell_type, cell_item, has_view, cell_keywords, cell_rest, cell, unit, scale, scales_rest, notes_rest, number_definition, technology, library_item, library_keywords, library_rest, library, library_ref, cell_ref, design_item, design_keywords, design_rest, design, file_item, file_keywords, file_rest, file_body}
 use Rattle.edif_reasons.proofs.Forms.{Stays, Ends, Reads, ends_then, ends_as, reads_as, reads_plainly, stays_word, stays_choice, ends_with}
 use Rattle.edif_reasons.proofs.Items.{Each, stays_item, ends_items}
 use Rattle.edif_reasons.proofs.Trees.{reads_comment_note, reads_user_note, reads_notes}
@@ -33,7 +33,6 @@ use Rattle.edif_reasons.proofs.Nets.{reads_designator, reads_port, reads_instanc
 -- ---- interfaces and contents
 
 each_interface : Each interface_keywords (λ q. Reads q (interface_item q))
-unfolding interface_port interface_property interface_designator interface_note
 each_interface = (
   reads_as interface_items.Port k.Port reads_port,
   (
@@ -51,7 +50,6 @@ unfolding interface
 stays_interface = stays_item (k.Interface ∷ []) (λ _. interface_rest []) (reads_plainly k.Interface refl (ends_interface_rest []), tt)
 
 each_contents : Each contents_keywords (λ q. Reads q (contents_item q))
-unfolding contents_instance contents_net contents_note
 each_contents = (
   reads_as contents_items.Instance k.Instance reads_instance,
   (reads_as contents_items.Net k.Net reads_net, reads_notes contents_items.Note),
@@ -63,14 +61,10 @@ ends_contents_rest so_far = ends_items (λ _. contents_keywords) contents_item (
 
 -- ---- views
 
-ends_view_contents : Ends view_contents
-unfolding view_contents
-ends_view_contents = ends_as view_items.Contents (ends_contents_rest [])
-
 each_view : (b : Bool) → Each (view_keywords b) (λ q. Reads q (view_item q))
-unfolding view_keywords view_property view_status view_note
+unfolding view_keywords
 each_view false = (
-  reads_plainly k.Contents refl ends_view_contents,
+  reads_plainly k.Contents refl (ends_as view_items.Contents (ends_contents_rest [])),
   (
     reads_as view_items.Property k.Property reads_property,
     (reads_as view_items.Status k.Status reads_status, reads_notes view_items.Note),
@@ -104,14 +98,10 @@ unfolding cell_type
 stays_cell_type = stays_item (k.CellType ∷ []) (λ _. sequence (choice kind_words) (λ kind. sequence closing (λ _. gives kind)))
     (reads_plainly k.CellType refl ends_kind, tt)
 
-ends_cell_view : Ends cell_view
-unfolding cell_view
-ends_cell_view = ends_as cell_items.View ends_view
-
 each_cell : (b : Bool) → Each (cell_keywords b) (λ q. Reads q (cell_item q))
-unfolding cell_keywords cell_property cell_status cell_note
+unfolding cell_keywords
 each_cell false = (
-  reads_plainly k.View refl ends_cell_view,
+  reads_plainly k.View refl (ends_as cell_items.View ends_view),
   (
     reads_as cell_items.Property k.Property reads_property,
     (reads_as cell_items.Status k.Status reads_status, reads_notes cell_items.Note),
@@ -165,13 +155,8 @@ unfolding technology
 stays_technology = stays_item (k.Technology ∷ []) (λ _. sequence number_definition (λ ss. sequence (notes_rest []) (λ ns. gives (ss, ns))))
     (reads_plainly k.Technology refl ends_technology, tt)
 
-ends_library_cell : Ends library_cell
-unfolding library_cell
-ends_library_cell = ends_as library_items.Cell ends_cell
-
 each_library : Each library_keywords (λ q. Reads q (library_item q))
-unfolding library_status library_note
-each_library = (reads_plainly k.Cell refl ends_library_cell, (reads_as library_items.Status k.Status reads_status, reads_notes library_items.Note))
+each_library = (reads_plainly k.Cell refl (ends_as library_items.Cell ends_cell), (reads_as library_items.Status k.Status reads_status, reads_notes library_items.Note))
 
 ends_library_rest : (so_far : List LibraryItem) → Ends (library_rest so_far)
 unfolding library_rest
@@ -199,7 +184,6 @@ stays_cell_ref = stays_item (k.CellRef ∷ []) (λ _. sequence word (λ c. seque
     (reads_plainly k.CellRef refl ends_cell_named, tt)
 
 each_design : Each design_keywords (λ q. Reads q (design_item q))
-unfolding design_property design_status design_note
 each_design = (
   reads_as design_items.Property k.Property reads_property,
   (reads_as design_items.Status k.Status reads_status, reads_notes design_items.Note),
@@ -216,22 +200,13 @@ ends_design = ends_then stays_name (λ n. ends_then stays_cell_ref
 
 -- ---- the items of a file
 
-ends_file_library : (external : Bool) → Ends (file_library external)
-unfolding file_library
-ends_file_library external = ends_as file_items.Library (ends_library external)
-
-ends_file_design : Ends file_design
-unfolding file_design
-ends_file_design = ends_as file_items.Design ends_design
-
 each_file : Each file_keywords (λ q. Reads q (file_item q))
-unfolding file_status file_note
 each_file = (
-  reads_plainly k.Library refl (ends_file_library false),
+  reads_plainly k.Library refl (ends_as file_items.Library (ends_library false)),
   (
-    reads_plainly k.External refl (ends_file_library true),
+    reads_plainly k.External refl (ends_as file_items.Library (ends_library true)),
     (
-      reads_plainly k.Design refl ends_file_design,
+      reads_plainly k.Design refl (ends_as file_items.Design ends_design),
       (reads_as file_items.Status k.Status reads_status, reads_notes file_items.Note),
     ),
   ),

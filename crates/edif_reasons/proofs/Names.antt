@@ -6,7 +6,8 @@ use Rattle.edif_values.specs.Keywords.{same_keyword}
 use Rattle.edif_values.specs.declared.name.PortName.TheVariants.{Single, Array}
 use Rattle.edif_values.specs.declared.property.PropTail.{PropTail}
 use Rattle.edif_values.specs.declared.property.PropTail.TheVariants as tail
-use Rattle.edif_names.specs.Grammar.{renamed, plain, name, array, renamed_port, plain_port, port_form, port_name, exponential, whole, scaled, string_value, integer_value, number_value, boolean_value, value_form, value, owner, remark, tail_form, tails, property}
+use Rattle.readers.specs.Items.{as_item}
+use Rattle.edif_names.specs.Grammar.{renamed, plain, name, array, port_form, port_name, exponential, whole, scaled, string_value, integer_value, number_value, boolean_value, value_form, value, owner, tail_form, tails, property}
 use Rattle.edif_reasons.proofs.Forms.{Stays, Ends, Reads, stays_gives, stays_then, ends_then, read_then, ends_as, reads_plainly, stays_word, stays_string, stays_integer, ends_closing, ends_with}
 use Rattle.edif_reasons.proofs.Items.{Each, stays_item, ends_item, stays_or, ends_items, ends_comment}
 
@@ -26,20 +27,12 @@ ends_array : Ends array
 unfolding array
 ends_array = ends_then stays_name (λ n. ends_then stays_integer (λ size. ends_with (Array n size)))
 
-ends_renamed_port : Ends renamed_port
-unfolding renamed_port
-ends_renamed_port = ends_as Single ends_renamed
-
-stays_plain_port : Stays plain_port
-unfolding plain_port
-stays_plain_port = stays_then stays_plain (λ n. stays_gives (Single n))
-
 pub stays_port_name : Stays port_name
 unfolding port_name
 stays_port_name =
-    stays_or (k.Rename ∷ k.Array ∷ []) (λ q. port_form (same_keyword q k.Array)) plain_port
-    (reads_plainly k.Rename refl ends_renamed_port, (reads_plainly k.Array refl ends_array, tt))
-    stays_plain_port
+    stays_or (k.Rename ∷ k.Array ∷ []) (λ q. port_form (same_keyword q k.Array)) (as_item Single plain)
+    (reads_plainly k.Rename refl (ends_as Single ends_renamed), (reads_plainly k.Array refl ends_array, tt))
+    (stays_then stays_plain (λ n. stays_gives (Single n)))
 
 ends_exponential : Ends exponential
 unfolding exponential
@@ -94,13 +87,9 @@ ends_owner : Ends owner
 unfolding owner
 ends_owner = ends_then stays_string (λ s. ends_with (tail.Owner s))
 
-ends_remark : Ends remark
-unfolding remark
-ends_remark = ends_as tail.Comment ends_comment
-
 each_tail : Each (k.Owner ∷ k.Comment ∷ []) (λ q. Reads q (tail_form q))
 unfolding tail_form
-each_tail = (reads_plainly k.Owner refl ends_owner, (reads_plainly k.Comment refl ends_remark, tt))
+each_tail = (reads_plainly k.Owner refl ends_owner, (reads_plainly k.Comment refl (ends_as tail.Comment ends_comment), tt))
 
 ends_tails : (so_far : List PropTail) → Ends (tails so_far)
 unfolding tails

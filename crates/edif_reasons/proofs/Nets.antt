@@ -10,7 +10,7 @@ use Rattle.edif_values.specs.declared.instance.InstanceItem.TheVariants as insta
 use Rattle.edif_values.specs.declared.net.PortRef.{PortRef}
 use Rattle.edif_values.specs.declared.net.NetItem.{NetItem}
 use Rattle.edif_values.specs.declared.net.NetItem.TheVariants as net_items
-use Rattle.edif_nets.specs.Grammar.{designator, direction_words, direction, port_property, port_designator, port_note, port_item, has_direction, port_keywords, port_rest, port, library_named, no_library, maybe_library, instance_property, instance_designator, instance_note, instance_item, instance_keywords, instance_rest, cell_ref, view_ref, instance, member, whole_port, port_or_member, instance_named, no_instance, maybe_instance, port_ref, joined_keywords, joined_rest, joined, net_property, net_note, net_item, net_keywords, net_rest, net}
+use Rattle.edif_nets.specs.Grammar.{designator, direction_words, direction, port_item, has_direction, port_keywords, port_rest, port, library_named, no_library, maybe_library, instance_item, instance_keywords, instance_rest, cell_ref, view_ref, instance, member, whole_port, port_or_member, instance_named, no_instance, maybe_instance, port_ref, joined_keywords, joined_rest, joined, net_item, net_keywords, net_rest, net}
 use Rattle.edif_reasons.proofs.Forms.{Stays, Ends, Reads, ReadsLast, stays_gives, stays_then, ends_then, ends_as, reads_as, reads_plainly, stays_word, stays_string, stays_integer, stays_choice, ends_with, reads_last}
 use Rattle.edif_reasons.proofs.Items.{Each, stays_item, stays_or, ends_or, ends_items}
 use Rattle.edif_reasons.proofs.Names.{stays_name, stays_port_name, reads_property}
@@ -30,7 +30,7 @@ unfolding direction
 ends_direction = ends_then (stays_choice direction_words) (λ d. ends_with (port_items.Direction d))
 
 each_port : (b : Bool) → Each (port_keywords b) (λ q. Reads q (port_item q))
-unfolding port_keywords port_item port_property port_designator port_note
+unfolding port_keywords port_item
 each_port false = (
   reads_plainly k.Direction refl ends_direction,
   (
@@ -69,7 +69,7 @@ unfolding maybe_library
 ends_maybe_library = ends_or (k.LibraryRef ∷ []) (λ _. library_named) no_library (reads_library_named, tt) ends_no_library
 
 each_instance : Each instance_keywords (λ q. Reads q (instance_item q))
-unfolding instance_item instance_property instance_designator instance_note
+unfolding instance_item
 each_instance = (
   reads_as instance_items.Property k.Property reads_property,
   (reads_as instance_items.Designator k.Designator reads_designator, reads_notes instance_items.Note),
@@ -144,7 +144,7 @@ unfolding joined
 stays_joined = stays_item (k.Joined ∷ []) (λ _. joined_rest []) (reads_plainly k.Joined refl (ends_joined_rest []), tt)
 
 each_net : Each net_keywords (λ q. Reads q (net_item q))
-unfolding net_item net_property net_note
+unfolding net_item
 each_net = (reads_as net_items.Property k.Property reads_property, reads_notes net_items.Note)
 
 ends_net_rest : (so_far : List NetItem) → Ends (net_rest so_far)

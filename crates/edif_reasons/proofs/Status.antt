@@ -5,7 +5,7 @@ use Rattle.edif_values.specs.declared.written.WrittenItem.{WrittenItem}
 use Rattle.edif_values.specs.declared.written.WrittenItem.TheVariants as written_items
 use Rattle.edif_values.specs.declared.status.StatusItem.{StatusItem}
 use Rattle.edif_values.specs.declared.status.StatusItem.TheVariants as status_items
-use Rattle.edif_status.specs.Grammar.{clock, stamp, version_text, no_version, maybe_version, author, program, data_origin, written_note, written_item, written_keywords, written_rest, written, status_written, status_note, status_item, status_keywords, status_rest, status}
+use Rattle.edif_status.specs.Grammar.{clock, stamp, version_text, no_version, maybe_version, author, program, data_origin, written_item, written_keywords, written_rest, written, status_item, status_keywords, status_rest, status}
 use Rattle.edif_reasons.proofs.Forms.{Ends, Reads, ReadsLast, ends_then, read_then, ends_as, reads_plainly, stays_string, stays_integer, ends_with, reads_last}
 use Rattle.edif_reasons.proofs.Items.{Each, ends_item, ends_or, ends_items}
 use Rattle.edif_reasons.proofs.Trees.{reads_notes}
@@ -44,7 +44,6 @@ unfolding data_origin
 ends_data_origin = ends_then stays_string (λ s. ends_as (λ v. written_items.DataOrigin s v) ends_maybe_version)
 
 each_written : Each written_keywords (λ q. Reads q (written_item q))
-unfolding written_note
 each_written = (
   reads_plainly k.Author refl ends_author,
   (
@@ -65,13 +64,8 @@ ends_written = ends_item (k.TimeStamp ∷ []) _ (
   tt,
 )
 
-ends_status_written : Ends status_written
-unfolding status_written
-ends_status_written = ends_as status_items.Written ends_written
-
 each_status : Each status_keywords (λ q. Reads q (status_item q))
-unfolding status_note
-each_status = (reads_plainly k.Written refl ends_status_written, reads_notes status_items.Note)
+each_status = (reads_plainly k.Written refl (ends_as status_items.Written ends_written), reads_notes status_items.Note)
 
 ends_status_rest : (so_far : List StatusItem) → Ends (status_rest so_far)
 unfolding status_rest

@@ -13,18 +13,19 @@ use Rattle.edif_values.specs.declared.keyword.Keyword.TheVariants as k
 use Rattle.edif_keywords.specs.Aliases.{Alias}
 use Rattle.edif_keywords.specs.Language.{Edif}
 use Rattle.edif_keywords.specs.Reasons as say
-use Rattle.edif_keywords.specs.Grammar.{word, closing}
+use Rattle.edif_keywords.specs.Grammar.{word, closing, comment}
 use Rattle.edif_values.specs.declared.user.UserTree.{UserTree}
 use Rattle.edif_values.specs.declared.user.UserTree.TheVariants as tree
 use Rattle.edif_values.specs.declared.user.UserData.{UserData}
 use Rattle.edif_values.specs.declared.note.Note.{Note}
 use Rattle.edif_values.specs.declared.note.Note.TheVariants as notes
-use Rattle.edif_status.specs.Grammar.{TreeStart, Whole, Opens, tree_of, tree_rest, trees_by, trees, user, remark, user_note, note, note_keywords}
+use Rattle.readers.specs.Items.{as_item}
+use Rattle.edif_status.specs.Grammar.{TreeStart, Whole, Opens, tree_of, tree_rest, trees_by, trees, user, note, note_keywords}
 use Rattle.edif_reasons.specs.Context.{Tokens, Element, Single, Group, Form, Said, Context, placed, with_element, open_lists, at_keyword, said_by, after, behind_all}
 use Rattle.edif_reasons.specs.Rows.{is_at, is_over, reason_at}
 use Rattle.edif_reasons.proofs.Tracking.{Judged, judged_token, Says, Seen, seen_each, Tracks, tracks_gives, says_one, tracks_one, says_sequence, tracks_then, tracks_rounds}
 use Rattle.edif_reasons.proofs.Standing.{form, begun}
-use Rattle.edif_reasons.proofs.Forms.{Frame, In, opened, Ends, Reads, ends_as, reads_as, reads_plainly}
+use Rattle.edif_reasons.proofs.Forms.{Frame, In, opened, Reads, ends_as, reads_as, reads_plainly}
 use Rattle.edif_reasons.proofs.Items.{Each, ends_comment}
 
 -- user data, or a list in them
@@ -219,17 +220,12 @@ reads_user fr es =
     (tracks_trees fr.said.aliases 64 (data_of fr es) refl [] i.0)
     (λ ts c i. tracks_gives fr.said.aliases (user_made w ts) c (λ _ c. In fr c) (es ++ Group ∷ [], i))))
 
-ends_remark : Ends remark
-unfolding remark
-ends_remark = ends_as notes.Comment ends_comment
-
-pub reads_user_note : Reads k.UserData user_note
-unfolding user_note
+pub reads_user_note : Reads k.UserData (as_item notes.User user)
 reads_user_note = reads_as notes.User k.UserData reads_user
 
-pub reads_comment_note : Reads k.Comment remark
-reads_comment_note = reads_plainly k.Comment refl ends_remark
+pub reads_comment_note : Reads k.Comment (as_item notes.Comment comment)
+reads_comment_note = reads_plainly k.Comment refl (ends_as notes.Comment ends_comment)
 
 -- a note, as one of the items of a form
-pub reads_notes : {I : Type 0} (f : Note → I) → Each note_keywords (λ q. Reads q (sequence (note q) (λ n. gives (f n))))
+pub reads_notes : {I : Type 0} (f : Note → I) → Each note_keywords (λ q. Reads q (as_item f (note q)))
 reads_notes f = (reads_as f k.Comment reads_comment_note, (reads_as f k.UserData reads_user_note, tt))

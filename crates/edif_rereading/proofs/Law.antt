@@ -1,14 +1,12 @@
 -- The written text of a file spells the file, and reads as it within the limit of an input.
-use Rattle.std.proofs.Common.{◌≡◌, ℕ, ◌≤◌, List, [], ◌∷◌, ◌++◌, map, length, refl, sym, ap, subst}
-use Rattle.grammar.specs.Part.{gives}
-use Rattle.grammar.specs.Whole.{Terminal, proper, end, whole, the_end, IsText}
+use Rattle.std.proofs.Common.{◌≡◌, ◌≤◌, List, [], ◌∷◌, map, length, refl, sym, subst}
+use Rattle.grammar.specs.Whole.{proper, end, whole, the_end, IsText}
 use Rattle.nl_base.specs.Place.{place_at_start}
-use Rattle.nl_base.specs.declared.place.Place.{Place}
 use Rattle.nl_bytes.specs.declared.bytes.TheConstants.{LIMIT}
 use Rattle.edif_tokens.specs.declared.token.Found.{Found}
 use Rattle.edif_values.specs.declared.token.Token.{Token}
 use Rattle.edif_tokens.specs.Streams.{Finish, End, Bad, Over, Stream}
-use Rattle.edif_tokens.specs.Stream.{tokens, all_tokens}
+use Rattle.edif_tokens.specs.Stream.{all_tokens}
 use Rattle.edif_tokens.proofs.Limits.{tokens_whole}
 use Rattle.edif_keywords.specs.Language.{ahead_of}
 use Rattle.edif_keywords.specs.Reasons.{trailing}
@@ -16,7 +14,7 @@ use Rattle.edif_values.specs.declared.file.EdifFile.{EdifFile}
 use Rattle.edif_library.specs.Grammar.{file}
 use Rattle.edif_library.specs.Text.{EdifReads}
 use Rattle.edif_writer.specs.Forms.{file_block, edif_text}
-use Rattle.edif_lexing.specs.Lexing.{Shows, EndsWell}
+use Rattle.edif_lexing.specs.Lexing.{EndsWell}
 use Rattle.edif_lexing.specs.Tokens.{block_tokens}
 use Rattle.edif_lexing.proofs.Laying.{text_lexes}
 use Rattle.edif_values.specs.Values.{IsEdifValue}

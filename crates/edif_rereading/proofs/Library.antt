@@ -1,5 +1,5 @@
 -- What is written of views, cells, libraries, designs and the file spells them.
-use Rattle.std.proofs.Common.{◌≡◌, ℕ, suc, ◌≤◌, Bool, true, false, ◌||◌, cond, List, [], ◌∷◌, ◌++◌, length, Option, Some, None, refl, sym, ap, subst, append_assoc, arith}
+use Rattle.std.proofs.Common.{◌≡◌, ℕ, ◌≤◌, Bool, true, false, ◌||◌, cond, List, [], ◌∷◌, ◌++◌, length, Some, refl, sym, subst, append_assoc, arith}
 use Rattle.std.specs.Prelude.{codes, pos}
 use Rattle.std.specs.List.{AllByRecursion, filter, list_any}
 use Rattle.edif_values.specs.declared.token.Token.{Token}
@@ -37,9 +37,9 @@ use Rattle.edif_values.specs.declared.file.Design.{Design}
 use Rattle.edif_values.specs.declared.file.FileItem.{FileItem}
 use Rattle.edif_values.specs.declared.file.FileItem.TheVariants as file_items
 use Rattle.edif_values.specs.declared.file.EdifFile.{EdifFile}
-use Rattle.edif_library.specs.Grammar.{interface_port, interface_property, interface_designator, interface_note, interface_item, interface_keywords, interface_rest, interface, contents_instance, contents_net, contents_note, contents_item, contents_keywords, contents_rest, view_contents, view_property, view_status, view_note, view_item, has_contents, view_keywords, view_rest, netlist, view, kind_words, cell_type, cell_view, cell_property, cell_status, cell_note, cell_item, has_view, cell_keywords, cell_rest, cell, unit, scale, scales_rest, notes_rest, number_definition, technology, library_cell, library_status, library_note, library_item, library_keywords, library_rest, library, library_ref, cell_ref, design_property, design_status, design_note, design_item, design_keywords, design_rest, design, file_library, file_design, file_status, file_note, file_item, file_keywords, file_rest, file_body, file}
+use Rattle.edif_library.specs.Grammar.{interface_item, interface_keywords, interface_rest, interface, contents_item, contents_keywords, contents_rest, view_item, has_contents, view_keywords, view_rest, netlist, view, kind_words, cell_type, cell_item, has_view, cell_keywords, cell_rest, cell, unit, scale, scales_rest, notes_rest, number_definition, technology, library_item, library_keywords, library_rest, library, library_ref, cell_ref, design_item, design_keywords, design_rest, design, file_item, file_keywords, file_rest, file_body, file}
 use Rattle.edif_writer.specs.Forms as form
-use Rattle.edif_writer.specs.Layout.{Word, Line, more, each, all}
+use Rattle.edif_writer.specs.Layout.{Word, Line, each, all}
 use Rattle.edif_lexing.specs.Tokens.{tokens, part_tokens, block_tokens, line_tokens}
 use Rattle.edif_rereading.proofs.Spelled.{Spelled, then, after, at_last, in_context, a_word, a_close, a_choice, a_view_type, a_level, version_two, version_zero, keyword_level_zero, closes, begins, last_round, IsItem, item, all_items, line_items, block_items}
 use Rattle.edif_rereading.proofs.Names.{name_spelled, scaled_spelled, property_spelled}
@@ -77,7 +77,7 @@ module _ {I : Type 0} (test : I → Bool) where
 -- ---- views
 
 interface_item_spelled : (i : InterfaceItem) → IsInterfaceItem i → IsItem interface_keywords interface_item (block_tokens (form.interface_item_block i)) i
-unfolding interface_port interface_property interface_designator interface_note has
+unfolding has
 interface_item_spelled (interface_items.Port p) g = item k.Port refl (at_last (port_spelled p g))
 interface_item_spelled (interface_items.Property p) g = item k.Property refl (at_last (property_spelled p g))
 interface_item_spelled (interface_items.Designator s) g = item k.Designator refl (at_last (designator_spelled s))
@@ -89,7 +89,7 @@ unfolding interface interface_rest has
 interface_spelled is g = begins _ k.Interface refl (block_items interface_keywords interface_item form.interface_item_block IsInterfaceItem interface_item_spelled is g)
 
 contents_item_spelled : (i : ContentsItem) → IsContentsItem i → IsItem contents_keywords contents_item (block_tokens (form.contents_item_block i)) i
-unfolding contents_instance contents_net contents_note has
+unfolding has
 contents_item_spelled (contents_items.Instance i) g = item k.Instance refl (at_last (instance_spelled i g))
 contents_item_spelled (contents_items.Net n) g = item k.Net refl (at_last (net_spelled n g))
 contents_item_spelled (contents_items.Note (noted.Comment ts)) g = item k.Comment refl (at_last (comment_spelled ts))
@@ -126,7 +126,7 @@ no_contents s cs is le = none_passes is_contents s (view_items.Contents cs) is r
 
 view_item_spelled : (s : List ViewItem) (i : ViewItem) (is : List ViewItem) → length (filter is_contents (s ++ i ∷ is)) ≤ 1 → IsViewItem i
     → IsItem (view_keywords (has_contents s)) view_item (block_tokens (form.view_item_block i)) i
-unfolding view_contents view_property view_status view_note contents_rest
+unfolding contents_rest
 view_item_spelled s (view_items.Contents cs) is le g =
     item k.Contents (contents_may (has_contents s) (no_contents s cs is le)) (at_last (block_items contents_keywords contents_item form.contents_item_block IsContentsItem contents_item_spelled cs g))
 view_item_spelled s (view_items.Property p) is le g = item k.Property (view_property_may (has_contents s)) (at_last (property_spelled p g))
@@ -186,7 +186,6 @@ no_view s v is le = none_passes is_view s (cell_items.View v) is refl le
 
 cell_item_spelled : (s : List CellItem) (i : CellItem) (is : List CellItem) → length (filter is_view (s ++ i ∷ is)) ≤ 1 → IsCellItem i
     → IsItem (cell_keywords (has_view s)) cell_item (block_tokens (form.cell_item_block i)) i
-unfolding cell_view cell_property cell_status cell_note
 cell_item_spelled s (cell_items.View v) is le g = item k.View (view_may (has_view s) (no_view s v is le)) (at_last (view_spelled v g))
 cell_item_spelled s (cell_items.Property p) is le g = item k.Property (cell_property_may (has_view s)) (at_last (property_spelled p g))
 cell_item_spelled s (cell_items.Status u) is le g = item k.Status (cell_status_may (has_view s)) (at_last (status_on_lines u g))
@@ -241,7 +240,7 @@ technology_spelled l g =
     begins _ k.Technology refl (then (number_definition_spelled l.scales g.scales) (at_last {g = λ ns. (l.scales, ns)} (line_items note_keywords note form.note_form IsNote note_spelled l.notes g.notes)))
 
 library_item_spelled : (i : LibraryItem) → IsLibraryItem i → IsItem library_keywords library_item (block_tokens (form.library_item_block i)) i
-unfolding library_cell library_status library_note has
+unfolding has
 library_item_spelled (library_items.Cell c) g = item k.Cell refl (at_last (cell_spelled c g))
 library_item_spelled (library_items.Status s) g = item k.Status refl (at_last (status_on_lines s g))
 library_item_spelled (library_items.Note (noted.Comment ts)) g = item k.Comment refl (at_last (comment_spelled ts))
@@ -262,7 +261,7 @@ unfolding cell_ref library_ref has
 cell_ref_spelled c l = begins _ k.CellRef refl (after (a_word c) (then (begins _ k.LibraryRef refl (after (a_word l) (closes l))) (closes _)))
 
 design_item_spelled : (i : DesignItem) → IsDesignItem i → IsItem design_keywords design_item (tokens (form.design_item_form i)) i
-unfolding design_property design_status design_note has
+unfolding has
 design_item_spelled (design_items.Property p) g = item k.Property refl (at_last (property_spelled p g))
 design_item_spelled (design_items.Status s) g = item k.Status refl (at_last (status_spelled s g))
 design_item_spelled (design_items.Note (noted.Comment ts)) g = item k.Comment refl (at_last (comment_spelled ts))
@@ -278,12 +277,12 @@ design_spelled d g =
 
 library_here : (external : Bool) (name : NameDef) (ss : List Scale) (ns : List Note) (is : List LibraryItem) → IsLibrary (record { external = external; name = name; scales = ss; notes = ns; items = is })
     → IsItem file_keywords file_item (block_tokens (form.library_block (record { external = external; name = name; scales = ss; notes = ns; items = is }))) (file_items.Library (record { external = external; name = name; scales = ss; notes = ns; items = is }))
-unfolding file_library has
+unfolding has
 library_here true name ss ns is g = item k.External refl (at_last (library_spelled (record { external = true; name = name; scales = ss; notes = ns; items = is }) g))
 library_here false name ss ns is g = item k.Library refl (at_last (library_spelled (record { external = false; name = name; scales = ss; notes = ns; items = is }) g))
 
 file_item_spelled : (i : FileItem) → IsFileItem i → IsItem file_keywords file_item (block_tokens (form.file_item_block i)) i
-unfolding file_design file_status file_note has
+unfolding has
 file_item_spelled (file_items.Library l) g = library_here l.external l.name l.scales l.notes l.items g
 file_item_spelled (file_items.Design d) g = item k.Design refl (at_last (design_spelled d g))
 file_item_spelled (file_items.Status s) g = item k.Status refl (at_last (status_on_lines s g))

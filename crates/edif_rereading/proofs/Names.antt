@@ -1,5 +1,5 @@
 -- What is written of names and properties spells them.
-use Rattle.std.proofs.Common.{◌≡◌, ℕ, true, false, zero, suc, List, [], ◌∷◌, ◌++◌, Option, Some, None, refl}
+use Rattle.std.proofs.Common.{ℕ, true, false, zero, suc, List, [], ◌∷◌, Option, Some, None, refl}
 use Rattle.std.specs.Prelude.{ℤ, pos, negsuc}
 use Rattle.nl_base.specs.declared.number.Scaled.{Scaled}
 use Rattle.nl_base.specs.declared.value.PropValue.{PropValue}
@@ -13,7 +13,7 @@ use Rattle.edif_values.specs.declared.property.PropTail.{PropTail}
 use Rattle.edif_values.specs.declared.property.PropTail.TheVariants as prop_tails
 use Rattle.edif_values.specs.declared.property.Property.{Property}
 use Rattle.edif_values.specs.Values.{IsPropTail, IsProperty}
-use Rattle.edif_names.specs.Grammar.{renamed, plain, name, array, renamed_port, plain_port, port_name, exponential, whole, scaled, string_value, integer_value, number_value, boolean_value, value_form, value, owner, remark, tail_form, tails, property}
+use Rattle.edif_names.specs.Grammar.{renamed, plain, name, array, port_name, exponential, whole, scaled, string_value, integer_value, number_value, boolean_value, value_form, value, owner, tail_form, tails, property}
 use Rattle.edif_writer.specs.Forms as form
 use Rattle.edif_writer.specs.Layout.{more, each}
 use Rattle.edif_lexing.specs.Tokens.{tokens, part_tokens}
@@ -28,7 +28,7 @@ name_spelled n = go n.ident n.text
     go w (Some s) = form_here _ _ _ k.Rename refl (after (a_word w) (after (a_string s) (closes _)))
 
 pub port_name_spelled : (n : PortName) → Spelled port_name (tokens (form.port_name_form n)) n
-unfolding port_name array renamed_port plain_port renamed plain has
+unfolding port_name array renamed plain has
 port_name_spelled (port_names.Array n size) = form_here _ _ _ k.Array refl (then (name_spelled n) (after (an_integer size) (closes _)))
 port_name_spelled (port_names.Single n) = go n.ident n.text
   where
@@ -54,7 +54,7 @@ value_spelled (prop.Flag true) = begins _ k.Boolean refl (begins _ k.True refl (
 value_spelled (prop.Flag false) = begins _ k.Boolean refl (begins _ k.False refl (after a_close (closes _)))
 
 tail_item : (i : PropTail) → IsPropTail i → IsItem (k.Owner ∷ k.Comment ∷ []) tail_form (tokens (form.tail_form i)) i
-unfolding tail_form owner remark has
+unfolding tail_form owner has
 tail_item (prop_tails.Owner s) g = item k.Owner refl (after (a_string s) (closes _))
 tail_item (prop_tails.Comment ts) g = item k.Comment refl (at_last (strings_spelled [] ts))
 

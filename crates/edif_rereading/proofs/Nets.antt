@@ -1,5 +1,5 @@
 -- What is written of ports, instances and nets spells them.
-use Rattle.std.proofs.Common.{◌≡◌, ℕ, suc, ◌≤◌, Bool, true, false, List, [], ◌∷◌, ◌++◌, length, Option, Some, None, refl, sym, subst, append_assoc, arith}
+use Rattle.std.proofs.Common.{◌≡◌, ℕ, ◌≤◌, Bool, true, false, List, [], ◌∷◌, ◌++◌, length, Option, Some, None, refl, sym, subst, append_assoc, arith}
 use Rattle.std.specs.Prelude.{ℤ}
 use Rattle.std.specs.List.{AllByRecursion}
 use Rattle.nl_base.specs.declared.value.Dir.{Dir}
@@ -21,11 +21,11 @@ use Rattle.edif_values.specs.declared.net.NetItem.TheVariants as net_items
 use Rattle.edif_values.specs.declared.net.Net.{Net}
 use Rattle.edif_values.specs.Directions.{told, directions}
 use Rattle.edif_values.specs.Values.{IsPortItem, IsPort, IsInstanceItem, IsInstance, IsPortRef, IsNetItem, IsNet}
-use Rattle.edif_nets.specs.Grammar.{designator, direction_words, direction, port_property, port_designator, port_note, port_item, is_direction, has_direction, port_keywords, port_rest, port, library_named, no_library, maybe_library, cell_ref, view_ref, instance_property, instance_designator, instance_note, instance_item, instance_keywords, instance_rest, instance, member, whole_port, port_or_member, instance_named, no_instance, maybe_instance, port_ref, joined_keywords, joined_rest, joined, net_property, net_note, net_item, net_keywords, net_rest, net}
+use Rattle.edif_nets.specs.Grammar.{designator, direction_words, direction, port_item, is_direction, has_direction, port_keywords, port_rest, port, library_named, no_library, maybe_library, cell_ref, view_ref, instance_item, instance_keywords, instance_rest, instance, member, whole_port, port_or_member, instance_named, no_instance, maybe_instance, port_ref, joined_keywords, joined_rest, joined, net_item, net_keywords, net_rest, net}
 use Rattle.edif_writer.specs.Forms as form
-use Rattle.edif_writer.specs.Layout.{Word, more, each, all}
-use Rattle.edif_lexing.specs.Tokens.{tokens, part_tokens, block_tokens, line_tokens, heading_tokens}
-use Rattle.edif_rereading.proofs.Spelled.{Spelled, then, after, at_last, a_word, a_string, an_integer, a_close, a_choice, closes, begins, form_here, other_here, IsItem, item, all_items, line_items, block_items}
+use Rattle.edif_writer.specs.Layout.{more, each, all}
+use Rattle.edif_lexing.specs.Tokens.{tokens, part_tokens, block_tokens, line_tokens}
+use Rattle.edif_rereading.proofs.Spelled.{Spelled, then, after, at_last, a_word, a_string, an_integer, a_close, a_choice, closes, begins, form_here, other_here, IsItem, item, all_items, block_items}
 use Rattle.edif_rereading.proofs.Names.{name_spelled, port_name_spelled, property_spelled}
 use Rattle.edif_rereading.proofs.Status.{comment_spelled, user_spelled}
 
@@ -85,7 +85,7 @@ direction_spelled dirs.Inout = after (a_choice direction_words _ dirs.Inout refl
 
 port_item_spelled : (s : List PortItem) (i : PortItem) (is : List PortItem) → length (directions (s ++ i ∷ is)) ≤ 1 → IsPortItem i
     → IsItem (port_keywords (has_direction s)) port_item (tokens (form.port_item_form i)) i
-unfolding port_item port_property port_designator port_note
+unfolding port_item
 port_item_spelled s (port_items.Direction d) is le g = item k.Direction (direction_may (has_direction s) (none_before s d is le)) (direction_spelled d)
 port_item_spelled s (port_items.Property p) is le g = item k.Property (property_may (has_direction s)) (at_last (property_spelled p g))
 port_item_spelled s (port_items.Designator w) is le g = item k.Designator (designator_may (has_direction s)) (at_last (designator_spelled w))
@@ -118,7 +118,7 @@ unfolding view_ref has
 view_ref_spelled i = begins _ k.ViewRef refl (after (a_word i.view) (then (cell_ref_spelled i.cell i.library) (closes _)))
 
 instance_item_spelled : (i : InstanceItem) → IsInstanceItem i → IsItem instance_keywords instance_item (block_tokens (form.instance_item_block i)) i
-unfolding instance_item instance_property instance_designator instance_note has
+unfolding instance_item has
 instance_item_spelled (instance_items.Property p) g = item k.Property refl (at_last (property_spelled p g))
 instance_item_spelled (instance_items.Designator s) g = item k.Designator refl (at_last (designator_spelled s))
 instance_item_spelled (instance_items.Note (noted.Comment ts)) g = item k.Comment refl (at_last (comment_spelled ts))
@@ -151,7 +151,7 @@ unfolding joined joined_rest has
 joined_spelled rs g = begins _ k.Joined refl (block_items joined_keywords (λ _. port_ref) form.port_ref_block IsPortRef port_ref_spelled rs g)
 
 net_item_spelled : (i : NetItem) → IsNetItem i → IsItem net_keywords net_item (block_tokens (form.net_item_block i)) i
-unfolding net_item net_property net_note has
+unfolding net_item has
 net_item_spelled (net_items.Property p) g = item k.Property refl (at_last (property_spelled p g))
 net_item_spelled (net_items.Note (noted.Comment ts)) g = item k.Comment refl (at_last (comment_spelled ts))
 net_item_spelled (net_items.Note (noted.User u)) g = item k.UserData refl (at_last (user_spelled u g))

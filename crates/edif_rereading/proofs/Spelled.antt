@@ -1,5 +1,5 @@
 -- Tokens that spell a value of a part, wherever they stand and whatever aliases there are.
-use Rattle.std.proofs.Common.{◌≡◌, ℕ, true, false, List, [], ◌∷◌, ◌++◌, map, Some, Result, Ok, refl, sym, ap, ◌∙◌, subst, append_assoc, append-nil, inl, inr}
+use Rattle.std.proofs.Common.{◌≡◌, ℕ, true, false, List, [], ◌∷◌, ◌++◌, Some, Result, Ok, refl, sym, ap, ◌∙◌, subst, append_assoc, append-nil, inl, inr}
 use Rattle.std.specs.Prelude.{⊤, ℤ, pos, codes}
 use Rattle.std.specs.List.{AllByRecursion}
 use Rattle.grammar.specs.Part.{gives, sequence, under, Glance, takes}

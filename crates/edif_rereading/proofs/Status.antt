@@ -1,5 +1,5 @@
 -- What is written of user data, notes and status spells them.
-use Rattle.std.proofs.Common.{◌≡◌, ℕ, zero, suc, ◌≤◌, List, [], ◌∷◌, ◌++◌, map, Option, Some, None, refl, sym, ap, ◌∙◌, subst, append_assoc, append-nil, arith}
+use Rattle.std.proofs.Common.{◌≡◌, ℕ, zero, suc, ◌≤◌, List, [], ◌∷◌, ◌++◌, map, Some, None, refl, sym, ap, ◌∙◌, subst, append_assoc, append-nil, arith}
 use Rattle.std.specs.Prelude.{fold, max, ℤ}
 use Rattle.std.specs.List.{AllByRecursion}
 use Rattle.grammar.specs.Part.{gives}
@@ -8,6 +8,7 @@ use Rattle.edif_values.specs.declared.token.Token.TheVariants as t
 use Rattle.edif_values.specs.Proper.{IsProper}
 use Rattle.edif_values.specs.declared.keyword.Keyword.TheVariants as k
 use Rattle.edif_values.specs.Keywords.{spelling, has}
+use Rattle.edif_keywords.specs.Grammar.{comment}
 use Rattle.edif_keywords.specs.Language.{Edif}
 use Rattle.edif_values.specs.declared.user.UserTree.{UserTree, ind-UserTree}
 use Rattle.edif_values.specs.declared.user.UserTree.TheViews.{roll-UserTree}
@@ -15,23 +16,22 @@ use Rattle.edif_values.specs.declared.user.UserTree.TheOpen.{UserTree-F}
 use Rattle.edif_values.specs.declared.user.UserTree.TheVariants.{rolls-Word, rolls-Number, rolls-Str, rolls-List}
 use Rattle.edif_values.specs.declared.user.UserTree.TheVariants as tree
 use Rattle.edif_values.specs.declared.user.UserData.{UserData}
-use Rattle.edif_values.specs.declared.note.Note.{Note}
 use Rattle.edif_values.specs.declared.note.Note.TheVariants as noted
 use Rattle.edif_values.specs.declared.written.Stamp.{Stamp}
 use Rattle.edif_values.specs.declared.written.WrittenItem.{WrittenItem}
 use Rattle.edif_values.specs.declared.written.WrittenItem.TheVariants as written_items
-use Rattle.edif_values.specs.declared.written.Written.{Written}
 use Rattle.edif_values.specs.declared.status.StatusItem.{StatusItem}
 use Rattle.edif_values.specs.declared.status.StatusItem.TheVariants as status_items
 use Rattle.edif_values.specs.declared.status.Status.{Status}
-use Rattle.edif_values.specs.Values.{depth, leaves, together, IsTree, AreTrees, IsUserData, IsNote, IsWrittenItem, IsWritten, IsStatusItem, IsStatus}
-use Rattle.edif_status.specs.Grammar.{Whole, Opens, tree_of, tree_rest, trees_by, trees, user, remark, user_note, note, note_keywords, clock, stamp, version_text, no_version, maybe_version, author, program, data_origin, written_note, written_item, written_keywords, written_rest, written, status_written, status_note, status_item, status_keywords, status_rest, status}
-use Rattle.edif_status.proofs.Kept.{list_depth, list_leaves, word_leaves, number_leaves, string_leaves}
+use Rattle.edif_values.specs.Values.{depth, leaves, together, IsTree, AreTrees, IsUserData, IsWrittenItem, IsStatusItem, IsStatus}
+use Rattle.readers.specs.Items.{as_item}
+use Rattle.edif_status.specs.Grammar.{Whole, Opens, tree_of, trees_by, trees, user, clock, stamp, version_text, no_version, maybe_version, author, program, data_origin, written_item, written_keywords, written_rest, written, status_item, status_keywords, status_rest, status}
+use Rattle.edif_status.proofs.Kept.{list_depth, list_leaves}
 use Rattle.edif_writer.specs.Forms as form
-use Rattle.edif_writer.specs.Layout.{Form, Forms, Str, more, Block, each, all}
+use Rattle.edif_writer.specs.Layout.{Form, Str, Block, each, all}
 use Rattle.edif_writer.proofs.Trees.{word_form, number_form, str_form, list_form}
 use Rattle.edif_lexing.specs.Tokens.{tokens, part_tokens, block_tokens, line_tokens}
-use Rattle.edif_rereading.proofs.Spelled.{Spelled, nothing, then, after, at_last, a_word, a_string, an_integer, a_close, closes, begins, form_here, other_here, last_round, next_round, IsItem, item, line_items, block_items, strings_spelled}
+use Rattle.edif_rereading.proofs.Spelled.{Spelled, nothing, then, after, at_last, a_word, a_string, an_integer, a_close, closes, begins, form_here, other_here, last_round, next_round, IsItem, item, line_items, strings_spelled}
 
 -- ---- trees
 
@@ -103,12 +103,11 @@ trees_spelled (suc room) ts h = these_trees (suc room) (trees room []) (λ n us 
 
 -- ---- notes
 
-pub comment_spelled : (ts : List (List ℕ)) → Spelled remark (part_tokens (each Str ts)) (noted.Comment ts)
-unfolding remark
+pub comment_spelled : (ts : List (List ℕ)) → Spelled (as_item noted.Comment comment) (part_tokens (each Str ts)) (noted.Comment ts)
 comment_spelled ts = at_last (strings_spelled [] ts)
 
-pub user_spelled : (u : UserData) → IsUserData u → Spelled user_note (t.Word u.name ∷ part_tokens (each form.tree_form u.trees)) (noted.User u)
-unfolding user_note user
+pub user_spelled : (u : UserData) → IsUserData u → Spelled (as_item noted.User user) (t.Word u.name ∷ part_tokens (each form.tree_form u.trees)) (noted.User u)
+unfolding user
 user_spelled u g = at_last (after (a_word u.name) (at_last (trees_spelled 64 u.trees g.trees)))
 
 -- ---- status
@@ -119,7 +118,7 @@ stamp_spelled s =
     after (an_integer s.year) (after (an_integer s.month) (after (an_integer s.day) (after (an_integer s.hour) (after (an_integer s.minute) (after (an_integer s.second) (closes _))))))
 
 written_item_spelled : (i : WrittenItem) → IsWrittenItem i → IsItem written_keywords written_item (tokens (form.written_item_form i)) i
-unfolding author program data_origin maybe_version version_text no_version written_note has
+unfolding author program data_origin maybe_version version_text no_version has
 written_item_spelled (written_items.Author s) g = item k.Author refl (after (a_string s) (closes _))
 written_item_spelled (written_items.Program s None) g = item k.Program refl (after (a_string s) (at_last (other_here _ _ _ (closes _))))
 written_item_spelled (written_items.Program s (Some v)) g = item k.Program refl (after (a_string s) (at_last (form_here _ _ _ k.Version refl (after (a_string v) (after a_close (closes _))))))
@@ -129,7 +128,7 @@ written_item_spelled (written_items.Note (noted.Comment ts)) g = item k.Comment 
 written_item_spelled (written_items.Note (noted.User u)) g = item k.UserData refl (at_last (user_spelled u g))
 
 status_item_spelled : (i : StatusItem) → IsStatusItem i → IsItem status_keywords status_item (tokens (form.status_item_form i)) i
-unfolding status_written status_note written written_rest has
+unfolding written written_rest has
 status_item_spelled (status_items.Written w) g =
     item k.Written refl (at_last (begins _ k.TimeStamp refl (then (stamp_spelled w.stamp) (at_last (line_items written_keywords written_item form.written_item_form IsWrittenItem written_item_spelled w.items g.items)))))
 status_item_spelled (status_items.Note (noted.Comment ts)) g = item k.Comment refl (at_last (comment_spelled ts))

@@ -1,8 +1,7 @@
 -- What is written of a file that can be written is of proper words, integers and strings.
-use Rattle.std.proofs.Common.{◌≡◌, ℕ, zero, suc, Bool, true, false, List, [], ◌∷◌, ◌++◌, Option, Some, None, refl, sym, subst, arith}
-use Rattle.std.specs.Prelude.{⊤, ℤ, pos, negsuc, IfSome}
+use Rattle.std.proofs.Common.{◌≡◌, ℕ, zero, suc, true, false, List, [], ◌∷◌, Option, Some, None, refl, subst, arith}
+use Rattle.std.specs.Prelude.{ℤ, pos, negsuc, IfSome}
 use Rattle.std.specs.List.{AllByRecursion}
-use Rattle.nl_base.specs.declared.number.Scaled.{Scaled}
 use Rattle.nl_base.specs.declared.value.Dir.{Dir}
 use Rattle.nl_base.specs.declared.value.Dir.TheVariants as dirs
 use Rattle.nl_base.specs.declared.value.PropValue.{PropValue}
@@ -10,7 +9,7 @@ use Rattle.nl_base.specs.declared.value.PropValue.TheVariants as prop
 use Rattle.edif_values.specs.declared.token.Token.{Token}
 use Rattle.edif_values.specs.declared.token.Token.TheVariants as t
 use Rattle.edif_values.specs.Proper.{IsProper}
-use Rattle.edif_values.specs.Values.{IsWord, IsInteger, IsString, IsNameDef, IsPortName, IsScaled, IsPropValue, IsPropTail, IsProperty, leaves, IsTree, AreTrees, IsUserData, IsNote, IsStamp, IsWrittenItem, IsWritten, IsStatusItem, IsStatus, IsPortItem, IsPort, IsInstanceItem, IsInstance, IsPortRef, IsNetItem, IsNet, IsInterfaceItem, IsContentsItem, IsViewItem, IsView, IsCellItem, IsCell, IsScale, IsLibraryItem, IsLibrary, IsDesignItem, IsDesign, IsFileItem, IsEdifValue}
+use Rattle.edif_values.specs.Values.{IsWord, IsInteger, IsString, IsNameDef, IsPortName, IsPropValue, IsPropTail, IsProperty, IsTree, AreTrees, IsNote, IsStamp, IsWrittenItem, IsStatusItem, IsStatus, IsPortItem, IsPort, IsInstanceItem, IsInstance, IsPortRef, IsNetItem, IsNet, IsInterfaceItem, IsContentsItem, IsViewItem, IsView, IsCellItem, IsCell, IsScale, IsLibraryItem, IsLibrary, IsDesignItem, IsDesign, IsFileItem, IsEdifValue}
 use Rattle.edif_values.specs.declared.name.NameDef.{NameDef}
 use Rattle.edif_values.specs.declared.name.PortName.{PortName}
 use Rattle.edif_values.specs.declared.name.PortName.TheVariants as port_names
@@ -19,13 +18,11 @@ use Rattle.edif_values.specs.declared.property.PropTail.TheVariants as prop_tail
 use Rattle.edif_values.specs.declared.property.Property.{Property}
 use Rattle.edif_values.specs.declared.user.UserTree.{UserTree}
 use Rattle.edif_values.specs.declared.user.UserTree.TheVariants as tree
-use Rattle.edif_values.specs.declared.user.UserData.{UserData}
 use Rattle.edif_values.specs.declared.note.Note.{Note}
 use Rattle.edif_values.specs.declared.note.Note.TheVariants as noted
 use Rattle.edif_values.specs.declared.written.Stamp.{Stamp}
 use Rattle.edif_values.specs.declared.written.WrittenItem.{WrittenItem}
 use Rattle.edif_values.specs.declared.written.WrittenItem.TheVariants as written_items
-use Rattle.edif_values.specs.declared.written.Written.{Written}
 use Rattle.edif_values.specs.declared.status.StatusItem.{StatusItem}
 use Rattle.edif_values.specs.declared.status.StatusItem.TheVariants as status_items
 use Rattle.edif_values.specs.declared.status.Status.{Status}

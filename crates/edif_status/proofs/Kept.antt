@@ -19,7 +19,7 @@ use Rattle.edif_values.specs.declared.user.UserTree.TheVariants as tree
 use Rattle.edif_values.specs.declared.user.UserTree.TheVariants.{rolls-Word, rolls-Number, rolls-Str, rolls-List}
 use Rattle.edif_values.specs.declared.user.UserTree.TheFolds.{fold-roll-UserTree}
 use Rattle.edif_values.specs.declared.user.UserTree.TheOpen.{UserTree-F}
-use Rattle.edif_status.specs.Grammar.{TreeStart, Whole, Opens, tree_of, tree_rest, trees_by, trees, user, remark, user_note, note, clock, stamp, version_text, no_version, maybe_version, author, program, data_origin, written_note, written_item, written_keywords, written_rest, written, status_written, status_note, status_item, status_keywords, status_rest, status}
+use Rattle.edif_status.specs.Grammar.{TreeStart, Whole, Opens, tree_of, tree_rest, trees_by, trees, user, note, clock, stamp, version_text, no_version, maybe_version, author, program, data_origin, written_item, written_keywords, written_rest, written, status_item, status_keywords, status_rest, status}
 use Rattle.edif_values.specs.Values.{depth_step, depth, together, leaves_step, leaves, IsTree, AreTrees, IsUserData, IsNote, IsStamp, IsVersion, IsWrittenItem, IsWritten, IsStatusItem, IsStatus}
 
 -- ---- the depth and the leaves of a tree
@@ -109,16 +109,8 @@ kept_user = kept_then kept_word (λ w is. kept_then (kept_trees 64 [] tt) (λ ts
 
 -- ---- notes
 
-kept_remark : Kept remark IsNote
-unfolding remark
-kept_remark = kept_then (kept_strings [] tt) (λ ts all. kept_gives _ all)
-
-kept_user_note : Kept user_note IsNote
-unfolding user_note
-kept_user_note = kept_then kept_user (λ u is. kept_gives _ is)
-
 pub kept_note : (q : Keyword) → Kept (note q) IsNote
-kept_note q = kept_cond (same_keyword q k.Comment) remark user_note kept_remark kept_user_note
+kept_note q = kept_cond (same_keyword q k.Comment) _ _ (kept_then (kept_strings [] tt) (λ ts all. kept_gives _ all)) (kept_then kept_user (λ u is. kept_gives _ is))
 
 -- ---- written
 
@@ -155,14 +147,10 @@ kept_data_origin : Kept data_origin IsWrittenItem
 unfolding data_origin
 kept_data_origin = kept_then kept_string (λ s is. kept_then kept_maybe_version (λ v good. kept_gives _ (is, good)))
 
-kept_written_note : (q : Keyword) → Kept (written_note q) IsWrittenItem
-unfolding written_note
-kept_written_note q = kept_then (kept_note q) (λ n is. kept_gives _ is)
-
 kept_written_item : (q : Keyword) → Kept (written_item q) IsWrittenItem
 kept_written_item q =
     kept_cond (same_keyword q k.Author) author _ kept_author
-    (kept_cond (same_keyword q k.Program) program _ kept_program (kept_cond (same_keyword q k.DataOrigin) data_origin (written_note q) kept_data_origin (kept_written_note q)))
+    (kept_cond (same_keyword q k.Program) program _ kept_program (kept_cond (same_keyword q k.DataOrigin) data_origin _ kept_data_origin (kept_then (kept_note q) (λ n is. kept_gives _ is))))
 
 kept_written_rest : Kept (written_rest []) (λ is. AllByRecursion IsWrittenItem is)
 unfolding written_rest
@@ -174,16 +162,8 @@ kept_written = kept_after (begin (k.TimeStamp ∷ [])) (λ _. kept_then kept_sta
 
 -- ---- status
 
-kept_status_written : Kept status_written IsStatusItem
-unfolding status_written
-kept_status_written = kept_then kept_written (λ w is. kept_gives _ is)
-
-kept_status_note : (q : Keyword) → Kept (status_note q) IsStatusItem
-unfolding status_note
-kept_status_note q = kept_then (kept_note q) (λ n is. kept_gives _ is)
-
 kept_status_item : (q : Keyword) → Kept (status_item q) IsStatusItem
-kept_status_item q = kept_cond (same_keyword q k.Written) status_written (status_note q) kept_status_written (kept_status_note q)
+kept_status_item q = kept_cond (same_keyword q k.Written) _ _ (kept_then kept_written (λ w is. kept_gives _ is)) (kept_then (kept_note q) (λ n is. kept_gives _ is))
 
 kept_status_rest : Kept (status_rest []) (λ is. AllByRecursion IsStatusItem is)
 unfolding status_rest

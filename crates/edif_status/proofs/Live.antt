@@ -3,25 +3,17 @@ use Rattle.std.proofs.Common.{◌≡◌, refl, ℕ, zero, suc, Bool, true, false
 use Rattle.grammar.specs.Part.{gives, sequence, leaves}
 use Rattle.edif_values.specs.declared.token.Token.{Token}
 use Rattle.edif_values.specs.declared.token.Token.TheVariants.{LeftParen, RightParen, Word, Number, Str}
+use Rattle.readers.proofs.Items.{live_as_item, closed_as_item, live_one_of, closed_one_of}
 use Rattle.readers.proofs.Shapes.{live_if, live_while, shut_gives, shut_one, shut_then, shut_if, shut_while}
 use Rattle.edif_values.specs.declared.keyword.Keyword.{Keyword}
 use Rattle.edif_values.specs.declared.keyword.Keyword.TheVariants as k
 use Rattle.edif_values.specs.Keywords.{has, same_keyword}
 use Rattle.edif_keywords.specs.Language.{Edif}
 use Rattle.edif_keywords.specs.Reasons as say
-use Rattle.edif_keywords.specs.Grammar.{string, integer, closing, keyword, form_or}
+use Rattle.edif_keywords.specs.Grammar.{string, integer, closing, keyword, form_or, comment}
 use Rattle.edif_keywords.proofs.Live.{Lives, Closes, live_word, live_string, live_integer, live_closing, live_keyword, live_begin, closed_keyword, closed_closing, closed_begin, closing_leaves, live_items, closed_items, live_comment, closed_comment}
 use Rattle.edif_values.specs.declared.user.UserTree.{UserTree}
-use Rattle.edif_status.specs.Grammar.{TreeStart, Whole, Opens, tree_of, tree_rest, trees_by, trees, user, remark, user_note, note, clock, stamp, version_text, no_version, maybe_version, author, program, data_origin, written_note, written_item, written_keywords, written_rest, written, status_written, status_note, status_item, status_keywords, status_rest, status}
-
--- one part or the other
-live_one_of : {A : Type 0} (b : Bool) (p q : Edif A) → Lives p → Lives q → Lives (cond b p q)
-live_one_of true p q h l = h
-live_one_of false p q h l = l
-
-closed_one_of : {A : Type 0} (b : Bool) (p q : Edif A) → Closes p → Closes q → Closes (cond b p q)
-closed_one_of true p q h l = h
-closed_one_of false p q h l = l
+use Rattle.edif_status.specs.Grammar.{TreeStart, Whole, Opens, tree_of, tree_rest, trees_by, trees, user, note, clock, stamp, version_text, no_version, maybe_version, author, program, data_origin, written_item, written_keywords, written_rest, written, status_item, status_keywords, status_rest, status}
 
 -- ---- user data
 
@@ -70,27 +62,11 @@ closed_user table = shut_then (shut_one table (λ _ x. say.word_of x.token)) (λ
 
 -- ---- notes
 
-live_remark : Lives remark
-unfolding remark
-live_remark table = (live_comment table, λ _. tt)
-
-closed_remark : Closes remark
-unfolding remark
-closed_remark table = shut_then (closed_comment table) (λ _. shut_gives table _)
-
-live_user_note : Lives user_note
-unfolding user_note
-live_user_note table = (live_user table, λ _. tt)
-
-closed_user_note : Closes user_note
-unfolding user_note
-closed_user_note table = shut_then (closed_user table) (λ _. shut_gives table _)
-
 pub live_note : (q : Keyword) → Lives (note q)
-live_note q = live_one_of (same_keyword q k.Comment) remark user_note live_remark live_user_note
+live_note q = live_one_of (same_keyword q k.Comment) _ _ (live_as_item comment live_comment) (live_as_item user live_user)
 
 pub closed_note : (q : Keyword) → Closes (note q)
-closed_note q = closed_one_of (same_keyword q k.Comment) remark user_note closed_remark closed_user_note
+closed_note q = closed_one_of (same_keyword q k.Comment) _ _ (closed_as_item closed_comment) (closed_as_item closed_user)
 
 -- ---- written
 
@@ -161,23 +137,15 @@ closed_data_origin : Closes data_origin
 unfolding data_origin
 closed_data_origin table = shut_then (closed_string table) (λ _. shut_then (closed_maybe_version table) (λ _. shut_gives table _))
 
-live_written_note : (q : Keyword) → Lives (written_note q)
-unfolding written_note
-live_written_note q table = (live_note q table, λ _. tt)
-
-closed_written_note : (q : Keyword) → Closes (written_note q)
-unfolding written_note
-closed_written_note q table = shut_then (closed_note q table) (λ _. shut_gives table _)
-
 live_written_item : (q : Keyword) → Lives (written_item q)
 live_written_item q =
     live_one_of (same_keyword q k.Author) author _ live_author
-    (live_one_of (same_keyword q k.Program) program _ live_program (live_one_of (same_keyword q k.DataOrigin) data_origin (written_note q) live_data_origin (live_written_note q)))
+    (live_one_of (same_keyword q k.Program) program _ live_program (live_one_of (same_keyword q k.DataOrigin) data_origin _ live_data_origin (live_as_item (note q) (live_note q))))
 
 closed_written_item : (q : Keyword) → Closes (written_item q)
 closed_written_item q =
     closed_one_of (same_keyword q k.Author) author _ closed_author
-    (closed_one_of (same_keyword q k.Program) program _ closed_program (closed_one_of (same_keyword q k.DataOrigin) data_origin (written_note q) closed_data_origin (closed_written_note q)))
+    (closed_one_of (same_keyword q k.Program) program _ closed_program (closed_one_of (same_keyword q k.DataOrigin) data_origin _ closed_data_origin (closed_as_item (closed_note q))))
 
 live_written_rest : (so_far : List _) → Lives (written_rest so_far)
 unfolding written_rest has
@@ -197,27 +165,11 @@ closed_written table = shut_then (closed_begin (k.TimeStamp ∷ []) table) (λ _
 
 -- ---- status
 
-live_status_written : Lives status_written
-unfolding status_written
-live_status_written table = (live_written table, λ _. tt)
-
-closed_status_written : Closes status_written
-unfolding status_written
-closed_status_written table = shut_then (closed_written table) (λ _. shut_gives table _)
-
-live_status_note : (q : Keyword) → Lives (status_note q)
-unfolding status_note
-live_status_note q table = (live_note q table, λ _. tt)
-
-closed_status_note : (q : Keyword) → Closes (status_note q)
-unfolding status_note
-closed_status_note q table = shut_then (closed_note q table) (λ _. shut_gives table _)
-
 live_status_item : (q : Keyword) → Lives (status_item q)
-live_status_item q = live_one_of (same_keyword q k.Written) status_written (status_note q) live_status_written (live_status_note q)
+live_status_item q = live_one_of (same_keyword q k.Written) _ _ (live_as_item written live_written) (live_as_item (note q) (live_note q))
 
 closed_status_item : (q : Keyword) → Closes (status_item q)
-closed_status_item q = closed_one_of (same_keyword q k.Written) status_written (status_note q) closed_status_written (closed_status_note q)
+closed_status_item q = closed_one_of (same_keyword q k.Written) _ _ (closed_as_item closed_written) (closed_as_item (closed_note q))
 
 live_status_rest : (so_far : List _) → Lives (status_rest so_far)
 unfolding status_rest has

@@ -1,6 +1,7 @@
 -- The productions of user data, notes and status (EDIF 2 0 0, forms userData, comment, status, written, timeStamp, author, program, version,
 -- dataOrigin). Each reads on after its keyword, up to the `)` of the form.
 use Rattle.std.specs.Prelude.{ℕ, zero, suc, Bool, true, false, List, [], ◌∷◌, ◌++◌, Option, Some, None, Result, Ok, Err, ℤ, cond}
+use Rattle.readers.specs.Items.{as_item}
 use Rattle.grammar.specs.Part.{Glance, takes, leaves, refuses, gives, sequence, ◌>>=◌}
 use Rattle.readers.specs.Parts.{one, while_next}
 use Rattle.nl_base.specs.declared.fault.Reason.{Reason}
@@ -128,21 +129,9 @@ user = do
 
 -- ---- notes
 
--- a comment as a note
-unfoldable pub remark : Edif Note
-remark = do
-  ts ← comment
-  gives (notes.Comment ts)
-
--- user data as a note
-unfoldable pub user_note : Edif Note
-user_note = do
-  u ← user
-  gives (notes.User u)
-
 -- note      = comment | userData
 abbrev pub note : Keyword → Edif Note
-note q = cond (same_keyword q k.Comment) remark user_note
+note q = cond (same_keyword q k.Comment) (as_item notes.Comment comment) (as_item notes.User user)
 
 -- the keywords of a note
 abbrev pub note_keywords : List Keyword
@@ -206,15 +195,9 @@ data_origin = do
   v ← maybe_version
   gives (written_items.DataOrigin s v)
 
--- a note in written
-unfoldable pub written_note : Keyword → Edif WrittenItem
-written_note q = do
-  n ← note q
-  gives (written_items.Note n)
-
 -- wItem     = ( author STR ) | ( program STR [( version STR )] ) | ( dataOrigin STR [( version STR )] ) | note
 abbrev pub written_item : Keyword → Edif WrittenItem
-written_item q = cond (same_keyword q k.Author) author (cond (same_keyword q k.Program) program (cond (same_keyword q k.DataOrigin) data_origin (written_note q)))
+written_item q = cond (same_keyword q k.Author) author (cond (same_keyword q k.Program) program (cond (same_keyword q k.DataOrigin) data_origin (as_item written_items.Note (note q))))
 
 -- the keywords that may stand in written
 abbrev pub written_keywords : List Keyword
@@ -236,21 +219,9 @@ written = do
   is ← written_rest []
   gives (record { stamp = s; items = is })
 
--- written as a part of a status
-unfoldable pub status_written : Edif StatusItem
-status_written = do
-  w ← written
-  gives (status_items.Written w)
-
--- a note as a part of a status
-unfoldable pub status_note : Keyword → Edif StatusItem
-status_note q = do
-  n ← note q
-  gives (status_items.Note n)
-
 -- written | note
 abbrev pub status_item : Keyword → Edif StatusItem
-status_item q = cond (same_keyword q k.Written) status_written (status_note q)
+status_item q = cond (same_keyword q k.Written) (as_item status_items.Written written) (as_item status_items.Note (note q))
 
 -- the keywords that may stand in a status
 abbrev pub status_keywords : List Keyword

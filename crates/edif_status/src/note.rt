@@ -3,7 +3,7 @@ ghost use Rattle.readers.specs.Readers.{same, Reads, room};
 ghost use Rattle.edif_keywords.specs.Language.{edif};
 ghost use Rattle.edif_values.specs.Values.{IsNote};
 ghost use Rattle.edif_values.specs.Sizes.{note_size};
-ghost use Rattle.edif_status.specs.Grammar.{remark, user_note, note};
+ghost use Rattle.edif_status.specs.Grammar.{note};
 
 use crate::user::read_user;
 use edif_keywords::{Cursor, read_comment};
@@ -25,33 +25,9 @@ pub fn read_note<S: Source>(
     ensures size { IfOk result (λ n. note_size n + room cursor.new < room cursor.old) }
 {
     if same_keyword(keyword, Keyword::Comment) {
-        return remark(alloc, cursor, source);
+        let texts = read_comment(alloc, cursor, source)?;
+        return Ok(Note::Comment(texts));
     }
-    user_note(alloc, cursor, source)
-}
-
-/// Reads on after the keyword `comment`.
-#[tactic(auto, using(readers::proofs::Reading::sequences), unfolding(crate::specs::Grammar::remark))]
-fn remark<S: Source>(alloc: Global, cursor: &mut Cursor, source: &mut S) -> Result<Note, ReadError>
-    ensures reads { Reads edif same remark result cursor.old cursor.new (S.supply source.old) (S.supply source.new) }
-    ensures value { IfOk result IsNote }
-    ensures size { IfOk result (λ n. note_size n + room cursor.new < room cursor.old) }
-{
-    let texts = read_comment(alloc, cursor, source)?;
-    Ok(Note::Comment(texts))
-}
-
-/// Reads on after the keyword `userData`.
-#[tactic(auto, using(readers::proofs::Reading::sequences), unfolding(crate::specs::Grammar::user_note))]
-fn user_note<S: Source>(
-    alloc: Global,
-    cursor: &mut Cursor,
-    source: &mut S,
-) -> Result<Note, ReadError>
-    ensures reads { Reads edif same user_note result cursor.old cursor.new (S.supply source.old) (S.supply source.new) }
-    ensures value { IfOk result IsNote }
-    ensures size { IfOk result (λ n. note_size n + room cursor.new < room cursor.old) }
-{
     let data = read_user(alloc, cursor, source)?;
     Ok(Note::User(data))
 }

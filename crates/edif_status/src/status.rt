@@ -4,7 +4,7 @@ ghost use Rattle.edif_keywords.specs.Language.{edif};
 ghost use Rattle.std.specs.List.{AllByRecursion};
 ghost use Rattle.edif_values.specs.Values.{IsStatusItem, IsStatus};
 ghost use Rattle.edif_values.specs.Sizes.{list_size, status_item_size, status_size};
-ghost use Rattle.edif_status.specs.Grammar.{status_written, status_note, status_item, status_part, status_rest, status};
+ghost use Rattle.edif_status.specs.Grammar.{status_item, status_part, status_rest, status};
 
 use crate::note::read_note;
 use crate::written::read_written;
@@ -78,38 +78,9 @@ fn read_status_form<S: Source>(
     ensures size { IfOk result (λ i. status_item_size i + room cursor.new < room cursor.old) }
 {
     if same_keyword(keyword, Keyword::Written) {
-        return status_written(alloc, cursor, source);
+        let written = read_written(alloc, cursor, source)?;
+        return Ok(StatusItem::Written(written));
     }
-    status_note(alloc, cursor, keyword, source)
-}
-
-/// Reads a writing as a part of a status.
-#[tactic(auto, using(readers::proofs::Reading::sequences), unfolding(crate::specs::Grammar::status_written))]
-fn status_written<S: Source>(
-    alloc: Global,
-    cursor: &mut Cursor,
-    source: &mut S,
-) -> Result<StatusItem, ReadError>
-    ensures reads { Reads edif same status_written result cursor.old cursor.new (S.supply source.old) (S.supply source.new) }
-    ensures value { IfOk result IsStatusItem }
-    ensures size { IfOk result (λ i. status_item_size i + room cursor.new < room cursor.old) }
-{
-    let written = read_written(alloc, cursor, source)?;
-    Ok(StatusItem::Written(written))
-}
-
-/// Reads a note as a part of a status.
-#[tactic(auto, using(readers::proofs::Reading::sequences), unfolding(crate::specs::Grammar::status_note))]
-fn status_note<S: Source>(
-    alloc: Global,
-    cursor: &mut Cursor,
-    keyword: Keyword,
-    source: &mut S,
-) -> Result<StatusItem, ReadError>
-    ensures reads { Reads edif same (status_note keyword) result cursor.old cursor.new (S.supply source.old) (S.supply source.new) }
-    ensures value { IfOk result IsStatusItem }
-    ensures size { IfOk result (λ i. status_item_size i + room cursor.new < room cursor.old) }
-{
     let note = read_note(alloc, cursor, keyword, source)?;
     Ok(StatusItem::Note(note))
 }

@@ -4,7 +4,7 @@ ghost use Rattle.edif_keywords.specs.Language.{edif};
 ghost use Rattle.std.specs.List.{AllByRecursion};
 ghost use Rattle.edif_values.specs.Values.{IsInteger, IsStamp, IsVersion, IsWrittenItem, IsWritten};
 ghost use Rattle.edif_values.specs.Sizes.{list_size, written_item_size, written_size};
-ghost use Rattle.edif_status.specs.Grammar.{clock, stamp, version_text, no_version, maybe_version, author, program, data_origin, written_note, written_item, written_part, written_rest, written};
+ghost use Rattle.edif_status.specs.Grammar.{clock, stamp, version_text, no_version, maybe_version, author, program, data_origin, written_item, written_part, written_rest, written};
 
 use crate::note::read_note;
 use edif_keywords::Cursor;
@@ -119,7 +119,7 @@ fn read_written_item<S: Source>(
 }
 
 /// Reads on after the keyword of an item of a writing.
-#[tactic(auto, using(readers::proofs::Reading::sequences), unfolding(crate::specs::Grammar::written_note))]
+#[tactic(auto, using(readers::proofs::Reading::sequences))]
 fn read_written_form<S: Source>(
     alloc: Global,
     cursor: &mut Cursor,

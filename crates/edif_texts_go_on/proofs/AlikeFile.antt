@@ -1,5 +1,7 @@
 -- The productions of views, cells, libraries, designs and the file depend on no place, and neither does a whole text.
 use Rattle.std.proofs.Common.{◌≡◌, refl, Bool, true, false, []}
+use Rattle.edif_names.specs.Grammar.{property}
+use Rattle.edif_nets.specs.Grammar.{designator, instance, net, port}
 use Rattle.grammar.specs.Whole.{Terminal, proper, end, end_of, the_end, whole}
 use Rattle.grammar_alike.specs.Alike.{Respects}
 use Rattle.nl_base.specs.declared.place.Place.{Place}
@@ -10,31 +12,17 @@ use Rattle.edif_values.specs.Keywords.{same_keyword}
 use Rattle.edif_keywords.specs.Reasons as say
 use Rattle.edif_keywords.specs.Reasons.{trailing}
 use Rattle.edif_values.specs.declared.name.NameDef.{NameDef}
-use Rattle.edif_status.specs.Grammar.{note}
-use Rattle.edif_library.specs.Grammar.{cell, cell_item, cell_note, cell_property, cell_ref, cell_rest, cell_status, cell_type, cell_view, contents_instance, contents_item, contents_net, contents_note, contents_rest, design, design_item, design_note, design_property, design_rest, design_status, file, file_body, file_design, file_item, file_library, file_note, file_rest, file_status, interface, interface_designator, interface_item, interface_note, interface_port, interface_property, interface_rest, kind_words, library, library_cell, library_item, library_note, library_ref, library_rest, library_status, netlist, notes_rest, number_definition, scale, scales_rest, technology, unit, view, view_contents, view_item, view_note, view_property, view_rest, view_status}
-use Rattle.edif_texts_go_on.proofs.AlikeParts.{SameToken, Alike, one_alike, either_alike, word_alike, closing_alike, choice_alike, begin_alike, items_alike, level_alike, header_alike}
+use Rattle.edif_status.specs.Grammar.{note, status}
+use Rattle.edif_library.specs.Grammar.{cell, cell_item, cell_ref, cell_rest, cell_type, contents_item, contents_rest, design, design_item, design_rest, file, file_body, file_item, file_rest, interface, interface_item, interface_rest, kind_words, library, library_item, library_ref, library_rest, netlist, notes_rest, number_definition, scale, scales_rest, technology, unit, view, view_item, view_rest}
+use Rattle.edif_texts_go_on.proofs.AlikeParts.{as_item_alike, SameToken, Alike, one_alike, either_alike, word_alike, closing_alike, choice_alike, begin_alike, items_alike, level_alike, header_alike}
 use Rattle.edif_texts_go_on.proofs.AlikeNames.{name_alike, scaled_alike, property_alike, note_alike, status_alike}
 use Rattle.edif_texts_go_on.proofs.AlikeNets.{designator_alike, port_alike, instance_alike, net_alike}
 
-interface_port_alike : Alike interface_port
-unfolding interface_port
-interface_port_alike table = (port_alike table, λ _. tt)
-
-interface_property_alike : Alike interface_property
-unfolding interface_property
-interface_property_alike table = (property_alike table, λ _. tt)
-
-interface_designator_alike : Alike interface_designator
-unfolding interface_designator
-interface_designator_alike table = (designator_alike table, λ _. tt)
-
-interface_note_alike : (q : Keyword) → Alike (interface_note q)
-unfolding interface_note
-interface_note_alike q table = (note_alike q table, λ _. tt)
-
 interface_item_alike : (q : Keyword) → Alike (interface_item q)
 interface_item_alike q =
-    either_alike (same_keyword q k.Port) _ _ interface_port_alike (either_alike (same_keyword q k.Property) _ _ interface_property_alike (either_alike (same_keyword q k.Designator) _ _ interface_designator_alike (interface_note_alike q)))
+    either_alike (same_keyword q k.Port) _ _ (as_item_alike port port_alike)
+    (either_alike (same_keyword q k.Property) _ _ (as_item_alike property property_alike)
+    (either_alike (same_keyword q k.Designator) _ _ (as_item_alike designator designator_alike) (as_item_alike (note q) (note_alike q))))
 
 interface_rest_alike : Alike (interface_rest [])
 unfolding interface_rest
@@ -44,45 +32,20 @@ interface_alike : Alike interface
 unfolding interface
 interface_alike table = (begin_alike _ table, λ _. interface_rest_alike table)
 
-contents_instance_alike : Alike contents_instance
-unfolding contents_instance
-contents_instance_alike table = (instance_alike table, λ _. tt)
-
-contents_net_alike : Alike contents_net
-unfolding contents_net
-contents_net_alike table = (net_alike table, λ _. tt)
-
-contents_note_alike : (q : Keyword) → Alike (contents_note q)
-unfolding contents_note
-contents_note_alike q table = (note_alike q table, λ _. tt)
-
 contents_item_alike : (q : Keyword) → Alike (contents_item q)
 contents_item_alike q =
-    either_alike (same_keyword q k.Instance) _ _ contents_instance_alike (either_alike (same_keyword q k.Net) _ _ contents_net_alike (contents_note_alike q))
+    either_alike (same_keyword q k.Instance) _ _ (as_item_alike instance instance_alike)
+    (either_alike (same_keyword q k.Net) _ _ (as_item_alike net net_alike) (as_item_alike (note q) (note_alike q)))
 
 contents_rest_alike : Alike (contents_rest [])
 unfolding contents_rest
 contents_rest_alike = items_alike _ contents_item [] contents_item_alike
 
-view_contents_alike : Alike view_contents
-unfolding view_contents
-view_contents_alike table = (contents_rest_alike table, λ _. tt)
-
-view_property_alike : Alike view_property
-unfolding view_property
-view_property_alike table = (property_alike table, λ _. tt)
-
-view_status_alike : Alike view_status
-unfolding view_status
-view_status_alike table = (status_alike table, λ _. tt)
-
-view_note_alike : (q : Keyword) → Alike (view_note q)
-unfolding view_note
-view_note_alike q table = (note_alike q table, λ _. tt)
-
 view_item_alike : (q : Keyword) → Alike (view_item q)
 view_item_alike q =
-    either_alike (same_keyword q k.Contents) _ _ view_contents_alike (either_alike (same_keyword q k.Property) _ _ view_property_alike (either_alike (same_keyword q k.Status) _ _ view_status_alike (view_note_alike q)))
+    either_alike (same_keyword q k.Contents) _ _ (as_item_alike (contents_rest []) contents_rest_alike)
+    (either_alike (same_keyword q k.Property) _ _ (as_item_alike property property_alike)
+    (either_alike (same_keyword q k.Status) _ _ (as_item_alike status status_alike) (as_item_alike (note q) (note_alike q))))
 
 view_rest_alike : Alike (view_rest [])
 unfolding view_rest
@@ -100,25 +63,11 @@ cell_type_alike : Alike cell_type
 unfolding cell_type
 cell_type_alike table = (begin_alike _ table, λ _. (choice_alike kind_words table, λ _. (closing_alike table, λ _. tt)))
 
-cell_view_alike : Alike cell_view
-unfolding cell_view
-cell_view_alike table = (view_alike table, λ _. tt)
-
-cell_property_alike : Alike cell_property
-unfolding cell_property
-cell_property_alike table = (property_alike table, λ _. tt)
-
-cell_status_alike : Alike cell_status
-unfolding cell_status
-cell_status_alike table = (status_alike table, λ _. tt)
-
-cell_note_alike : (q : Keyword) → Alike (cell_note q)
-unfolding cell_note
-cell_note_alike q table = (note_alike q table, λ _. tt)
-
 cell_item_alike : (q : Keyword) → Alike (cell_item q)
 cell_item_alike q =
-    either_alike (same_keyword q k.View) _ _ cell_view_alike (either_alike (same_keyword q k.Property) _ _ cell_property_alike (either_alike (same_keyword q k.Status) _ _ cell_status_alike (cell_note_alike q)))
+    either_alike (same_keyword q k.View) _ _ (as_item_alike view view_alike)
+    (either_alike (same_keyword q k.Property) _ _ (as_item_alike property property_alike)
+    (either_alike (same_keyword q k.Status) _ _ (as_item_alike status status_alike) (as_item_alike (note q) (note_alike q))))
 
 cell_rest_alike : Alike (cell_rest [])
 unfolding cell_rest
@@ -152,21 +101,10 @@ technology_alike : Alike technology
 unfolding technology
 technology_alike table = (begin_alike _ table, λ _. (number_definition_alike table, λ _. (notes_rest_alike table, λ _. tt)))
 
-library_cell_alike : Alike library_cell
-unfolding library_cell
-library_cell_alike table = (cell_alike table, λ _. tt)
-
-library_status_alike : Alike library_status
-unfolding library_status
-library_status_alike table = (status_alike table, λ _. tt)
-
-library_note_alike : (q : Keyword) → Alike (library_note q)
-unfolding library_note
-library_note_alike q table = (note_alike q table, λ _. tt)
-
 library_item_alike : (q : Keyword) → Alike (library_item q)
 library_item_alike q =
-    either_alike (same_keyword q k.Cell) _ _ library_cell_alike (either_alike (same_keyword q k.Status) _ _ library_status_alike (library_note_alike q))
+    either_alike (same_keyword q k.Cell) _ _ (as_item_alike cell cell_alike)
+    (either_alike (same_keyword q k.Status) _ _ (as_item_alike status status_alike) (as_item_alike (note q) (note_alike q)))
 
 library_rest_alike : Alike (library_rest [])
 unfolding library_rest
@@ -184,21 +122,10 @@ cell_ref_alike : Alike cell_ref
 unfolding cell_ref
 cell_ref_alike table = (begin_alike _ table, λ _. (word_alike table, λ _. (library_ref_alike table, λ _. (closing_alike table, λ _. tt))))
 
-design_property_alike : Alike design_property
-unfolding design_property
-design_property_alike table = (property_alike table, λ _. tt)
-
-design_status_alike : Alike design_status
-unfolding design_status
-design_status_alike table = (status_alike table, λ _. tt)
-
-design_note_alike : (q : Keyword) → Alike (design_note q)
-unfolding design_note
-design_note_alike q table = (note_alike q table, λ _. tt)
-
 design_item_alike : (q : Keyword) → Alike (design_item q)
 design_item_alike q =
-    either_alike (same_keyword q k.Property) _ _ design_property_alike (either_alike (same_keyword q k.Status) _ _ design_status_alike (design_note_alike q))
+    either_alike (same_keyword q k.Property) _ _ (as_item_alike property property_alike)
+    (either_alike (same_keyword q k.Status) _ _ (as_item_alike status status_alike) (as_item_alike (note q) (note_alike q)))
 
 design_rest_alike : Alike (design_rest [])
 unfolding design_rest
@@ -208,25 +135,12 @@ design_alike : Alike design
 unfolding design
 design_alike table = (name_alike table, λ _. (cell_ref_alike table, λ _. (design_rest_alike table, λ _. tt)))
 
-file_library_alike : (e : Bool) → Alike (file_library e)
-unfolding file_library
-file_library_alike e table = (library_alike e table, λ _. tt)
-
-file_design_alike : Alike file_design
-unfolding file_design
-file_design_alike table = (design_alike table, λ _. tt)
-
-file_status_alike : Alike file_status
-unfolding file_status
-file_status_alike table = (status_alike table, λ _. tt)
-
-file_note_alike : (q : Keyword) → Alike (file_note q)
-unfolding file_note
-file_note_alike q table = (note_alike q table, λ _. tt)
-
 file_item_alike : (q : Keyword) → Alike (file_item q)
 file_item_alike q =
-    either_alike (same_keyword q k.Library) _ _ (file_library_alike false) (either_alike (same_keyword q k.External) _ _ (file_library_alike true) (either_alike (same_keyword q k.Design) _ _ file_design_alike (either_alike (same_keyword q k.Status) _ _ file_status_alike (file_note_alike q))))
+    either_alike (same_keyword q k.Library) _ _ (as_item_alike (library false) (library_alike false))
+    (either_alike (same_keyword q k.External) _ _ (as_item_alike (library true) (library_alike true))
+    (either_alike (same_keyword q k.Design) _ _ (as_item_alike design design_alike)
+    (either_alike (same_keyword q k.Status) _ _ (as_item_alike status status_alike) (as_item_alike (note q) (note_alike q)))))
 
 file_rest_alike : Alike (file_rest [])
 unfolding file_rest

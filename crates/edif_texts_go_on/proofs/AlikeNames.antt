@@ -5,11 +5,13 @@ use Rattle.edif_values.specs.declared.keyword.Keyword.{Keyword}
 use Rattle.edif_values.specs.declared.keyword.Keyword.TheVariants as k
 use Rattle.edif_values.specs.Keywords.{same_keyword}
 use Rattle.edif_keywords.specs.Language.{Edif}
-use Rattle.edif_keywords.specs.Grammar.{closing}
-use Rattle.edif_names.specs.Grammar.{renamed, plain, name, array, renamed_port, plain_port, port_form, port_name, exponential, whole, scaled, string_value, integer_value, number_value, boolean_value, value_form, value, owner, remark as tail_remark, tail_form, tails, property}
+use Rattle.edif_keywords.specs.Grammar.{closing, comment}
+use Rattle.readers.specs.Items.{as_item}
+use Rattle.edif_values.specs.declared.name.PortName.TheVariants.{Single}
+use Rattle.edif_names.specs.Grammar.{renamed, plain, name, array, port_form, port_name, exponential, whole, scaled, string_value, integer_value, number_value, boolean_value, value_form, value, owner, tail_form, tails, property}
 use Rattle.edif_values.specs.declared.user.UserTree.{UserTree}
-use Rattle.edif_status.specs.Grammar.{TreeStart, Whole, Opens, tree_of, tree_rest, trees_by, trees, user, remark, user_note, note, clock, stamp, version_text, no_version, maybe_version, author, program, data_origin, written_note, written_item, written_rest, written, status_written, status_note, status_item, status_rest, status}
-use Rattle.edif_texts_go_on.proofs.AlikeParts.{Alike, while_alike, either_alike, word_alike, string_alike, integer_alike, closing_alike, begin_alike, end_alike, form_or_alike, items_alike, comment_alike}
+use Rattle.edif_status.specs.Grammar.{TreeStart, Whole, Opens, tree_of, tree_rest, trees_by, trees, user, note, clock, stamp, version_text, no_version, maybe_version, author, program, data_origin, written_item, written_rest, written, status_item, status_rest, status}
+use Rattle.edif_texts_go_on.proofs.AlikeParts.{Alike, as_item_alike, while_alike, either_alike, word_alike, string_alike, integer_alike, closing_alike, begin_alike, end_alike, form_or_alike, items_alike, comment_alike}
 
 -- ---- names and properties
 
@@ -26,18 +28,14 @@ unfolding name
 name_alike = form_or_alike _ (λ _. renamed) plain (λ _. renamed_alike) plain_alike
 
 port_form_alike : (b : Bool) → Alike (port_form b)
-unfolding array renamed_port
+unfolding array
 port_form_alike true table = (name_alike table, λ _. (integer_alike table, λ _. (closing_alike table, λ _. tt)))
 port_form_alike false table = (renamed_alike table, λ _. tt)
-
-plain_port_alike : Alike plain_port
-unfolding plain_port
-plain_port_alike table = (plain_alike table, λ _. tt)
 
 pub port_name_alike : Alike port_name
 unfolding port_name
 port_name_alike =
-    form_or_alike _ (λ q. port_form (same_keyword q k.Array)) plain_port (λ q. port_form_alike (same_keyword q k.Array)) plain_port_alike
+    form_or_alike _ (λ q. port_form (same_keyword q k.Array)) (as_item Single plain) (λ q. port_form_alike (same_keyword q k.Array)) (as_item_alike plain plain_alike)
 
 exponential_alike : Alike exponential
 unfolding exponential
@@ -81,13 +79,9 @@ owner_alike : Alike owner
 unfolding owner
 owner_alike table = (string_alike table, λ _. (closing_alike table, λ _. tt))
 
-tail_remark_alike : Alike tail_remark
-unfolding tail_remark
-tail_remark_alike table = (comment_alike table, λ _. tt)
-
 tail_form_alike : (q : Keyword) → Alike (tail_form q)
 unfolding tail_form
-tail_form_alike q = either_alike (same_keyword q k.Owner) owner tail_remark owner_alike tail_remark_alike
+tail_form_alike q = either_alike (same_keyword q k.Owner) owner _ owner_alike (as_item_alike comment comment_alike)
 
 tails_alike : Alike (tails [])
 unfolding tails
@@ -117,16 +111,8 @@ user_alike : Alike user
 unfolding user
 user_alike table = (word_alike table, λ _. (trees_alike 64 [] table, λ _. tt))
 
-remark_alike : Alike remark
-unfolding remark
-remark_alike table = (comment_alike table, λ _. tt)
-
-user_note_alike : Alike user_note
-unfolding user_note
-user_note_alike table = (user_alike table, λ _. tt)
-
 pub note_alike : (q : Keyword) → Alike (note q)
-note_alike q = either_alike (same_keyword q k.Comment) remark user_note remark_alike user_note_alike
+note_alike q = either_alike (same_keyword q k.Comment) _ _ (as_item_alike comment comment_alike) (as_item_alike user user_alike)
 
 -- ---- status
 
@@ -159,14 +145,11 @@ data_origin_alike : Alike data_origin
 unfolding data_origin
 data_origin_alike table = (string_alike table, λ _. (maybe_version_alike table, λ _. tt))
 
-written_note_alike : (q : Keyword) → Alike (written_note q)
-unfolding written_note
-written_note_alike q table = (note_alike q table, λ _. tt)
-
 written_item_alike : (q : Keyword) → Alike (written_item q)
 written_item_alike q =
     either_alike (same_keyword q k.Author) author _ author_alike
-    (either_alike (same_keyword q k.Program) program _ program_alike (either_alike (same_keyword q k.DataOrigin) data_origin (written_note q) data_origin_alike (written_note_alike q)))
+    (either_alike (same_keyword q k.Program) program _ program_alike
+    (either_alike (same_keyword q k.DataOrigin) data_origin _ data_origin_alike (as_item_alike (note q) (note_alike q))))
 
 written_rest_alike : Alike (written_rest [])
 unfolding written_rest
@@ -176,16 +159,8 @@ written_alike : Alike written
 unfolding written
 written_alike table = (begin_alike _ table, λ _. (stamp_alike table, λ _. (written_rest_alike table, λ _. tt)))
 
-status_written_alike : Alike status_written
-unfolding status_written
-status_written_alike table = (written_alike table, λ _. tt)
-
-status_note_alike : (q : Keyword) → Alike (status_note q)
-unfolding status_note
-status_note_alike q table = (note_alike q table, λ _. tt)
-
 status_item_alike : (q : Keyword) → Alike (status_item q)
-status_item_alike q = either_alike (same_keyword q k.Written) status_written (status_note q) status_written_alike (status_note_alike q)
+status_item_alike q = either_alike (same_keyword q k.Written) _ _ (as_item_alike written written_alike) (as_item_alike (note q) (note_alike q))
 
 status_rest_alike : Alike (status_rest [])
 unfolding status_rest

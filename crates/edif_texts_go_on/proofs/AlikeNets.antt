@@ -3,8 +3,10 @@ use Rattle.std.proofs.Common.{[]}
 use Rattle.edif_values.specs.declared.keyword.Keyword.{Keyword}
 use Rattle.edif_values.specs.declared.keyword.Keyword.TheVariants as k
 use Rattle.edif_values.specs.Keywords.{same_keyword}
-use Rattle.edif_nets.specs.Grammar.{designator, direction_words, direction, port_property, port_designator, port_note, port_item, port_rest, port, library_named, no_library, maybe_library, cell_ref, view_ref, instance_property, instance_designator, instance_note, instance_item, instance_rest, instance, member, whole_port, port_or_member, instance_named, no_instance, maybe_instance, port_ref, joined_rest, joined, net_property, net_note, net_item, net_rest, net}
-use Rattle.edif_texts_go_on.proofs.AlikeParts.{Alike, either_alike, word_alike, string_alike, integer_alike, closing_alike, choice_alike, begin_alike, form_or_alike, items_alike}
+use Rattle.edif_names.specs.Grammar.{property}
+use Rattle.edif_status.specs.Grammar.{note}
+use Rattle.edif_nets.specs.Grammar.{designator, direction_words, direction, port_item, port_rest, port, library_named, no_library, maybe_library, cell_ref, view_ref, instance_item, instance_rest, instance, member, whole_port, port_or_member, instance_named, no_instance, maybe_instance, port_ref, joined_rest, joined, net_item, net_rest, net}
+use Rattle.edif_texts_go_on.proofs.AlikeParts.{Alike, as_item_alike, either_alike, word_alike, string_alike, integer_alike, closing_alike, choice_alike, begin_alike, form_or_alike, items_alike}
 use Rattle.edif_texts_go_on.proofs.AlikeNames.{name_alike, port_name_alike, property_alike, note_alike}
 
 pub designator_alike : Alike designator
@@ -17,23 +19,12 @@ direction_alike : Alike direction
 unfolding direction
 direction_alike table = (choice_alike direction_words table, λ _. (closing_alike table, λ _. tt))
 
-port_property_alike : Alike port_property
-unfolding port_property
-port_property_alike table = (property_alike table, λ _. tt)
-
-port_designator_alike : Alike port_designator
-unfolding port_designator
-port_designator_alike table = (designator_alike table, λ _. tt)
-
-port_note_alike : (q : Keyword) → Alike (port_note q)
-unfolding port_note
-port_note_alike q table = (note_alike q table, λ _. tt)
-
 port_item_alike : (q : Keyword) → Alike (port_item q)
 unfolding port_item
 port_item_alike q =
     either_alike (same_keyword q k.Direction) direction _ direction_alike
-    (either_alike (same_keyword q k.Property) port_property _ port_property_alike (either_alike (same_keyword q k.Designator) port_designator (port_note q) port_designator_alike (port_note_alike q)))
+    (either_alike (same_keyword q k.Property) _ _ (as_item_alike property property_alike)
+    (either_alike (same_keyword q k.Designator) _ _ (as_item_alike designator designator_alike) (as_item_alike (note q) (note_alike q))))
 
 port_rest_alike : Alike (port_rest [])
 unfolding port_rest
@@ -65,23 +56,11 @@ view_ref_alike : Alike view_ref
 unfolding view_ref
 view_ref_alike table = (begin_alike _ table, λ _. (word_alike table, λ _. (cell_ref_alike table, λ _. (closing_alike table, λ _. tt))))
 
-instance_property_alike : Alike instance_property
-unfolding instance_property
-instance_property_alike table = (property_alike table, λ _. tt)
-
-instance_designator_alike : Alike instance_designator
-unfolding instance_designator
-instance_designator_alike table = (designator_alike table, λ _. tt)
-
-instance_note_alike : (q : Keyword) → Alike (instance_note q)
-unfolding instance_note
-instance_note_alike q table = (note_alike q table, λ _. tt)
-
 instance_item_alike : (q : Keyword) → Alike (instance_item q)
 unfolding instance_item
 instance_item_alike q =
-    either_alike (same_keyword q k.Property) instance_property _ instance_property_alike
-    (either_alike (same_keyword q k.Designator) instance_designator (instance_note q) instance_designator_alike (instance_note_alike q))
+    either_alike (same_keyword q k.Property) _ _ (as_item_alike property property_alike)
+    (either_alike (same_keyword q k.Designator) _ _ (as_item_alike designator designator_alike) (as_item_alike (note q) (note_alike q)))
 
 instance_rest_alike : Alike (instance_rest [])
 unfolding instance_rest
@@ -125,17 +104,9 @@ joined_alike : Alike joined
 unfolding joined joined_rest
 joined_alike table = (begin_alike _ table, λ _. items_alike _ (λ _. port_ref) [] (λ _. port_ref_alike) table)
 
-net_property_alike : Alike net_property
-unfolding net_property
-net_property_alike table = (property_alike table, λ _. tt)
-
-net_note_alike : (q : Keyword) → Alike (net_note q)
-unfolding net_note
-net_note_alike q table = (note_alike q table, λ _. tt)
-
 net_item_alike : (q : Keyword) → Alike (net_item q)
 unfolding net_item
-net_item_alike q = either_alike (same_keyword q k.Property) net_property (net_note q) net_property_alike (net_note_alike q)
+net_item_alike q = either_alike (same_keyword q k.Property) _ _ (as_item_alike property property_alike) (as_item_alike (note q) (note_alike q))
 
 net_rest_alike : Alike (net_rest [])
 unfolding net_rest

@@ -5,6 +5,7 @@ use Rattle.grammar.specs.Whole.{Terminal, proper, end}
 use Rattle.grammar_alike.specs.Alike.{Respects}
 use Rattle.nl_base.specs.declared.fault.Reason.{Reason}
 use Rattle.nl_base.specs.declared.place.Place.{Place}
+use Rattle.readers.specs.Items.{as_item}
 use Rattle.readers.specs.Parts.{one, at_token, if_next, while_next}
 use Rattle.edif_tokens.specs.declared.token.Found.{Found}
 use Rattle.edif_values.specs.declared.token.Token.{Token}
@@ -54,6 +55,10 @@ pub while_alike : {A C S : Type 0} (f : Token → Glance C Reason) (q : S → C 
     → ((s : S) → Alike (e s)) → Alike (while_next (λ _ _ x. f x.token) q e s)
 unfolding while_next
 while_alike f q e s h l table = (λ s. look_alike f, λ s x c i. h s c table, λ s. l s table)
+
+-- a part as one form of an item, whichever form it is
+pub as_item_alike : {A : Type 0} (part : Edif A) → Alike part → Alike (as_item (λ v. v) part)
+as_item_alike part alike table = (alike table, λ _. tt)
 
 pub either_alike : {A : Type 0} (b : Bool) (p q : Edif A) → Alike p → Alike q → Alike (cond b p q)
 either_alike true p q h l = h

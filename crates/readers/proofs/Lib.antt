@@ -7,4 +7,5 @@ pub mod Loops
 pub mod Chain
 pub mod Whole
 pub mod Shapes
+pub mod Items
 pub mod Maybes

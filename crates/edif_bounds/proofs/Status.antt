@@ -8,13 +8,13 @@ use Rattle.edif_values.specs.declared.keyword.Keyword.TheVariants as k
 use Rattle.edif_values.specs.Keywords.{same_keyword}
 use Rattle.edif_keywords.specs.Language.{Edif}
 use Rattle.edif_keywords.specs.Grammar.{word, string, closing, begin}
-use Rattle.edif_names.specs.Grammar.{name, value, owner, remark as tail_remark, tail_form, tails, property}
+use Rattle.edif_names.specs.Grammar.{name, value, owner, tail_form, tails, property}
 use Rattle.edif_values.specs.declared.user.UserTree.{UserTree}
 use Rattle.edif_values.specs.declared.user.UserTree.TheVariants as tree
-use Rattle.edif_status.specs.Grammar.{TreeStart, Whole, Opens, tree_of, tree_rest, trees_by, trees, user, remark, user_note, note, stamp, maybe_version, author, program, data_origin, written_note, written_item, written_keywords, written_rest, written, status_written, status_note, status_item, status_keywords, status_rest, status}
+use Rattle.edif_status.specs.Grammar.{TreeStart, Whole, Opens, tree_of, tree_rest, trees_by, trees, user, note, stamp, maybe_version, author, program, data_origin, written_item, written_keywords, written_rest, written, status_item, status_keywords, status_rest, status}
 use Rattle.edif_values.proofs.Sizes.{size-Word, size-Number, size-Str, size-List}
 use Rattle.edif_values.specs.Sizes.{list_size, tail_size, property_size, tree_size, note_size, written_item_size, written_size, status_item_size, status_size}
-use Rattle.edif_sizes.proofs.Bounds.{Bounded, bounded_gives, bounded_then, bounded_after, bounded_cond, bounded_while, bounded_items, bounded_comment, one_item, bounded_behind}
+use Rattle.edif_bounds.proofs.Bounds.{Bounded, bounded_gives, bounded_then, bounded_after, bounded_cond, bounded_while, bounded_items, bounded_comment, one_item, bounded_behind}
 
 -- ---- properties
 
@@ -22,13 +22,9 @@ bounded_owner : Bounded owner tail_size 0
 unfolding owner
 bounded_owner = bounded_after string (λ s. bounded_after closing (λ _. bounded_gives _ (omega arith)))
 
-bounded_tail_remark : Bounded tail_remark tail_size 0
-unfolding tail_remark
-bounded_tail_remark = bounded_then bounded_comment (λ ts. bounded_gives _ (omega arith))
-
 bounded_tail_form : (q : Keyword) → Bounded (tail_form q) tail_size 0
 unfolding tail_form
-bounded_tail_form q = bounded_cond (same_keyword q k.Owner) owner tail_remark bounded_owner bounded_tail_remark
+bounded_tail_form q = bounded_cond (same_keyword q k.Owner) owner _ bounded_owner (bounded_then bounded_comment (λ ts. bounded_gives _ (omega arith)))
 
 bounded_tails : Bounded (tails []) (list_size tail_size) 0
 unfolding tails
@@ -63,20 +59,12 @@ bounded_trees (suc room) s = bounded_trees_by (suc room) (trees room []) (bounde
 
 -- ---- notes
 
-bounded_remark : Bounded remark note_size 0
-unfolding remark
-bounded_remark = bounded_then bounded_comment (λ ts. bounded_gives _ (omega arith))
-
 bounded_user : Bounded user (λ u. list_size tree_size u.trees) 0
 unfolding user
 bounded_user = bounded_after word (λ w. bounded_then (bounded_trees 64 []) (λ ts. bounded_gives _ (omega arith)))
 
-bounded_user_note : Bounded user_note note_size 0
-unfolding user_note
-bounded_user_note = bounded_then bounded_user (λ u. bounded_gives _ (omega arith))
-
 pub bounded_note : (q : Keyword) → Bounded (note q) note_size 0
-bounded_note q = bounded_cond (same_keyword q k.Comment) remark user_note bounded_remark bounded_user_note
+bounded_note q = bounded_cond (same_keyword q k.Comment) _ _ (bounded_then bounded_comment (λ ts. bounded_gives _ (omega arith))) (bounded_then bounded_user (λ u. bounded_gives _ (omega arith)))
 
 -- ---- status
 
@@ -92,14 +80,11 @@ bounded_data_origin : Bounded data_origin written_item_size 0
 unfolding data_origin
 bounded_data_origin = bounded_after string (λ s. bounded_after maybe_version (λ v. bounded_gives _ (omega arith)))
 
-bounded_written_note : (q : Keyword) → Bounded (written_note q) written_item_size 0
-unfolding written_note
-bounded_written_note q = bounded_then (bounded_note q) (λ n. bounded_gives _ (omega arith))
-
 bounded_written_item : (q : Keyword) → Bounded (written_item q) written_item_size 0
 bounded_written_item q =
     bounded_cond (same_keyword q k.Author) author _ bounded_author
-    (bounded_cond (same_keyword q k.Program) program _ bounded_program (bounded_cond (same_keyword q k.DataOrigin) data_origin (written_note q) bounded_data_origin (bounded_written_note q)))
+    (bounded_cond (same_keyword q k.Program) program _ bounded_program
+    (bounded_cond (same_keyword q k.DataOrigin) data_origin _ bounded_data_origin (bounded_then (bounded_note q) (λ n. bounded_gives _ (omega arith)))))
 
 bounded_written_rest : Bounded (written_rest []) (list_size written_item_size) 0
 unfolding written_rest
@@ -109,16 +94,8 @@ bounded_written : Bounded written written_size 0
 unfolding written
 bounded_written = bounded_after (begin (k.TimeStamp ∷ [])) (λ _. bounded_after stamp (λ s. bounded_then bounded_written_rest (λ is. bounded_gives _ (omega arith))))
 
-bounded_status_written : Bounded status_written status_item_size 0
-unfolding status_written
-bounded_status_written = bounded_then bounded_written (λ w. bounded_gives _ (omega arith))
-
-bounded_status_note : (q : Keyword) → Bounded (status_note q) status_item_size 0
-unfolding status_note
-bounded_status_note q = bounded_then (bounded_note q) (λ n. bounded_gives _ (omega arith))
-
 bounded_status_item : (q : Keyword) → Bounded (status_item q) status_item_size 0
-bounded_status_item q = bounded_cond (same_keyword q k.Written) status_written (status_note q) bounded_status_written (bounded_status_note q)
+bounded_status_item q = bounded_cond (same_keyword q k.Written) _ _ (bounded_then bounded_written (λ w. bounded_gives _ (omega arith))) (bounded_then (bounded_note q) (λ n. bounded_gives _ (omega arith)))
 
 bounded_status_rest : Bounded (status_rest []) (list_size status_item_size) 0
 unfolding status_rest

@@ -15,7 +15,7 @@ use Rattle.edif_values.specs.declared.file.EdifFile.{EdifFile}
 use Rattle.edif_library.specs.Grammar.{file}
 use Rattle.edif_values.specs.Sizes.{edif_size}
 use Rattle.edif_library.specs.Text.{EdifReads}
-use Rattle.edif_sizes.proofs.Library.{bounded_file}
+use Rattle.edif_bounds.proofs.Library.{bounded_file}
 use Rattle.edif_limits.proofs.Law as limits
 use Rattle.edif_limits.proofs.Tokens.{few_tokens}
 

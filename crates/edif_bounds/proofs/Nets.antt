@@ -6,10 +6,10 @@ use Rattle.edif_values.specs.Keywords.{same_keyword}
 use Rattle.edif_keywords.specs.Grammar.{closing, choice, begin}
 use Rattle.edif_names.specs.Grammar.{name, port_name}
 use Rattle.edif_values.specs.declared.net.PortRef.{PortRef}
-use Rattle.edif_nets.specs.Grammar.{designator, direction_words, direction, port_property, port_designator, port_note, port_item, has_direction, port_keywords, port_rest, port, view_ref, instance_property, instance_designator, instance_note, instance_item, instance_keywords, instance_rest, instance, port_or_member, maybe_instance, port_ref, joined_keywords, joined_rest, joined, net_property, net_note, net_item, net_keywords, net_rest, net}
+use Rattle.edif_nets.specs.Grammar.{designator, direction_words, direction, port_item, has_direction, port_keywords, port_rest, port, view_ref, instance_item, instance_keywords, instance_rest, instance, port_or_member, maybe_instance, port_ref, joined_keywords, joined_rest, joined, net_item, net_keywords, net_rest, net}
 use Rattle.edif_values.specs.Sizes.{list_size, port_item_size, port_size, instance_item_size, instance_size, net_item_size, net_size}
-use Rattle.edif_sizes.proofs.Bounds.{Bounded, bounded_gives, bounded_then, bounded_after, bounded_cond, bounded_items, bounded_behind, bounded_less}
-use Rattle.edif_sizes.proofs.Status.{bounded_property, bounded_note}
+use Rattle.edif_bounds.proofs.Bounds.{Bounded, bounded_gives, bounded_then, bounded_after, bounded_cond, bounded_items, bounded_behind, bounded_less}
+use Rattle.edif_bounds.proofs.Status.{bounded_property, bounded_note}
 
 -- ---- ports
 
@@ -17,23 +17,12 @@ bounded_direction : Bounded direction port_item_size 0
 unfolding direction
 bounded_direction = bounded_after (choice direction_words) (λ d. bounded_after closing (λ _. bounded_gives _ (omega arith)))
 
-bounded_port_property : Bounded port_property port_item_size 0
-unfolding port_property
-bounded_port_property = bounded_then bounded_property (λ p. bounded_gives _ (omega arith))
-
-bounded_port_designator : Bounded port_designator port_item_size 0
-unfolding port_designator
-bounded_port_designator = bounded_after designator (λ s. bounded_gives _ (omega arith))
-
-bounded_port_note : (q : Keyword) → Bounded (port_note q) port_item_size 0
-unfolding port_note
-bounded_port_note q = bounded_then (bounded_note q) (λ n. bounded_gives _ (omega arith))
-
 bounded_port_item : (q : Keyword) → Bounded (port_item q) port_item_size 0
 unfolding port_item
 bounded_port_item q =
-    bounded_cond (same_keyword q k.Direction) direction _ bounded_direction (bounded_cond (same_keyword q k.Property) port_property _ bounded_port_property
-    (bounded_cond (same_keyword q k.Designator) port_designator (port_note q) bounded_port_designator (bounded_port_note q)))
+    bounded_cond (same_keyword q k.Direction) direction _ bounded_direction
+    (bounded_cond (same_keyword q k.Property) _ _ (bounded_then bounded_property (λ p. bounded_gives _ (omega arith)))
+    (bounded_cond (same_keyword q k.Designator) _ _ (bounded_after designator (λ s. bounded_gives _ (omega arith))) (bounded_then (bounded_note q) (λ n. bounded_gives _ (omega arith)))))
 
 bounded_port_rest : Bounded (port_rest []) (list_size port_item_size) 0
 unfolding port_rest
@@ -45,23 +34,11 @@ bounded_port = bounded_after port_name (λ n. bounded_then bounded_port_rest (λ
 
 -- ---- instances
 
-bounded_instance_property : Bounded instance_property instance_item_size 0
-unfolding instance_property
-bounded_instance_property = bounded_then bounded_property (λ p. bounded_gives _ (omega arith))
-
-bounded_instance_designator : Bounded instance_designator instance_item_size 0
-unfolding instance_designator
-bounded_instance_designator = bounded_after designator (λ s. bounded_gives _ (omega arith))
-
-bounded_instance_note : (q : Keyword) → Bounded (instance_note q) instance_item_size 0
-unfolding instance_note
-bounded_instance_note q = bounded_then (bounded_note q) (λ n. bounded_gives _ (omega arith))
-
 bounded_instance_item : (q : Keyword) → Bounded (instance_item q) instance_item_size 0
 unfolding instance_item
 bounded_instance_item q =
-    bounded_cond (same_keyword q k.Property) instance_property _ bounded_instance_property
-    (bounded_cond (same_keyword q k.Designator) instance_designator (instance_note q) bounded_instance_designator (bounded_instance_note q))
+    bounded_cond (same_keyword q k.Property) _ _ (bounded_then bounded_property (λ p. bounded_gives _ (omega arith)))
+    (bounded_cond (same_keyword q k.Designator) _ _ (bounded_after designator (λ s. bounded_gives _ (omega arith))) (bounded_then (bounded_note q) (λ n. bounded_gives _ (omega arith))))
 
 bounded_instance_rest : Bounded (instance_rest []) (list_size instance_item_size) 0
 unfolding instance_rest
@@ -89,17 +66,9 @@ bounded_joined : Bounded joined length 0
 unfolding joined
 bounded_joined = bounded_after (begin (k.Joined ∷ [])) (λ _. bounded_joined_rest)
 
-bounded_net_property : Bounded net_property net_item_size 0
-unfolding net_property
-bounded_net_property = bounded_then bounded_property (λ p. bounded_gives _ (omega arith))
-
-bounded_net_note : (q : Keyword) → Bounded (net_note q) net_item_size 0
-unfolding net_note
-bounded_net_note q = bounded_then (bounded_note q) (λ n. bounded_gives _ (omega arith))
-
 bounded_net_item : (q : Keyword) → Bounded (net_item q) net_item_size 0
 unfolding net_item
-bounded_net_item q = bounded_cond (same_keyword q k.Property) net_property (net_note q) bounded_net_property (bounded_net_note q)
+bounded_net_item q = bounded_cond (same_keyword q k.Property) _ _ (bounded_then bounded_property (λ p. bounded_gives _ (omega arith))) (bounded_then (bounded_note q) (λ n. bounded_gives _ (omega arith)))
 
 bounded_net_rest : Bounded (net_rest []) (list_size net_item_size) 0
 unfolding net_rest

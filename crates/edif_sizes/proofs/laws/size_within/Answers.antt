@@ -1,5 +1,0 @@
-use Rattle.edif_sizes.proofs.Law.{items_within, tokens_within, input_within, file_within}
-use Rattle.edif_sizes.proofs.laws.size_within.Goals as goal
-
-pub returns : goal.returns
-returns c = record { input = input_within; bytes = tokens_within; tokens = items_within; size = file_within }
