@@ -116,8 +116,17 @@ impl Output {
         self.pass_on(bytes, sink);
     }
 
+    /// Puts bytes behind what is held, which goes to the sink first.
+    #[inline(never)]
+    fn put_full<O: Sink>(&mut self, bytes: &[u8], sink: &mut O)
+        ensures { Puts (λ rest. bytes.now ++ rest) (state O.receipt sink.old self.old) (state O.receipt sink.new self.new) }
+    {
+        self.drain(sink);
+        self.put_behind(bytes, sink);
+    }
+
     /// Puts the bytes, which come next in the text that is being written.
-    #[inline]
+    #[inline(always)]
     pub fn put<O: Sink>(&mut self, bytes: &[u8], sink: &mut O)
         ensures { Puts (λ rest. bytes.now ++ rest) (state O.receipt sink.old self.old) (state O.receipt sink.new self.new) }
     {
@@ -125,8 +134,7 @@ impl Output {
             self.hold(bytes);
             return;
         }
-        self.drain(sink);
-        self.put_behind(bytes, sink);
+        self.put_full(bytes, sink);
     }
 
     /// Puts the decimal text of a number, with a `-` where it is negative.
@@ -140,9 +148,14 @@ impl Output {
     }
 
     /// Puts the decimal text of a number.
+    #[tactic(auto, using(crate::proofs::Digits::digit_text))]
     pub fn put_u64<O: Sink>(&mut self, number: u64, sink: &mut O)
         ensures { Puts (λ rest. decimal number ++ rest) (state O.receipt sink.old self.old) (state O.receipt sink.new self.new) }
     {
+        if number < 10 {
+            self.put(&[b'0' + number as u8], sink);
+            return;
+        }
         let mut digits = [0; 20];
         let count = spell_u64(number, &mut digits);
         let (text, _) = digits.split_at(count);
