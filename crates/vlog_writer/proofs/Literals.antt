@@ -1,5 +1,5 @@
 -- The spelling of based literals, before what follows.
-use Rattle.std.proofs.Common.{◌≡◌, ℕ, Bool, true, false, List, [], ◌∷◌, ◌++◌, refl, sym, ap, ◌∙◌, append_assoc}
+use Rattle.std.proofs.Common.{◌≡◌, ℕ, Bool, true, false, List, [], ◌∷◌, ◌++◌, refl, append_assoc}
 use Rattle.std.specs.Prelude.{if◌then◌else◌, decimal}
 use Rattle.vlog_values.specs.declared.literal.Based.{Based}
 use Rattle.vlog_values.specs.declared.literal.Literal.{Literal}

@@ -1,5 +1,5 @@
 -- A written string, a run of bytes that stand for themselves on.
-use Rattle.std.proofs.Common.{◌≡◌, ℕ, ◌+◌, ◌<◌, Bool, true, false, List, [], ◌∷◌, ◌++◌, length, take, drop, refl, sym, ap, ◌∙◌, arith, suc}
+use Rattle.std.proofs.Common.{◌≡◌, ℕ, ◌+◌, Bool, true, false, List, [], ◌∷◌, ◌++◌, length, take, drop, refl, sym, ap, ◌∙◌, arith, suc}
 use Rattle.std.specs.List.{prefix_len}
 use Rattle.vlog_writer.specs.Spelling.{is_plain, string_byte, written}
 

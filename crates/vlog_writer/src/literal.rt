@@ -14,10 +14,12 @@ use vlog_values::{Base, Based, Literal};
 pub(crate) fn put_index<O: Sink>(index: i32, output: &mut Output, sink: &mut O)
     ensures { Puts (λ rest. signed_decimal index ++ rest) (state O.receipt sink.old output.old) (state O.receipt sink.new output.new) }
 {
-    let negative = index < 0;
-    let index = i64::from(index);
-    let magnitude = if negative { -index } else { index };
-    output.put_int(&Int::signed(negative, magnitude as u64), sink);
+    if index < 0 {
+        let magnitude = -i64::from(index);
+        output.put_int(&Int::signed(true, magnitude as u64), sink);
+        return;
+    }
+    output.put_u64(index as u64, sink);
 }
 
 /// A real: its mantissa, `e` and its exponent (IEEE 1364-2005, 3.5.2).

@@ -7,6 +7,7 @@ ghost use Rattle.nl_output.specs.Writing.{state, Puts};
 
 use crate::forms::OnLine;
 use nl_base::Text;
+use nl_bytes::Class;
 use nl_io::Sink;
 use nl_output::Output;
 use vlog_tokens::is_keyword;
@@ -15,7 +16,7 @@ use vlog_tokens::is_keyword;
 fn is_name_byte(byte: u8) -> bool
     ensures { result ≡ is_name_byte byte }
 {
-    byte.is_ascii_alphabetic() || byte.is_ascii_digit() || byte == b'_' || byte == b'$'
+    Class::NameByte.contains(byte)
 }
 
 /// Whether all bytes go on in a simple identifier.

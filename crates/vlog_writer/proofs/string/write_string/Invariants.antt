@@ -1,4 +1,4 @@
-use Rattle.std.proofs.Common.{ℕ, List, ◌∷◌, length}
+use Rattle.std.proofs.Common.{ℕ, List, length}
 use Rattle.vlog_writer.specs.Spelling.{quoted, written}
 use Rattle.nl_output.specs.Writing.{Begin, state, ToCome}
 use Rattle.vlog_writer.proofs.string.write_string.Given as goal
