@@ -1,4 +1,5 @@
 pub mod Steps
+pub mod Fronts
 pub mod Escapes
 pub mod Trees
 pub mod Digits

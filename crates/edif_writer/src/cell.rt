@@ -4,7 +4,8 @@ ghost use Rattle.edif_values.specs.declared.keyword.Keyword.TheVariants as k;
 ghost use Rattle.std.specs.Prelude.{◌≤◌, ◌+◌};
 ghost use Rattle.nl_output.specs.Writing.{state, Puts};
 
-use crate::forms::{OnLines, lay_each, open_block, put_line, write_line};
+use crate::forms::{OnLines, lay_each, open_block, put_close, put_line, write_line};
+use crate::name::lay_property;
 use crate::net::lay_designator;
 use edif_values::{Cell, CellItem, CellKind, ContentsItem, InterfaceItem, View, ViewItem};
 use nl_base::Seq;
@@ -19,7 +20,7 @@ impl OnLines for InterfaceItem {
     fn lay<O: Sink>(&self, indent: usize, output: &mut Output, sink: &mut O) {
         match self {
             InterfaceItem::Port(port) => write_line(port, indent, output, sink),
-            InterfaceItem::Property(property) => write_line(property, indent, output, sink),
+            InterfaceItem::Property(property) => lay_property(property, indent, output, sink),
             InterfaceItem::Designator(text) => lay_designator(text, indent, output, sink),
             InterfaceItem::Note(note) => write_line(note, indent, output, sink),
         }
@@ -50,9 +51,9 @@ fn lay_contents<O: Sink>(
     requires { indent + 6 ≤ 16 }
     ensures { Puts (laid indent (Deep k.Contents none (all contents_item_block items.now))) (state O.receipt sink.old output.old) (state O.receipt sink.new output.new) }
 {
-    put_line(indent, b"(contents", output, sink);
+    put_line(indent, b"(contents\n", output, sink);
     lay_each(items.items(), indent + 2, output, sink);
-    put_line(indent, b")", output, sink);
+    put_close(indent, output, sink);
 }
 
 /// The interface of a view.
@@ -65,9 +66,9 @@ fn lay_interface<O: Sink>(
     requires { indent + 2 ≤ 16 }
     ensures { Puts (laid indent (Deep k.Interface none (all interface_item_block items.now))) (state O.receipt sink.old output.old) (state O.receipt sink.new output.new) }
 {
-    put_line(indent, b"(interface", output, sink);
+    put_line(indent, b"(interface\n", output, sink);
     lay_each(items.items(), indent + 2, output, sink);
-    put_line(indent, b")", output, sink);
+    put_close(indent, output, sink);
 }
 
 impl OnLines for ViewItem {
@@ -78,7 +79,7 @@ impl OnLines for ViewItem {
     fn lay<O: Sink>(&self, indent: usize, output: &mut Output, sink: &mut O) {
         match self {
             ViewItem::Contents(items) => lay_contents(items, indent, output, sink),
-            ViewItem::Property(property) => write_line(property, indent, output, sink),
+            ViewItem::Property(property) => lay_property(property, indent, output, sink),
             ViewItem::Status(status) => status.lay(indent, output, sink),
             ViewItem::Note(note) => write_line(note, indent, output, sink),
         }
@@ -92,10 +93,10 @@ impl OnLines for View {
 
     fn lay<O: Sink>(&self, indent: usize, output: &mut Output, sink: &mut O) {
         open_block(indent, b"(view ", &self.name, output, sink);
-        put_line(indent + 2, b"(viewType NETLIST)", output, sink);
+        put_line(indent + 2, b"(viewType NETLIST)\n", output, sink);
         lay_interface(&self.interface, indent + 2, output, sink);
         lay_each(self.items.items(), indent + 2, output, sink);
-        put_line(indent, b")", output, sink);
+        put_close(indent, output, sink);
     }
 }
 
@@ -107,7 +108,7 @@ impl OnLines for CellItem {
     fn lay<O: Sink>(&self, indent: usize, output: &mut Output, sink: &mut O) {
         match self {
             CellItem::View(view) => view.lay(indent, output, sink),
-            CellItem::Property(property) => write_line(property, indent, output, sink),
+            CellItem::Property(property) => lay_property(property, indent, output, sink),
             CellItem::Status(status) => status.lay(indent, output, sink),
             CellItem::Note(note) => write_line(note, indent, output, sink),
         }
@@ -120,9 +121,9 @@ fn lay_kind<O: Sink>(kind: CellKind, indent: usize, output: &mut Output, sink: &
     ensures { Puts (laid indent (Flat (with_part k.CellType (kind_form kind)))) (state O.receipt sink.old output.old) (state O.receipt sink.new output.new) }
 {
     match kind {
-        CellKind::Generic => put_line(indent, b"(cellType GENERIC)", output, sink),
-        CellKind::Tie => put_line(indent, b"(cellType TIE)", output, sink),
-        CellKind::Ripper => put_line(indent, b"(cellType RIPPER)", output, sink),
+        CellKind::Generic => put_line(indent, b"(cellType GENERIC)\n", output, sink),
+        CellKind::Tie => put_line(indent, b"(cellType TIE)\n", output, sink),
+        CellKind::Ripper => put_line(indent, b"(cellType RIPPER)\n", output, sink),
     }
 }
 
@@ -135,6 +136,6 @@ impl OnLines for Cell {
         open_block(indent, b"(cell ", &self.name, output, sink);
         lay_kind(self.kind, indent + 2, output, sink);
         lay_each(self.items.items(), indent + 2, output, sink);
-        put_line(indent, b")", output, sink);
+        put_close(indent, output, sink);
     }
 }

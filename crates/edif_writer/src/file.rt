@@ -5,7 +5,7 @@ ghost use Rattle.std.specs.Prelude.{◌≤◌, ◌+◌, ◌++◌, ◌∷◌};
 ghost use Rattle.nl_output.specs.Writing.{state, Puts, Writes};
 
 use crate::forms::{
-    OnLine, OnLines, lay_each, open_block, put_indent, put_line, write_each, write_line,
+    OnLine, OnLines, lay_each, open_block, put_close, put_indent, put_line, write_each, write_line,
 };
 use edif_values::{Design, DesignItem, EdifFile, FileItem, Library, LibraryItem, Scale};
 use nl_io::{Failed, Sink};
@@ -43,7 +43,7 @@ fn lay_level<O: Sink>(indent: usize, output: &mut Output, sink: &mut O)
     requires { indent ≤ 16 }
     ensures { Puts (laid indent (Flat level_form)) (state O.receipt sink.old output.old) (state O.receipt sink.new output.new) }
 {
-    put_line(indent, b"(edifLevel 0)", output, sink);
+    put_line(indent, b"(edifLevel 0)\n", output, sink);
 }
 
 impl OnLines for LibraryItem {
@@ -82,7 +82,7 @@ impl OnLines for Library {
         lay_level(indent + 2, output, sink);
         lay_technology(self, indent + 2, output, sink);
         lay_each(self.items.items(), indent + 2, output, sink);
-        put_line(indent, b")", output, sink);
+        put_close(indent, output, sink);
     }
 }
 
@@ -134,9 +134,9 @@ fn lay_header<O: Sink>(indent: usize, output: &mut Output, sink: &mut O)
     requires { indent ≤ 16 }
     ensures { Puts (λ rest. laid indent (Flat version_form) (laid indent (Flat level_form) (laid indent (Flat map_form) rest))) (state O.receipt sink.old output.old) (state O.receipt sink.new output.new) }
 {
-    put_line(indent, b"(edifVersion 2 0 0)", output, sink);
+    put_line(indent, b"(edifVersion 2 0 0)\n", output, sink);
     lay_level(indent, output, sink);
-    put_line(indent, b"(keywordMap (keywordLevel 0))", output, sink);
+    put_line(indent, b"(keywordMap (keywordLevel 0))\n", output, sink);
 }
 
 impl OnLines for EdifFile {
@@ -148,7 +148,7 @@ impl OnLines for EdifFile {
         open_block(indent, b"(edif ", &self.name, output, sink);
         lay_header(indent + 2, output, sink);
         lay_each(self.items.items(), indent + 2, output, sink);
-        put_line(indent, b")", output, sink);
+        put_close(indent, output, sink);
     }
 }
 

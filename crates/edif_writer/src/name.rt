@@ -1,8 +1,12 @@
-ghost use Rattle.edif_writer.specs.Forms.{comment_form, name_form, port_name_form, property_form, tail_form};
-ghost use Rattle.edif_writer.specs.Layout.{inline};
+ghost use Rattle.edif_writer.specs.Forms.{comment_form, name_form, port_name_form, property_form, tail_form, value_form};
+ghost use Rattle.edif_writer.specs.Layout.{Flat, each, inline, laid, spaced};
+ghost use Rattle.edif_writer.specs.Strings.{PutsUntil};
+ghost use Rattle.std.specs.Prelude.{◌∷◌, ◌≤◌};
 ghost use Rattle.nl_output.specs.Writing.{state, Puts};
 
-use crate::forms::{OnLine, write_each};
+use crate::forms::{OnLine, open_property, write_each};
+use crate::string::write_runs;
+use crate::value::write_value;
 use edif_values::{NameDef, PortName, PropTail, Property};
 use nl_base::{Seq, Text};
 use nl_io::Sink;
@@ -17,10 +21,30 @@ impl OnLine for NameDef {
             Some(text) => {
                 output.put(b"(rename ", sink);
                 self.ident.write(output, sink);
-                output.put(b" ", sink);
-                text.write(output, sink);
-                output.put(b")", sink);
+                output.put(b" \"", sink);
+                write_runs(text.bytes(), output, sink);
+                output.put(b"\")", sink);
             }
+        }
+    }
+}
+
+/// A name, at the end of its line.
+#[inline(always)]
+pub(crate) fn write_name_line<O: Sink>(name: &NameDef, output: &mut Output, sink: &mut O)
+    ensures { Puts (λ rest. inline (name_form name.now) (10 ∷ rest)) (state O.receipt sink.old output.old) (state O.receipt sink.new output.new) }
+{
+    match &name.text {
+        None => {
+            name.ident.write(output, sink);
+            output.put(b"\n", sink);
+        }
+        Some(text) => {
+            output.put(b"(rename ", sink);
+            name.ident.write(output, sink);
+            output.put(b" \"", sink);
+            write_runs(text.bytes(), output, sink);
+            output.put(b"\")\n", sink);
         }
     }
 }
@@ -71,10 +95,48 @@ impl OnLine for Property {
 
     fn write<O: Sink>(&self, output: &mut Output, sink: &mut O) {
         output.put(b"(property ", sink);
-        self.name.write(output, sink);
-        output.put(b" ", sink);
-        self.value.write(output, sink);
+        write_named_value(self, output, sink);
+        output.put(b")", sink);
         write_each(self.tail.items(), output, sink);
         output.put(b")", sink);
     }
+}
+
+/// The name and the value of a property, of which the `)` of the value is still to come.
+#[inline(always)]
+fn write_named_value<O: Sink>(property: &Property, output: &mut Output, sink: &mut O)
+    ensures { PutsUntil (λ rest. inline (name_form property.now.name) (32 ∷ inline (value_form property.now.value) rest)) (λ rest. 41 ∷ rest) (state O.receipt sink.old output.old) (state O.receipt sink.new output.new) }
+{
+    property.name.write(output, sink);
+    write_value(&property.value, output, sink);
+}
+
+/// What follows the value of a property, with the `)` of both, at the end of its line.
+#[inline(always)]
+fn end_property<O: Sink>(tail: &[PropTail], output: &mut Output, sink: &mut O)
+    ensures { Puts (λ rest. 41 ∷ spaced (each tail_form tail.now) (41 ∷ 10 ∷ rest)) (state O.receipt sink.old output.old) (state O.receipt sink.new output.new) }
+{
+    if let [_first, _others @ ..] = tail {
+        output.put(b")", sink);
+        write_each(tail, output, sink);
+        output.put(b")\n", sink);
+        return;
+    }
+    output.put(b"))\n", sink);
+}
+
+/// A property on a line of its own.
+#[inline(always)]
+pub(crate) fn lay_property<O: Sink>(
+    property: &Property,
+    indent: usize,
+    output: &mut Output,
+    sink: &mut O,
+)
+    requires { indent ≤ 16 }
+    ensures { Puts (laid indent (Flat (property_form property.now))) (state O.receipt sink.old output.old) (state O.receipt sink.new output.new) }
+{
+    open_property(indent, output, sink);
+    write_named_value(property, output, sink);
+    end_property(property.tail.items(), output, sink);
 }

@@ -1,12 +1,14 @@
 ghost use Rattle.edif_writer.specs.Forms.{cell_ref_form, designator_form, dir_form, instance_block, instance_item_block, instance_ref_forms, member_form, net_block, net_item_block, port_form, port_item_form, port_ref_block, port_ref_form, view_ref_form, with_part};
 ghost use Rattle.edif_writer.specs.Layout.{Flat, inline, laid, spaced};
-ghost use Rattle.std.specs.Prelude.{◌≤◌, ◌+◌};
+ghost use Rattle.std.specs.Prelude.{◌≤◌, ◌+◌, ◌∷◌};
 ghost use Rattle.edif_values.specs.declared.keyword.Keyword.TheVariants as k;
 ghost use Rattle.nl_output.specs.Writing.{state, Puts};
 
 use crate::forms::{
-    OnLine, OnLines, lay_each, open_block, put_indent, put_line, write_each, write_line,
+    OnLine, OnLines, lay_each, open_block, open_port_ref, open_view_ref, put_close, put_indent,
+    put_line, write_each, write_line,
 };
+use crate::name::lay_property;
 use edif_values::{Instance, InstanceItem, Net, NetItem, Port, PortItem, PortRef};
 use nl_base::{Dir, Ident, Int, Text};
 use nl_io::Sink;
@@ -56,34 +58,25 @@ impl OnLine for Port {
     }
 }
 
-/// A reference to a cell, of a library if one is named.
-pub(crate) fn write_cell_ref<O: Sink>(
-    cell: &Ident,
-    library: &Option<Ident>,
-    output: &mut Output,
-    sink: &mut O,
-)
-    ensures { Puts (inline (cell_ref_form cell.now library.now)) (state O.receipt sink.old output.old) (state O.receipt sink.new output.new) }
+/// The cell of which an instance is, of a library if one is named, at the end of its line.
+#[inline(always)]
+fn end_view_ref<O: Sink>(cell: &Ident, library: &Option<Ident>, output: &mut Output, sink: &mut O)
+    ensures { Puts (λ rest. 32 ∷ inline (cell_ref_form cell.now library.now) (41 ∷ 10 ∷ rest)) (state O.receipt sink.old output.old) (state O.receipt sink.new output.new) }
 {
-    output.put(b"(cellRef ", sink);
-    cell.write(output, sink);
-    if let Some(library) = library {
-        output.put(b" (libraryRef ", sink);
-        library.write(output, sink);
-        output.put(b")", sink);
+    match library {
+        None => {
+            output.put(b" (cellRef ", sink);
+            cell.write(output, sink);
+            output.put(b"))\n", sink);
+        }
+        Some(library) => {
+            output.put(b" (cellRef ", sink);
+            cell.write(output, sink);
+            output.put(b" (libraryRef ", sink);
+            library.write(output, sink);
+            output.put(b")))\n", sink);
+        }
     }
-    output.put(b")", sink);
-}
-
-/// The view that an instance is of.
-fn write_view_ref<O: Sink>(instance: &Instance, output: &mut Output, sink: &mut O)
-    ensures { Puts (inline (view_ref_form instance.now)) (state O.receipt sink.old output.old) (state O.receipt sink.new output.new) }
-{
-    output.put(b"(viewRef ", sink);
-    instance.view.write(output, sink);
-    output.put(b" ", sink);
-    write_cell_ref(&instance.cell, &instance.library, output, sink);
-    output.put(b")", sink);
 }
 
 impl OnLines for InstanceItem {
@@ -93,7 +86,7 @@ impl OnLines for InstanceItem {
 
     fn lay<O: Sink>(&self, indent: usize, output: &mut Output, sink: &mut O) {
         match self {
-            InstanceItem::Property(property) => write_line(property, indent, output, sink),
+            InstanceItem::Property(property) => lay_property(property, indent, output, sink),
             InstanceItem::Designator(text) => lay_designator(text, indent, output, sink),
             InstanceItem::Note(note) => write_line(note, indent, output, sink),
         }
@@ -111,13 +104,14 @@ pub(crate) fn lay_designator<O: Sink>(text: &Text, indent: usize, output: &mut O
 }
 
 /// The view that an instance is of, on a line of its own.
+#[inline(always)]
 fn lay_view_ref<O: Sink>(instance: &Instance, indent: usize, output: &mut Output, sink: &mut O)
     requires { indent ≤ 16 }
     ensures { Puts (laid indent (Flat (view_ref_form instance.now))) (state O.receipt sink.old output.old) (state O.receipt sink.new output.new) }
 {
-    put_indent(indent, output, sink);
-    write_view_ref(instance, output, sink);
-    output.put(b"\n", sink);
+    open_view_ref(indent, output, sink);
+    instance.view.write(output, sink);
+    end_view_ref(&instance.cell, &instance.library, output, sink);
 }
 
 impl OnLines for Instance {
@@ -129,11 +123,12 @@ impl OnLines for Instance {
         open_block(indent, b"(instance ", &self.name, output, sink);
         lay_view_ref(self, indent + 2, output, sink);
         lay_each(self.items.items(), indent + 2, output, sink);
-        put_line(indent, b")", output, sink);
+        put_close(indent, output, sink);
     }
 }
 
 /// A port, or a member of an array of ports.
+#[inline(always)]
 fn write_member<O: Sink>(port: &Ident, member: &Option<Int>, output: &mut Output, sink: &mut O)
     ensures { Puts (inline (member_form port.now member.now)) (state O.receipt sink.old output.old) (state O.receipt sink.new output.new) }
 {
@@ -160,6 +155,21 @@ fn write_instance_ref<O: Sink>(instance: &Option<Ident>, output: &mut Output, si
     }
 }
 
+/// A reference to an instance, after a blank, if one is named, at the end of the line of a reference to a port.
+#[inline(always)]
+fn end_port_ref<O: Sink>(instance: &Option<Ident>, output: &mut Output, sink: &mut O)
+    ensures { Puts (λ rest. spaced (instance_ref_forms instance.now) (41 ∷ 10 ∷ rest)) (state O.receipt sink.old output.old) (state O.receipt sink.new output.new) }
+{
+    match instance {
+        None => output.put(b")\n", sink),
+        Some(name) => {
+            output.put(b" (instanceRef ", sink);
+            name.write(output, sink);
+            output.put(b"))\n", sink);
+        }
+    }
+}
+
 impl OnLine for PortRef {
     ghost form = { port_ref_form };
 
@@ -177,7 +187,9 @@ impl OnLines for PortRef {
     ghost depth = { 0 };
 
     fn lay<O: Sink>(&self, indent: usize, output: &mut Output, sink: &mut O) {
-        write_line(self, indent, output, sink);
+        open_port_ref(indent, output, sink);
+        write_member(&self.port, &self.member, output, sink);
+        end_port_ref(&self.instance, output, sink);
     }
 }
 
@@ -188,7 +200,7 @@ impl OnLines for NetItem {
 
     fn lay<O: Sink>(&self, indent: usize, output: &mut Output, sink: &mut O) {
         match self {
-            NetItem::Property(property) => write_line(property, indent, output, sink),
+            NetItem::Property(property) => lay_property(property, indent, output, sink),
             NetItem::Note(note) => write_line(note, indent, output, sink),
         }
     }
@@ -201,10 +213,10 @@ impl OnLines for Net {
 
     fn lay<O: Sink>(&self, indent: usize, output: &mut Output, sink: &mut O) {
         open_block(indent, b"(net ", &self.name, output, sink);
-        put_line(indent + 2, b"(joined", output, sink);
+        put_line(indent + 2, b"(joined\n", output, sink);
         lay_each(self.joined.items(), indent + 4, output, sink);
-        put_line(indent + 2, b")", output, sink);
+        put_close(indent + 2, output, sink);
         lay_each(self.items.items(), indent + 2, output, sink);
-        put_line(indent, b")", output, sink);
+        put_close(indent, output, sink);
     }
 }

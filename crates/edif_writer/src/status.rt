@@ -2,7 +2,7 @@ ghost use Rattle.edif_writer.specs.Forms.{stamp_form, status_block, status_form,
 ghost use Rattle.edif_writer.specs.Layout.{spaced};
 ghost use Rattle.nl_output.specs.Writing.{state, Puts};
 
-use crate::forms::{OnLine, OnLines, lay_each, put_line, write_each, write_line};
+use crate::forms::{OnLine, OnLines, lay_each, put_close, put_line, write_each, write_line};
 use edif_values::{Stamp, Status, StatusItem, Written, WrittenItem};
 use nl_base::Text;
 use nl_io::Sink;
@@ -119,10 +119,10 @@ impl OnLines for Written {
     ghost depth = { 2 };
 
     fn lay<O: Sink>(&self, indent: usize, output: &mut Output, sink: &mut O) {
-        put_line(indent, b"(written", output, sink);
+        put_line(indent, b"(written\n", output, sink);
         write_line(&self.stamp, indent + 2, output, sink);
         lay_each(self.items.items(), indent + 2, output, sink);
-        put_line(indent, b")", output, sink);
+        put_close(indent, output, sink);
     }
 }
 
@@ -145,8 +145,8 @@ impl OnLines for Status {
     ghost depth = { 4 };
 
     fn lay<O: Sink>(&self, indent: usize, output: &mut Output, sink: &mut O) {
-        put_line(indent, b"(status", output, sink);
+        put_line(indent, b"(status\n", output, sink);
         lay_each(self.items.items(), indent + 2, output, sink);
-        put_line(indent, b")", output, sink);
+        put_close(indent, output, sink);
     }
 }

@@ -1,4 +1,4 @@
-ghost use Rattle.std.specs.Prelude.{◌≡◌, ◌<◌, ◌≤◌, false, length, not};
+ghost use Rattle.std.specs.Prelude.{◌≡◌, ◌∷◌, ◌<◌, ◌≤◌, false, length, not};
 ghost use Rattle.std.specs.List.{prefix_len};
 ghost use Rattle.edif_writer.specs.Strings.{codes_text, escape_text, is_plain, quoted, written, PutsUntil};
 ghost use Rattle.nl_output.specs.Writing.{state, Puts};
@@ -73,14 +73,21 @@ fn write_run<'a, O: Sink>(bytes: &'a [u8], output: &mut Output, sink: &mut O) ->
     rest
 }
 
+/// The bytes of a string, of which the quote at its end is still to come.
+pub(crate) fn write_runs<O: Sink>(bytes: &[u8], output: &mut Output, sink: &mut O)
+    ensures { PutsUntil (written false bytes.now) (λ rest. 34 ∷ rest) (state O.receipt sink.old output.old) (state O.receipt sink.new output.new) }
+{
+    let mut rest = bytes;
+    while !rest.is_empty() {
+        rest = write_run(rest, output, sink);
+    }
+}
+
 /// A string in quotes (EDIF 2 0 0, stringToken).
 pub fn write_string<O: Sink>(bytes: &[u8], output: &mut Output, sink: &mut O)
     ensures { Puts (quoted bytes.now) (state O.receipt sink.old output.old) (state O.receipt sink.new output.new) }
 {
     output.put(b"\"", sink);
-    let mut rest = bytes;
-    while !rest.is_empty() {
-        rest = write_run(rest, output, sink);
-    }
+    write_runs(bytes, output, sink);
     output.put(b"\"", sink);
 }
