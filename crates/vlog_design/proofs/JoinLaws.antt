@@ -4,11 +4,9 @@ use Rattle.std.proofs.lemmas.List.{drop-drop, drop_all}
 use Rattle.net_hier.specs.declared.nodes.Join.{Join}
 use Rattle.net_hier.specs.declared.nodes.Node.{Node}
 use Rattle.vlog_design.specs.Design.{join_of, joins_between}
-use Rattle.vlog_design.proofs.RunLaws.{node_here, nodes_left, nodes_of_span}
+use Rattle.vlog_design.proofs.RunLaws.{node_here, nodes_left}
 use Rattle.vlog_design.proofs.Steps.{done, flat_map_left, moved}
-use Rattle.vlog_design.specs.Exprs.{node_at, span_bits}
 use Rattle.vlog_design.specs.declared.runs.Run.{Run}
-use Rattle.vlog_design.specs.declared.signals.SignalAt.{SignalAt}
 use Rattle.vlog_design.specs.Runs.{bits_behind, node_after, nodes_from, run_bits, runs_bits}
 
 pub nothing_right : (left : List (Option Node)) → joins_between left [] ≡ []
@@ -126,11 +124,6 @@ nothing_met made left right e = sym (ap (λ l. made ++ joins_between left l) e �
 
 pub nothing_passed : (left right : List (Option Node)) → right ≡ [] → left ≡ drop (length right) left
 nothing_passed left right e = ap (λ l. drop (length l) left) (sym e)
-
--- the bits of a span as a run
-pub span_run : (place : SignalAt) (first count : ℕ) (node : Node) → node ≡ node_at place first → run_bits (record { gap = 0; first = node; count = count }) ≡ span_bits place (record { first = first; count = count })
-unfolding run_bits
-span_run place first count node e = ap (λ n. nodes_from n count) e ∙ nodes_of_span place first count
 
 -- the bits of nodes in a row as a run
 pub run_alone : (first : Node) (count : ℕ) → bits_behind 0 (record { gap = 0; first = first; count = count } ∷ []) ≡ nodes_from first count

@@ -6,6 +6,7 @@ pub mod JoinLaws
 pub mod NameSets
 pub mod Parts
 pub mod Positions
+pub mod RowLaws
 pub mod RunLaws
 pub mod SmallFiles
 pub mod Steps

@@ -123,7 +123,7 @@ literal_added before made after fill filled own i {items} h same e f =
 
 -- one bit of a run
 
-length-nodes : (first : Node) (count : ℕ) → length (nodes_from first count) ≡ count
+pub length-nodes : (first : Node) (count : ℕ) → length (nodes_from first count) ≡ count
 unfolding nodes_from
 length-nodes first zero = refl
 length-nodes first (suc count) = ap suc (length-nodes (node_after first 1) count)

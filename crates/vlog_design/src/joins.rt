@@ -1,5 +1,5 @@
 // Joins of two sides, run by run.
-ghost use Rattle.std.specs.Prelude.{◌≡◌, ◌+◌, ◌≤◌, ◌<◌, ◌^◌, ◌++◌, All, drop, flat_map, get_or, length, None, IfOk, OnOk};
+ghost use Rattle.std.specs.Prelude.{◌≡◌, ◌+◌, ◌<◌, ◌^◌, ◌++◌, All, drop, flat_map, get_or, length, None, IfOk, OnOk};
 ghost use Rattle.vlog_design.specs.Design.{join_of, joins_between};
 ghost use Rattle.vlog_design.specs.Runs.{IsRun, bits_behind, run_bits};
 
@@ -93,11 +93,7 @@ impl<'a> Rest<'a> {
 }
 
 /// Adds the joins of a run with the bits of the other side that stand there, and answers what is left of that side.
-pub(crate) fn push_run_joins<'a>(
-    left: Rest<'a>,
-    run: Run,
-    out: &mut Vec<Join>,
-) -> Result<Rest<'a>, NoMemory>
+fn push_run_joins<'a>(left: Rest<'a>, run: Run, out: &mut Vec<Join>) -> Result<Rest<'a>, NoMemory>
     requires { IsRun run }
     ensures added { OnOk result (out.new.items ≡ out.old.items ++ joins_between left.entry (run_bits run)) }
     ensures left { IfOk result (λ rest. rest ≡ drop (run.gap + run.count) left.entry) }

@@ -11,6 +11,7 @@ pub mod bits;
 pub mod joins;
 pub mod names;
 pub mod node_joins;
+mod rows;
 pub mod runs;
 pub mod signals;
 pub mod table;

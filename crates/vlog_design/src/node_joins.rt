@@ -6,69 +6,70 @@ ghost use Rattle.vlog_design.specs.Numbers.{HasDigits, HasNumbers};
 ghost use Rattle.vlog_design.specs.Runs.{node_number, nodes_from};
 
 use crate::bits::{node, push_bits, select_span};
-use crate::joins::{Rest, behind, push_run_joins, push_side_joins};
+use crate::joins::{behind, push_side_joins};
+use crate::rows::{Row, push_row_joins};
 use crate::runs::{Run, Runs};
 use crate::signals::Slot;
 use crate::table::Table;
+use crate::widths::expr_width;
 use net_hier::{Join, Node};
 use nl_base::NoMemory;
 use std::alloc::Global;
 use vlog_values::{Expr, Select};
 
 /// Adds the joins of what is left of a side with a selected part of a port or net, and answers what is left then.
-fn push_selected_joins<'a>(
-    left: Rest<'a>,
+fn push_selected_joins(
+    left: Row,
     slot: Slot,
     select: Select,
     out: &mut Vec<Join>,
-) -> Result<Rest<'a>, NoMemory>
+) -> Result<Row, NoMemory>
     requires { HasNumbers slot }
-    ensures added { OnOk result (out.new.items ≡ out.old.items ++ joins_between left.entry (signal_bits (Some slot) select)) }
-    ensures left { IfOk result (λ rest. rest ≡ drop (length (signal_bits (Some slot) select)) left.entry) }
+    ensures added { OnOk result (out.new.items ≡ out.old.items ++ joins_between left (signal_bits (Some slot) select)) }
+    ensures left { IfOk result (λ rest. rest ≡ drop (length (signal_bits (Some slot) select)) left) }
 {
     match select_span(slot.range, select) {
         None => Ok(left),
-        Some(span) => {
-            let run = Run {
-                gap: 0,
-                first: node(slot.place, span.first),
-                count: span.count,
-            };
-            push_run_joins(left, run, out)
-        }
+        Some(span) => push_row_joins(left, node(slot.place, span.first), span.count, out),
     }
 }
 
 /// Adds the joins of what is left of a side with the bits of an expression, which are made first.
-fn push_made_joins<'a>(
+fn push_made_joins(
     alloc: Global,
     table: &Table,
-    left: Rest<'a>,
+    left: Row,
     expr: &Expr,
     out: &mut Vec<Join>,
-) -> Result<Rest<'a>, NoMemory>
+) -> Result<Row, NoMemory>
     requires digits { All HasDigits (literals expr.now) }
     requires numbers { All (λ signal. HasNumbers signal.slot) table.now }
-    ensures added { OnOk result (out.new.items ≡ out.old.items ++ joins_between left.entry (bits table.now expr.now)) }
-    ensures left { IfOk result (λ rest. rest ≡ drop (length (bits table.now expr.now)) left.entry) }
+    ensures added { OnOk result (out.new.items ≡ out.old.items ++ joins_between left (bits table.now expr.now)) }
+    ensures left { IfOk result (λ rest. rest ≡ drop (length (bits table.now expr.now)) left) }
 {
     let mut made = Runs::empty(alloc);
     push_bits(alloc, table, expr, &mut made)?;
-    push_side_joins(left, &made, out)
+    let run = [Run {
+        gap: 0,
+        first: left.first,
+        count: left.count,
+    }];
+    let _rest = push_side_joins(behind(0, &run), &made, out)?;
+    Ok(left.behind(expr_width(table, expr)))
 }
 
 /// Adds the joins of what is left of a side with a part of a concatenation, and answers what is left then.
-fn push_part_joins<'a>(
+fn push_part_joins(
     alloc: Global,
     table: &Table,
-    left: Rest<'a>,
+    left: Row,
     expr: &Expr,
     out: &mut Vec<Join>,
-) -> Result<Rest<'a>, NoMemory>
+) -> Result<Row, NoMemory>
     requires digits { All HasDigits (literals expr.now) }
     requires numbers { All (λ signal. HasNumbers signal.slot) table.now }
-    ensures added { OnOk result (out.new.items ≡ out.old.items ++ joins_between left.entry (bits table.now expr.now)) }
-    ensures left { IfOk result (λ rest. rest ≡ drop (length (bits table.now expr.now)) left.entry) }
+    ensures added { OnOk result (out.new.items ≡ out.old.items ++ joins_between left (bits table.now expr.now)) }
+    ensures left { IfOk result (λ rest. rest ≡ drop (length (bits table.now expr.now)) left) }
 {
     if let Expr::Ref { name, select } = expr {
         return match table.find(name.bytes()) {
@@ -80,17 +81,17 @@ fn push_part_joins<'a>(
 }
 
 /// Adds the joins of what is left of a side with the parts of a concatenation, and answers what is left then.
-fn push_parts_joins<'a>(
+fn push_parts_joins(
     alloc: Global,
     table: &Table,
-    left: Rest<'a>,
+    left: Row,
     parts: &[Expr],
     out: &mut Vec<Join>,
-) -> Result<Rest<'a>, NoMemory>
+) -> Result<Row, NoMemory>
     requires digits { All HasDigits (flat_map literals parts.now) }
     requires numbers { All (λ signal. HasNumbers signal.slot) table.now }
-    ensures added { OnOk result (out.new.items ≡ out.old.items ++ joins_between left.entry (flat_map (bits table.now) parts.now)) }
-    ensures left { IfOk result (λ rest. rest ≡ drop (length (flat_map (bits table.now) parts.now)) left.entry) }
+    ensures added { OnOk result (out.new.items ≡ out.old.items ++ joins_between left (flat_map (bits table.now) parts.now)) }
+    ensures left { IfOk result (λ rest. rest ≡ drop (length (flat_map (bits table.now) parts.now)) left) }
 {
     let mut rest = left;
     for part in parts {
@@ -100,17 +101,17 @@ fn push_parts_joins<'a>(
 }
 
 /// Adds the joins of what is left of a side with an expression, and answers what is left then.
-fn push_expr_joins<'a>(
+fn push_expr_joins(
     alloc: Global,
     table: &Table,
-    left: Rest<'a>,
+    left: Row,
     expr: &Expr,
     out: &mut Vec<Join>,
-) -> Result<Rest<'a>, NoMemory>
+) -> Result<Row, NoMemory>
     requires digits { All HasDigits (literals expr.now) }
     requires numbers { All (λ signal. HasNumbers signal.slot) table.now }
-    ensures added { OnOk result (out.new.items ≡ out.old.items ++ joins_between left.entry (bits table.now expr.now)) }
-    ensures left { IfOk result (λ rest. rest ≡ drop (length (bits table.now expr.now)) left.entry) }
+    ensures added { OnOk result (out.new.items ≡ out.old.items ++ joins_between left (bits table.now expr.now)) }
+    ensures left { IfOk result (λ rest. rest ≡ drop (length (bits table.now expr.now)) left) }
 {
     if let Expr::Cat(parts) = expr {
         return push_parts_joins(alloc, table, left, parts.items(), out);
@@ -132,12 +133,7 @@ pub fn push_node_joins(
     requires numbers { All (λ signal. HasNumbers signal.slot) table.now }
     ensures added { OnOk result (out.new.items ≡ out.old.items ++ joins_between (nodes_from first count) (bits table.now expr.now)) }
 {
-    let run = [Run {
-        gap: 0,
-        first,
-        count,
-    }];
-    let left = behind(0, &run);
-    let _rest = push_expr_joins(alloc, table, left, expr, out)?;
+    let row = Row { first, count };
+    let _rest = push_expr_joins(alloc, table, row, expr, out)?;
     Ok(())
 }
