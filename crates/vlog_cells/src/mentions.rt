@@ -4,7 +4,7 @@ ghost use Rattle.vlog_cells.specs.Ports.{port_said, said, said_by_net, said_by_p
 ghost use Rattle.vlog_cells.specs.Nets.{names_port};
 
 use crate::groups::Groups;
-use crate::nets::names_port;
+use crate::nets::{declared_count, first_net, names_port};
 use nl_base::{Dir, NoMemory, Text};
 use std::alloc::Global;
 use vlog_design::table::Table;
@@ -83,13 +83,14 @@ fn mention_header<'a>(
 fn mention_port_net<'a>(
     alloc: Global,
     table: &Table,
+    place: usize,
     mention: Mention<'a>,
     name: &'a [u8],
     found: &mut Groups<'a, Mention<'a>>,
 ) -> Result<(), NoMemory>
     ensures added { OnOk result ((key : List ℕ) → said_of found.new key ≡ said_of found.old key ++ said_in_names (said mention.entry) (filter (names_port table.now) (name.now ∷ [])) key) }
 {
-    if !names_port(table, name) {
+    if !names_port(table, place, name) {
         return Ok(());
     }
     found.add(alloc, name, mention)?;
@@ -100,6 +101,7 @@ fn mention_port_net<'a>(
 fn mention_net<'a>(
     alloc: Global,
     table: &Table,
+    place: usize,
     decl: &'a NetDecl,
     found: &mut Groups<'a, Mention<'a>>,
 ) -> Result<(), NoMemory>
@@ -109,8 +111,10 @@ fn mention_net<'a>(
         dir: None,
         attrs: decl.attrs.items(),
     };
+    let mut at = place;
     for name in decl.names.items() {
-        mention_port_net(alloc, table, mention, name.bytes(), found)?;
+        mention_port_net(alloc, table, at, mention, name.bytes(), found)?;
+        at = at.saturating_add(1);
     }
     Ok(())
 }
@@ -119,6 +123,7 @@ fn mention_net<'a>(
 fn mention_item<'a>(
     alloc: Global,
     table: &Table,
+    place: usize,
     item: &'a ItemV,
     found: &mut Groups<'a, Mention<'a>>,
 ) -> Result<(), NoMemory>
@@ -130,7 +135,7 @@ fn mention_item<'a>(
             Ok(())
         }
         ItemV::Net(decl) => {
-            mention_net(alloc, table, decl, found)?;
+            mention_net(alloc, table, place, decl, found)?;
             Ok(())
         }
         ItemV::Param(_) => Ok(()),
@@ -149,8 +154,10 @@ fn mention_items<'a>(
 ) -> Result<(), NoMemory>
     ensures added { OnOk result ((key : List ℕ) → said_of found.new key ≡ said_of found.old key ++ flat_map (said_in_item table.now key) items.now) }
 {
+    let mut place = first_net(table);
     for item in items {
-        mention_item(alloc, table, item, found)?;
+        mention_item(alloc, table, place, item, found)?;
+        place = place.saturating_add(declared_count(item));
     }
     Ok(())
 }

@@ -16,9 +16,6 @@ use vlog_design::table::Table;
 use vlog_design::widths::range_width;
 use vlog_values::{Attr, ItemV, Module, NetDecl};
 
-/// The most bytes of an index in brackets.
-const INDEX_ROOM: usize = 13;
-
 /// A net that is no port.
 #[derive(Clone, Copy)]
 pub struct WireOf<'a> {
@@ -42,68 +39,64 @@ fn bit_name(alloc: Global, range: Range, bit: u32, front: &mut Vec<u8>) -> Resul
     Ok(name)
 }
 
-/// The net that a bit of a wire is, where the front is the name and a bracket.
-fn bit_net(
-    alloc: Global,
-    wire: &WireOf,
-    range: Range,
-    bit: u32,
-    front: &mut Vec<u8>,
-) -> Result<HNet, NoMemory>
-    requires { bit < range_bits range }
-    ensures net { IfOk result (λ made. made ≡ record { name = front.old.items ++ signed_decimal (index_at range bit) ++ 93 ∷ []; props = attr_props wire.now.attrs.now }) }
-    ensures kept { OnOk result (front.new.items ≡ front.old.items) }
+/// Adds the net of this name with these attributes.
+fn push_net(alloc: Global, name: Text, attrs: &[Attr], made: &mut Vec<HNet>) -> Result<(), NoMemory>
+    ensures added { OnOk result (made.new.items ≡ made.old.items ++ record { name = name; props = attr_props attrs.now } ∷ []) }
 {
-    let name = bit_name(alloc, range, bit, front)?;
-    let props = attrs_made(alloc, wire.attrs)?;
-    Ok(HNet { name, props })
+    let props = attrs_made(alloc, attrs)?;
+    made.push(HNet { name, props })?;
+    Ok(())
 }
 
-/// Adds the nets of a wire with this range.
+/// Adds the nets of a wire with this range. The front of their names is made in `front`, whatever stands there.
 fn add_bits(
     alloc: Global,
     wire: &WireOf,
     range: Range,
-    made: &mut Seq<HNet>,
+    front: &mut Vec<u8>,
+    made: &mut Vec<HNet>,
 ) -> Result<(), NoMemory>
-    ensures added { OnOk result (made.new ≡ made.old ++ bit_nets wire.now range (range_bits range)) }
+    ensures added { OnOk result (made.new.items ≡ made.old.items ++ bit_nets wire.now range (range_bits range)) }
 {
-    let mut front = Vec::with_capacity(alloc, wire.name.len().saturating_add(INDEX_ROOM))?;
+    front.clear();
     front.extend_from_slice(wire.name)?;
     front.push(b'[')?;
     for bit in 0..range.bits() as u32 {
-        let net = bit_net(alloc, wire, range, bit, &mut front)?;
-        made.push(net)?;
+        let name = bit_name(alloc, range, bit, front)?;
+        push_net(alloc, name, wire.attrs, made)?;
     }
     Ok(())
 }
 
 /// Adds the net of a wire without a range.
-fn add_scalar(alloc: Global, wire: &WireOf, made: &mut Seq<HNet>) -> Result<(), NoMemory>
-    ensures added { OnOk result (made.new ≡ made.old ++ record { name = wire.now.name.now; props = attr_props wire.now.attrs.now } ∷ []) }
+fn add_scalar(alloc: Global, wire: &WireOf, made: &mut Vec<HNet>) -> Result<(), NoMemory>
+    ensures added { OnOk result (made.new.items ≡ made.old.items ++ record { name = wire.now.name.now; props = attr_props wire.now.attrs.now } ∷ []) }
 {
     let name = Text::copy(alloc, wire.name)?;
-    let props = attrs_made(alloc, wire.attrs)?;
-    made.push(HNet { name, props })?;
-    Ok(())
+    push_net(alloc, name, wire.attrs, made)
 }
 
 /// Adds the nets of a wire.
-fn add_wire(alloc: Global, wire: &WireOf, made: &mut Seq<HNet>) -> Result<(), NoMemory>
-    ensures added { OnOk result (made.new ≡ made.old ++ wire_nets (wire_of wire.now)) }
+fn add_wire(
+    alloc: Global,
+    wire: &WireOf,
+    front: &mut Vec<u8>,
+    made: &mut Vec<HNet>,
+) -> Result<(), NoMemory>
+    ensures added { OnOk result (made.new.items ≡ made.old.items ++ wire_nets (wire_of wire.now)) }
 {
     match wire.range {
         None => add_scalar(alloc, wire, made),
-        Some(range) => add_bits(alloc, wire, range, made),
+        Some(range) => add_bits(alloc, wire, range, front, made),
     }
 }
 
-/// Whether the name is that of a port.
+/// Whether the name is that of a port. The place of the name in the table is tried first.
 #[tactic(auto, unfolding(crate::specs::Nets::names_port))]
-pub fn names_port(table: &Table, name: &[u8]) -> bool
+pub(crate) fn names_port(table: &Table, place: usize, name: &[u8]) -> bool
     ensures { result ≡ names_port table.now name.now }
 {
-    match table.find(name) {
+    match table.find_at(place, name) {
         None => false,
         Some(slot) => match slot.place {
             SignalAt::AtPort(_) => true,
@@ -112,23 +105,58 @@ pub fn names_port(table: &Table, name: &[u8]) -> bool
     }
 }
 
-/// Adds the nets of a declaration that are no ports.
+/// Whether the name of this number in the table is that of a net.
+fn is_net(table: &Table, number: usize) -> bool {
+    match table.entry(number) {
+        None => false,
+        Some((_name, slot)) => is_late(0, slot.place),
+    }
+}
+
+/// The number of the first net in the table, behind the ports, which is where the first net of the text mostly stands.
+pub(crate) fn first_net(table: &Table) -> usize {
+    for number in 0..table.len() {
+        if is_net(table, number) {
+            return number;
+        }
+    }
+    0
+}
+
+/// How many nets an item declares.
+pub(crate) fn declared_count(item: &ItemV) -> usize {
+    match item {
+        ItemV::Net(decl) => decl.names.len(),
+        ItemV::Port(_) => 0,
+        ItemV::Param(_) => 0,
+        ItemV::Assign(_) => 0,
+        ItemV::Instances(_) => 0,
+        ItemV::Defparam(_) => 0,
+    }
+}
+
+/// Adds the nets of a declaration that are no ports. The names mostly stand in the table from this place on.
 fn add_decl(
     alloc: Global,
     table: &Table,
+    place: usize,
     decl: &NetDecl,
-    made: &mut Seq<HNet>,
+    front: &mut Vec<u8>,
+    made: &mut Vec<HNet>,
 ) -> Result<(), NoMemory>
-    ensures added { OnOk result (made.new ≡ made.old ++ flat_map wire_nets (wires_by table.now decl.now)) }
+    ensures added { OnOk result (made.new.items ≡ made.old.items ++ flat_map wire_nets (wires_by table.now decl.now)) }
 {
+    let mut at = place;
     for name in decl.names.items() {
-        if !names_port(table, name.bytes()) {
+        let here = at;
+        at = at.saturating_add(1);
+        if !names_port(table, here, name.bytes()) {
             let wire = WireOf {
                 name: name.bytes(),
                 range: decl.range,
                 attrs: decl.attrs.items(),
             };
-            add_wire(alloc, &wire, made)?;
+            add_wire(alloc, &wire, front, made)?;
         }
     }
     Ok(())
@@ -138,14 +166,16 @@ fn add_decl(
 fn add_item(
     alloc: Global,
     table: &Table,
+    place: usize,
     item: &ItemV,
-    made: &mut Seq<HNet>,
+    front: &mut Vec<u8>,
+    made: &mut Vec<HNet>,
 ) -> Result<(), NoMemory>
-    ensures added { OnOk result (made.new ≡ made.old ++ flat_map wire_nets (wires_in table.now (net_decl item.now))) }
+    ensures added { OnOk result (made.new.items ≡ made.old.items ++ flat_map wire_nets (wires_in table.now (net_decl item.now))) }
 {
     match item {
         ItemV::Net(decl) => {
-            add_decl(alloc, table, decl, made)?;
+            add_decl(alloc, table, place, decl, front, made)?;
             Ok(())
         }
         ItemV::Port(_) => Ok(()),
@@ -161,12 +191,15 @@ fn add_items(
     alloc: Global,
     table: &Table,
     items: &[ItemV],
-    made: &mut Seq<HNet>,
+    front: &mut Vec<u8>,
+    made: &mut Vec<HNet>,
 ) -> Result<(), NoMemory>
-    ensures added { OnOk result (made.new ≡ made.old ++ flat_map wire_nets (wires_in table.now (flat_map net_decl items.now))) }
+    ensures added { OnOk result (made.new.items ≡ made.old.items ++ flat_map wire_nets (wires_in table.now (flat_map net_decl items.now))) }
 {
+    let mut place = first_net(table);
     for item in items {
-        add_item(alloc, table, item, made)?;
+        add_item(alloc, table, place, item, front, made)?;
+        place = place.saturating_add(declared_count(item));
     }
     Ok(())
 }
@@ -187,17 +220,16 @@ fn add_late(
     from: u64,
     table: &Table,
     number: usize,
-    made: &mut Seq<HNet>,
+    made: &mut Vec<HNet>,
 ) -> Result<(), NoMemory>
-    ensures added { OnOk result (made.new ≡ made.old ++ late_nets from (option_to_list (slice_get table.now number))) }
+    ensures added { OnOk result (made.new.items ≡ made.old.items ++ late_nets from (option_to_list (slice_get table.now number))) }
 {
     let Some((name, slot)) = table.entry(number) else {
         return Ok(());
     };
     if is_late(from, slot.place) {
         let name = Text::copy(alloc, name)?;
-        let props = Seq::empty(alloc);
-        made.push(HNet { name, props })?;
+        push_net(alloc, name, &[], made)?;
     }
     Ok(())
 }
@@ -207,9 +239,9 @@ fn add_implicit(
     alloc: Global,
     from: u64,
     table: &Table,
-    made: &mut Seq<HNet>,
+    made: &mut Vec<HNet>,
 ) -> Result<(), NoMemory>
-    ensures added { OnOk result (made.new ≡ made.old ++ late_nets from table.now) }
+    ensures added { OnOk result (made.new.items ≡ made.old.items ++ late_nets from table.now) }
 {
     for number in 0..table.len() {
         add_late(alloc, from, table, number, made)?;
@@ -233,22 +265,15 @@ fn net_count(table: &Table) -> u64 {
     }
 }
 
-/// A list with room for so many nets.
-fn room_for(alloc: Global, count: u64) -> Result<Seq<HNet>, NoMemory>
-    ensures { IfOk result (λ nets. nets ≡ []) }
-{
-    let room = Vec::with_capacity(alloc, count as usize)?;
-    Ok(Seq::of(room))
-}
-
 /// The nets of a module.
 pub fn nets_made(alloc: Global, m: &Module, table: &Table) -> Result<Seq<HNet>, NoMemory>
     requires { table.now ≡ signals m.now }
     ensures { IfOk result (λ made. made ≡ module_nets m.now) }
 {
-    let mut made = room_for(alloc, net_count(table))?;
-    add_items(alloc, table, m.items.items(), &mut made)?;
+    let mut made = Vec::with_capacity(alloc, net_count(table) as usize)?;
+    let mut front = Vec::new(alloc);
+    add_items(alloc, table, m.items.items(), &mut front, &mut made)?;
     let from = made.len() as u64;
     add_implicit(alloc, from, table, &mut made)?;
-    Ok(made)
+    Ok(Seq::of(made))
 }

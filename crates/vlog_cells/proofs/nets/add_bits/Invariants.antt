@@ -5,5 +5,5 @@ use Rattle.vlog_cells.proofs.nets.add_bits.Given as goal
 abbrev pub invariant-loop-bit : goal.invariant-loop-bit
 invariant-loop-bit l = record {
   named : l.front.items ≡ l.wire.name.now ++ 91 ∷ [];
-  added : l.made ≡ l.initial.made ++ bit_nets l.wire l.range l.bit;
+  added : l.made.items ≡ l.initial.made.items ++ bit_nets l.wire l.range l.bit;
 }
