@@ -16,7 +16,7 @@ use Rattle.edif_values.specs.declared.name.NameDef.{NameDef}
 use Rattle.edif_values.specs.declared.property.Property.{Property}
 use Rattle.edif_values.specs.declared.net.NetItem.TheVariants as net_items
 use Rattle.edif_design.specs.Design.{net_property, property_value}
-use Rattle.edif_written.specs.Naming.{name_for, seen}
+use Rattle.edif_written.specs.Naming.{name_for, seen, value_of}
 use Rattle.edif_written.specs.Sound.{AreSoundProps, IsShort, IsSoundProp}
 use Rattle.edif_naming.proofs.NamingLaws.{original_name_for}
 use Rattle.edif_naming.proofs.SoundLaws.{ascii_bytes}
@@ -155,3 +155,12 @@ class_sound nets (node ∷ members) all = subst AreSoundProps (sym (flat_map-con
 
 pub kept_class_sound : (nets : List HNet) (members : List Node) (kept : List (Bor HProp)) → seen kept ≡ last_of (class_props nets members) → AllByRecursion IsSoundNet nets → AreSoundProps (seen kept)
 kept_class_sound nets members kept are all = seen_sound (class_props nets members) kept are (class_sound nets members all)
+
+-- no property, of which there is no last one
+pub none_kept : (made : List Property) (props : List (Bor HProp)) (all : List HProp) → made ≡ [] → length props ≡ 0 → seen props ≡ all → map value_of made ≡ last_of all
+unfolding last_of
+none_kept made [] all is none shown = ap (map value_of) is ∙ ap last_of shown
+none_kept made (prop ∷ props) all is none shown = absurd (omega (arith, none))
+
+pub none_sound : (made : List Property) → made ≡ [] → AllByRecursion IsProperty made
+none_sound made is = subst (AllByRecursion IsProperty) (sym is) tt

@@ -252,12 +252,17 @@ fn net_items(alloc: Global, properties: Vec<Property>) -> Result<Seq<NetItem>, N
 }
 
 /// The properties of the nets of a class, the last value of each name.
+#[tactic(auto, using(crate::proofs::NetLaws::none_kept, crate::proofs::NetLaws::none_sound))]
 fn net_properties(alloc: Global, cell: &HCell, nodes: &[Node]) -> Result<Vec<Property>, NoMemory>
     ensures values { IfOk result (λ made. map value_of made.items ≡ last_of (class_props_of cell.now.nets nodes.now)) }
     ensures sound { AllByRecursion IsSoundNet cell.now.nets → IfOk result (λ made. AllByRecursion IsProperty made.items) }
 {
     let props = class_props(alloc, cell, nodes)?;
     let found = props.as_slice();
+    // Most nets have no property.
+    if found.len() == 0 {
+        return Ok(Vec::new(alloc));
+    }
     let kept = last_values(alloc, found)?;
     let last = kept.as_slice();
     let properties = properties_of(alloc, last)?;

@@ -3,19 +3,20 @@ use Rattle.std.proofs.Common.{arith, ◌≡◌, ℕ, zero, suc, ◌+◌, ◌-◌
 use Rattle.std.specs.Borrow.{Bor}
 use Rattle.std.specs.List.{list_any}
 use Rattle.std.proofs.Math.ListN.{drop_of_length-le}
-use Rattle.std.proofs.lemmas.Bool.{or_parts}
+use Rattle.std.specs.Prelude.{◌&&◌, not}
+use Rattle.std.proofs.lemmas.Bool.{false≢true, or_parts}
 use Rattle.std.proofs.lemmas.List.{map-append, take_all}
-use Rattle.edif_meanings.specs.Apart.{AreApart}
+use Rattle.edif_meanings.specs.Apart.{AreApart, is_alike_any}
 use Rattle.edif_meanings.proofs.ApartLaws.{apart_more}
 use Rattle.edif_naming.specs.Few.{ArePlain}
 use Rattle.edif_written.specs.Naming.{ident_of, name_of, property_for, seen, value_of}
 use Rattle.edif_written.specs.Sound.{AreSoundProps, IsSoundProp}
 use Rattle.edif_naming.proofs.NamingLaws.{original_name_for, value_of_made}
 use Rattle.edif_written.proofs.Lists.{all_at}
-use Rattle.edif_spaces.specs.Plain.{IsPlain, IsPlainStep}
-use Rattle.edif_spaces.specs.Spaces.{AreIdents, AreIdentsBehind}
+use Rattle.edif_spaces.specs.Plain.{IsPlain, IsPlainStep, is_own_behind}
+use Rattle.edif_spaces.specs.Spaces.{AreIdents, AreIdentsBehind, can_be_own}
 use Rattle.edif_spaces.proofs.IdentLaws.{behind_len, behind_more}
-use Rattle.edif_spaces.proofs.PlainLaws.{plain_none}
+use Rattle.edif_spaces.proofs.PlainLaws.{and_left, plain_none}
 use Rattle.edif_values.specs.declared.property.Property.{Property}
 use Rattle.net_hier.specs.declared.cells.HProp.{HProp}
 use Rattle.net_live.specs.Last.{is_named, last_of}
@@ -54,6 +55,17 @@ pushed_plain made new from next property ident prop are is_new is step =
 pub none_plain : (made : List Property) → made ≡ [] → ArePlain made 0
 unfolding AreApart AreIdentsBehind
 none_plain made is = subst (λ l. ArePlain l 0) (sym is) (record { plain = plain_none; apart = tt; each = tt })
+
+-- the identifier of a name that is its own
+pub own_ident : (before : List (List ℕ)) (from next : ℕ) (name ident : List ℕ) (is_own : Bool) → is_own_behind before name ≡ is_own → IsPlainStep before from name ident next → is_own ≡ true → ident ≡ name
+own_ident before from next name ident is_own told step own =
+    let both : (can_be_own name && not (is_alike_any name before)) ≡ true = told ∙ own in
+    step.fits.own (and_left (can_be_own name) _ both) (new (can_be_own name) (is_alike_any name before) both)
+  where
+    new : (can taken : Bool) → (can && not taken) ≡ true → taken ≡ false
+    new true true h = absurd (false≢true h)
+    new can false h = refl
+    new false true h = absurd (false≢true h)
 
 -- ---- the loop over few properties
 

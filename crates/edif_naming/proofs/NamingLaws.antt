@@ -23,6 +23,10 @@ original_name_for ident name = by (same_bytes ident name) refl
     by true e = (bytes_eq-Decides ident name).0 e
     by false e = refl
 
+-- the name of an identifier that is the original name
+pub own_name : (ident name : List ℕ) → ident ≡ name → record { ident = ident; text = None } ≡ name_for ident name
+own_name ident name is = ap (λ (b : Bool). record { ident = ident; text = cond b None (Some name) }) (sym ((bytes_eq-Decides ident name).1 is))
+
 array_form : (name : List ℕ) (range : Bounds) → nat_abs range.left < 2 ^ 31 → nat_abs range.right < 2 ^ 31 → range_form (array_text name range) (range_bits range) ≡ Some (name, range)
 array_form name range left right = range_form-complete (array_text name range) (range_bits range) name range (record { bracket = square; is_text = refl; left_fits = left; right_fits = right; is_size = refl })
 

@@ -83,7 +83,7 @@ fn add_property(
     let name = prop.name.bytes();
     let is_own = is_own(name, made.as_slice());
     let (ident, next) = plain_ident(alloc, is_own, from, name)?;
-    let property = property_by(alloc, ident, prop)?;
+    let property = property_by(alloc, is_own, ident, prop)?;
     made.push(property)?;
     Ok(next)
 }

@@ -1,5 +1,5 @@
 // Names with their identifiers.
-ghost use Rattle.std.specs.Prelude.{◌≡◌, ◌++◌, ◌∷◌, Some, pos, IfOk, OnOk};
+ghost use Rattle.std.specs.Prelude.{◌≡◌, ◌++◌, ◌∷◌, true, Some, pos, IfOk, OnOk};
 ghost use Rattle.std.specs.Fmt.{signed_decimal};
 ghost use Rattle.nl_base.specs.Ranges.{range_bits};
 ghost use Rattle.edif_values.specs.declared.name.PortName.TheVariants.{Array};
@@ -39,6 +39,27 @@ pub(crate) fn name_by(alloc: Global, ident: Ident, name: &[u8]) -> Result<NameDe
         ident,
         text: Some(text),
     })
+}
+
+/// The name with this identifier and this original name, which are not compared where it is told that they are one.
+#[inline(always)]
+#[tactic(auto, using(crate::proofs::NamingLaws::own_name))]
+pub(crate) fn name_told(
+    alloc: Global,
+    is_own: bool,
+    ident: Ident,
+    name: &[u8],
+) -> Result<NameDef, NoMemory>
+    requires { is_own ≡ true → ident ≡ name.now }
+    ensures name { IfOk result (λ made. made ≡ name_for ident name.now) }
+    ensures word { IsWord ident }
+{
+    if is_own {
+        // That an identifier is a word is a clause of `bytes`.
+        let _bytes = ident.bytes();
+        return Ok(NameDef { ident, text: None });
+    }
+    name_by(alloc, ident, name)
 }
 
 /// The name with this identifier and this original name.

@@ -1,12 +1,12 @@
 // Properties.
-ghost use Rattle.std.specs.Prelude.{◌≡◌, map, length, IfOk};
+ghost use Rattle.std.specs.Prelude.{◌≡◌, true, map, length, IfOk};
 ghost use Rattle.std.specs.List.{AllByRecursion};
 ghost use Rattle.edif_values.specs.Values.{IsProperty};
 ghost use Rattle.edif_written.specs.Naming.{ident_of, property_for, seen, value_of};
 ghost use Rattle.edif_spaces.specs.Spaces.{AreIdents};
 ghost use Rattle.edif_written.specs.Sound.{AreSoundProps, IsSoundProp};
 
-use crate::names::{copied, name_by};
+use crate::names::{copied, name_told};
 use edif_spaces::idents_of;
 use edif_values::Property;
 use net_hier::HProp;
@@ -28,13 +28,20 @@ pub(crate) fn copy_value(alloc: Global, value: &PropValue) -> Result<PropValue, 
     }
 }
 
-/// The property with this identifier.
+/// The property with this identifier; it is told whether that is its name.
+#[inline(always)]
 #[tactic(auto, using(crate::proofs::SoundLaws::made_sound))]
-pub(crate) fn property_by(alloc: Global, ident: Ident, prop: &HProp) -> Result<Property, NoMemory>
+pub(crate) fn property_by(
+    alloc: Global,
+    is_own: bool,
+    ident: Ident,
+    prop: &HProp,
+) -> Result<Property, NoMemory>
+    requires { is_own ≡ true → ident ≡ prop.now.name }
     ensures property { IfOk result (λ made. made ≡ property_for ident prop.now) }
     ensures sound { IsSoundProp prop.now → IfOk result IsProperty }
 {
-    let name = name_by(alloc, ident, prop.name.bytes())?;
+    let name = name_told(alloc, is_own, ident, prop.name.bytes())?;
     let value = copy_value(alloc, &prop.value)?;
     Ok(Property {
         name,
@@ -49,7 +56,7 @@ fn property_of(alloc: Global, ident: &Ident, prop: &HProp) -> Result<Property, N
     ensures sound { IsSoundProp prop.now → IfOk result IsProperty }
 {
     let own = copied(alloc, ident)?;
-    let made = property_by(alloc, own, prop)?;
+    let made = property_by(alloc, false, own, prop)?;
     Ok(made)
 }
 
