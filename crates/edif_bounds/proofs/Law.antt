@@ -1,15 +1,12 @@
 -- The size of a file that was read.
-use Rattle.std.proofs.Common.{◌∙◌, ap, ℕ, suc, ◌≤◌, List, [], ◌++◌, map, length, length-append, arith}
-use Rattle.std.proofs.lemmas.List.{length-map}
+use Rattle.std.proofs.Common.{◌≡◌, ◌∙◌, ap, ℕ, ◌+◌, ◌<◌, ◌≤◌, List, [], ◌++◌, length, map, length-append, arith}
 use Rattle.grammar.specs.Texts.{Spells}
 use Rattle.grammar.specs.Whole.{Terminal, proper, whole, the_end}
 use Rattle.nl_base.specs.declared.place.Place.{Place}
 use Rattle.nl_base.specs.Place.{place_at_start}
 use Rattle.nl_bytes.specs.declared.bytes.TheConstants.{LIMIT}
 use Rattle.edif_tokens.specs.declared.token.Found.{Found}
-use Rattle.edif_tokens.specs.Streams as streams
-use Rattle.edif_tokens.specs.Stream.{tokens}
-use Rattle.edif_keywords.specs.Language.{last}
+use Rattle.edif_tokens.specs.Language.{tokens}
 use Rattle.edif_keywords.specs.Reasons.{trailing}
 use Rattle.edif_values.specs.declared.file.EdifFile.{EdifFile}
 use Rattle.edif_library.specs.Grammar.{file}
@@ -17,10 +14,10 @@ use Rattle.edif_values.specs.Sizes.{edif_size}
 use Rattle.edif_library.specs.Text.{EdifReads}
 use Rattle.edif_bounds.proofs.Library.{bounded_file}
 use Rattle.edif_limits.proofs.Law as limits
-use Rattle.edif_limits.proofs.Tokens.{few_tokens}
+use Rattle.edif_limits.proofs.Tokens.{few_tokens, few_proper}
 
 -- the end of the input is no token of a file
-whole_size : (ts : List (Terminal Found Place)) (v : EdifFile) → Spells [] (whole trailing (file [])) ts v → suc (edif_size v) ≤ length ts
+whole_size : (ts : List (Terminal Found Place)) (v : EdifFile) → Spells [] (whole trailing (file [])) ts v → edif_size v < length ts
 unfolding whole the_end
 whole_size ts v (u, a, b, is, in_file, (ended, c, d, is_end, (x, one_more, told), (none, same))) =
     let l = ap length is ∙ length-append a b in
@@ -30,27 +27,16 @@ whole_size ts v (u, a, b, is, in_file, (ended, c, d, is_end, (x, one_more, told)
     let s = ap edif_size same in
     omega (arith, l, m, k, h, s)
 
--- a token of the text
-abbrev proper_token : Found → Terminal Found Place
-proper_token x = proper x
+-- A file that was read has fewer items than tokens, of which the end of the input is one.
+pub items_within : (bs : List ℕ) (v : EdifFile) → EdifReads bs v → edif_size v < length (tokens bs).tokens
+items_within bs v reads = whole_size (tokens bs).tokens v reads.0
 
-last_one : (finish : streams.Finish) → length (last finish) ≤ 1
-last_one (streams.End p) = omega arith
-last_one (streams.Bad fault) = omega arith
-last_one streams.Over = omega arith
+-- Besides the end of the input there are no more tokens than bytes.
+pub proper_within : (bs : List ℕ) (front : List Found) (rest : List (Terminal Found Place)) → (tokens bs).tokens ≡ map proper front ++ rest → length front ≤ length bs
+proper_within bs front rest is = few_proper place_at_start bs front rest is
 
--- A file that was read has no more items than tokens.
-pub items_within : (bs : List ℕ) (v : EdifFile) → EdifReads bs v → edif_size v ≤ length (tokens bs).tokens
-items_within bs v reads =
-    let l = length-append (map proper (tokens bs).tokens) (last (tokens bs).finish) in
-    let m = length-map (tokens bs).tokens proper_token in
-    let o = last_one (tokens bs).finish in
-    let h = whole_size (map proper (tokens bs).tokens ++ last (tokens bs).finish) v reads.0 in
-    omega (arith, l, m, o, h)
-
--- There are no more tokens than bytes.
-pub tokens_within : (bs : List ℕ) → length (tokens bs).tokens ≤ length bs
-tokens_within bs = few_tokens place_at_start bs
+tokens_within : (bs : List ℕ) → length (tokens bs).tokens ≤ length bs + 1
+tokens_within bs = let h = few_tokens place_at_start bs in omega (arith, h)
 
 -- Bytes that read as a file are within the limit of an input.
 pub input_within : (bs : List ℕ) (v : EdifFile) → EdifReads bs v → length bs ≤ LIMIT

@@ -1,9 +1,9 @@
 -- Bytes of any length spell a file or have a first fault.
-use Rattle.std.proofs.Common.{◌≡◌, ◌∙◌, refl, sym, ap, subst, ℕ, List, [], ◌∷◌, ◌++◌, map, Ok, Err, ◌⊎◌, inl, inr, append-nil, append_assoc}
+use Rattle.std.proofs.Common.{◌≡◌, ◌∙◌, refl, sym, ap, subst, ℕ, List, [], ◌∷◌, ◌++◌, Ok, Err, ◌⊎◌, inl, inr, append-nil, append_assoc}
 use Rattle.grammar.specs.Clear.{IsLive, IsClear, IsClosed}
 use Rattle.grammar.specs.Reading.{refused, ended, Found as Read, read}
 use Rattle.grammar.specs.Texts.{Begins, Spells}
-use Rattle.grammar.specs.Whole.{Terminal, proper, end, Finish, Done, Bad, Over, whole}
+use Rattle.grammar.specs.Whole.{Terminal, end, Finish, Done, Bad, Over, whole}
 use Rattle.grammar.proofs.Exact.{text_from_read, begins_from_read}
 use Rattle.grammar.proofs.Follow.{clear_fewer}
 use Rattle.grammar.proofs.Whole as grammar
@@ -13,19 +13,19 @@ use Rattle.nl_base.specs.declared.fault.TextFault.{TextFault}
 use Rattle.nl_base.specs.declared.place.Place.{Place}
 use Rattle.readers.specs.Parts.{PartOf}
 use Rattle.readers.specs.Readers.{fault_at}
+use Rattle.readers.specs.Rises.{Rises}
+use Rattle.readers.proofs.Limited.{ends_there, has_last}
 use Rattle.edif_tokens.specs.declared.token.Found.{Found}
-use Rattle.edif_tokens.specs.Streams as streams
-use Rattle.edif_tokens.specs.Stream.{all_tokens}
+use Rattle.edif_tokens.specs.Language.{stop_of, all_tokens}
 use Rattle.edif_keywords.specs.Aliases.{Alias}
-use Rattle.edif_keywords.specs.Language.{edif, ahead_of, last, finish_of}
+use Rattle.edif_keywords.specs.Language.{edif}
 use Rattle.edif_keywords.specs.Reasons.{trailing}
 use Rattle.edif_values.specs.declared.file.EdifFile.{EdifFile}
 use Rattle.edif_library.specs.Grammar.{file}
 use Rattle.edif_library.proofs.Live.{live_file, closed_file}
 use Rattle.edif_library.specs.AnyLength.{EdifSpells, EdifFails}
-use Rattle.grammar_laws.proofs.Ending.{one_end, none_more, whole_ends}
-use Rattle.edif_limits.proofs.Front.{all_finish}
-use Rattle.edif_limits.proofs.Looked.{end_is_last}
+use Rattle.grammar_laws.proofs.Ending.{HasEnd, one_end, none_more, whole_ends}
+use Rattle.edif_limits.proofs.Stops.{rises, never_over}
 use Rattle.edif_faults.proofs.Taking.{tokens_alone}
 
 abbrev Tokens : Type 0
@@ -49,17 +49,8 @@ at_last = end place_at_start
 clear : IsClear [] text (λ _ x. x ≡ at_last)
 clear = clear_fewer [] text (λ _ x. x ≡ at_last) (λ _ _. Unit {0}) (λ _ _ _. tt) closed
 
--- what is told up to the end has it
-abbrev HasLast : Tokens → Type 0
-HasLast ts = (before : Tokens) × (p : Place) × (ts ≡ before ++ end p ∷ [])
-
-has_last : (xs : List Found) (e : streams.Finish) → finish_of e ≡ Done → HasLast (map proper xs ++ last e)
-has_last xs (streams.End p) is = (map proper xs, p, refl)
-has_last xs (streams.Bad f) is = absurd cc
-has_last xs streams.Over is = absurd cc
-
 -- tokens up to the end that can go on are a text
-complete : (ts : Tokens) → HasLast ts → Begins [] text ts → (v : EdifFile) × Spells [] text ts v
+complete : (ts : Tokens) → HasEnd ts → Begins [] text ts → (v : EdifFile) × Spells [] text ts v
 complete ts l h =
     let n = one_end trailing [] (file []) tokens_alone (ts ++ h.0) h.1 h.2 in
     let place : l.0 ++ end l.1 ∷ h.0 ≡ n.0 ++ end n.1 ∷ [] = sym (append_assoc l.0 (end l.1 ∷ []) h.0) ∙ ap (λ (z : Tokens). z ++ h.0) (sym l.2) ∙ n.2 in
@@ -69,26 +60,23 @@ complete ts l h =
 abbrev IsEither : List ℕ → Type 0
 IsEither bs = ((v : EdifFile) × EdifSpells bs v) ⊎ ((f : TextFault) × EdifFails bs f)
 
-abbrev tokens : List ℕ → Tokens
-tokens bs = (ahead_of (all_tokens bs)).tokens
-
-by_reading : (bs : List ℕ) (r : Read (Terminal Found Place) Reason EdifFile) → read [] text (tokens bs) ≡ r → IsEither bs
+by_reading : (bs : List ℕ) (r : Read (Terminal Found Place) Reason EdifFile) → read [] text (all_tokens bs).tokens ≡ r → IsEither bs
 by_reading bs (Ok w) e =
-    let t = text_from_read [] text lives at_last clear (tokens bs) w.1 w.0 e in
+    let t = text_from_read [] text lives at_last clear (all_tokens bs).tokens w.1 w.0 e in
     let n = whole_ends trailing [] (file []) t.text w.0 t.is_text in
-    let place : tokens bs ≡ n.0 ++ end n.1 ∷ w.1 = t.place ∙ ap (λ (z : Tokens). z ++ w.1) n.2 ∙ append_assoc n.0 (end n.1 ∷ []) w.1 in
-    let there = end_is_last (all_tokens bs).tokens (all_tokens bs).finish n.0 w.1 n.1 place in
-    let whole_text : tokens bs ≡ t.text = t.place ∙ ap (λ (z : Tokens). t.text ++ z) there.nothing ∙ append-nil t.text in
+    let place : (all_tokens bs).tokens ≡ n.0 ++ end n.1 ∷ w.1 = t.place ∙ ap (λ (z : Tokens). z ++ w.1) n.2 ∙ append_assoc n.0 (end n.1 ∷ []) w.1 in
+    let there = ends_there stop_of 0 n.0 w.1 n.1 (all_tokens bs).finish (subst (λ (z : Tokens). Rises stop_of 0 z (all_tokens bs).finish) place (rises bs)) in
+    let whole_text : (all_tokens bs).tokens ≡ t.text = t.place ∙ ap (λ (z : Tokens). t.text ++ z) there.nothing ∙ append-nil t.text in
     inl (w.0, (subst (λ (z : Tokens). Spells [] text z w.0) (sym whole_text) t.is_text, there.done))
-by_reading bs (Err (refused x r)) e = inr (fault_at edif x r, grammar.fault_is (fault_at edif) [] text lives at_last closed (ahead_of (all_tokens bs)) x r e)
-by_reading bs (Err ended) e = by (ahead_of (all_tokens bs)).finish refl
+by_reading bs (Err (refused x r)) e = inr (fault_at edif x r, grammar.fault_is (fault_at edif) [] text lives at_last closed (all_tokens bs) x r e)
+by_reading bs (Err ended) e = by (all_tokens bs).finish refl
   where
-    by : (finish : Finish TextFault) → (ahead_of (all_tokens bs)).finish ≡ finish → IsEither bs
+    by : (finish : Finish TextFault) → (all_tokens bs).finish ≡ finish → IsEither bs
     by Done d =
-        let whole_text = complete (tokens bs) (has_last (all_tokens bs).tokens (all_tokens bs).finish d) (begins_from_read [] text lives at_last clear (tokens bs) e) in
+        let whole_text = complete (all_tokens bs).tokens (has_last stop_of 0 (all_tokens bs).tokens (all_tokens bs).finish d (rises bs)) (begins_from_read [] text lives at_last clear (all_tokens bs).tokens e) in
         inl (whole_text.0, (whole_text.1, d))
-    by (Bad f) d = inr (f, grammar.bad_is (fault_at edif) [] text lives at_last closed (ahead_of (all_tokens bs)) f e d)
-    by Over d = absurd (all_finish bs d)
+    by (Bad f) d = inr (f, grammar.bad_is (fault_at edif) [] text lives at_last closed (all_tokens bs) f e d)
+    by Over d = absurd (never_over bs d)
 
 pub either : (bs : List ℕ) → ((v : EdifFile) × EdifSpells bs v) ⊎ ((f : TextFault) × EdifFails bs f)
-either bs = by_reading bs (read [] text (tokens bs)) refl
+either bs = by_reading bs (read [] text (all_tokens bs).tokens) refl

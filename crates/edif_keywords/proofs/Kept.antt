@@ -1,6 +1,6 @@
 -- What the values keep that a part spells from the tokens of a text: one fact for each way in which a part is made.
-use Rattle.std.proofs.Common.{◌≡◌, sym, refl, subst, ℕ, Bool, true, false, cond, List, [], ◌∷◌, ◌++◌, map, Option, Some, None, Result, Ok, Err, ℤ, inl, inr}
-use Rattle.std.specs.Prelude.{⊤, if◌then◌else◌}
+use Rattle.std.proofs.Common.{◌≡◌, sym, refl, subst, ℕ, Bool, true, false, cond, List, [], ◌∷◌, ◌++◌, Option, Some, None, Result, Ok, Err, ℤ, inl, inr}
+use Rattle.std.specs.Prelude.{if◌then◌else◌}
 use Rattle.std.specs.List.{AllByRecursion}
 use Rattle.grammar.specs.Part.{Glance, gives, sequence, takes}
 use Rattle.grammar.specs.Texts.{Spells, Rounds, ends, goes, TakenText}
@@ -12,36 +12,19 @@ use Rattle.edif_tokens.specs.declared.token.Found.{Found}
 use Rattle.edif_values.specs.declared.token.Token.{Token}
 use Rattle.edif_values.specs.declared.token.Token.TheVariants.{LeftParen, RightParen, Word, Number, Str}
 use Rattle.edif_values.specs.Proper.{IsProper}
-use Rattle.edif_tokens.specs.Proper.{AreProper}
-use Rattle.edif_tokens.specs.Streams as streams
+use Rattle.edif_tokens.specs.Proper.{AreSound}
 use Rattle.readers.specs.Parts.{at_token, of_token, one, if_next, while_next}
 use Rattle.edif_values.specs.declared.keyword.Keyword.{Keyword}
 use Rattle.edif_values.specs.Keywords.{has}
 use Rattle.edif_keywords.specs.Aliases.{Alias, means}
-use Rattle.edif_keywords.specs.Language.{Edif, last}
+use Rattle.edif_keywords.specs.Language.{Edif}
 use Rattle.edif_values.specs.Values.{IsWord, IsInteger, IsString, AreStrings}
 use Rattle.edif_keywords.specs.Reasons as say
 use Rattle.edif_keywords.specs.Grammar.{word, string, integer, opening, closing, keyword, begin, forms, item, items, strings, comment, form_or}
 
--- a token of a text, or the end of the input
-abbrev pub IsSound : Terminal Found Place → Type 0
-IsSound (proper x) = IsProper x.token
-IsSound (end p) = ⊤
-
--- all these are tokens of a text
-abbrev pub AreSound : List (Terminal Found Place) → Type 0
-AreSound ts = AllByRecursion IsSound ts
-
 -- What the part spells from tokens of a text is good.
 pub record Kept {A : Type 0} (part : Edif A) (Good : A → Type 0) : Type 0 where
   pub kept : (table : List Alias) (ts : List (Terminal Found Place)) (v : A) → AreSound ts → Spells table part ts v → Good v
-
--- the tokens of a text and its end
-pub sound_tokens : (xs : List Found) (finish : streams.Finish) → AreProper xs → AreSound (map proper xs ++ last finish)
-sound_tokens [] (streams.End p) all = (tt, tt)
-sound_tokens [] (streams.Bad fault) all = tt
-sound_tokens [] streams.Over all = tt
-sound_tokens (x ∷ xs) finish all = (all.0, sound_tokens xs finish all.1)
 
 -- both sides of a list of tokens
 sides : (a b : List (Terminal Found Place)) → AreSound (a ++ b) → AreSound a × AreSound b

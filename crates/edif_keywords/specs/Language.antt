@@ -1,7 +1,7 @@
 -- The parts of EDIF texts, over the tokens of EDIF.
 use Rattle.std.specs.Prelude.{List}
 use Rattle.edif_tokens.specs.declared.token.Found.{Found}
-pub use Rattle.edif_tokens.specs.Language.{last, finish_of, ahead_of, edif}
+pub use Rattle.edif_tokens.specs.Language.{edif}
 use Rattle.readers.specs.Parts.{PartOf}
 use Rattle.edif_keywords.specs.Aliases.{Alias}
 

@@ -10,7 +10,7 @@ use Rattle.nl_bytes.specs.Classes.{is_space, is_word_byte, is_string_byte}
 use Rattle.edif_values.specs.declared.token.Token.{Token}
 use Rattle.edif_values.specs.declared.token.Token.TheVariants.{LeftParen, RightParen, Word, Number, Str}
 use Rattle.edif_tokens.specs.declared.scan.Start.TheVariants.{Other}
-use Rattle.edif_tokens.specs.Flaws.{Piece, flaw, ◌>>=◌}
+use Rattle.nl_bytes.specs.Flaws.{Piece, flaw, ◌>>=◌}
 use Rattle.edif_tokens.specs.Strings.{Within, string_at, is_full}
 use Rattle.edif_tokens.specs.Strings as within
 use Rattle.edif_tokens.specs.Spelling.{token_at, start_of, word_of, number_of, str_of}

@@ -7,7 +7,7 @@ use Rattle.std.proofs.lemmas.Bool.{le-ltb, leb-true}
 use Rattle.std.proofs.lemmas.Bool.Decides.{nat_tests}
 use Rattle.nl_base.specs.declared.fault.Reason.TheVariants.{TokenTooLong}
 use Rattle.nl_bytes.specs.Classes.{is_space, is_string_byte}
-use Rattle.edif_tokens.specs.Flaws.{Piece, Flaw, flaw}
+use Rattle.nl_bytes.specs.Flaws.{Piece, Flaw, flaw}
 use Rattle.edif_tokens.specs.Strings.{Within, string_at, is_full}
 use Rattle.edif_tokens.specs.Strings as within
 use Rattle.edif_tokens.specs.Spelling.{decimal_value}

@@ -6,7 +6,7 @@ use Rattle.std.proofs.lemmas.List.{take_at, drop_at, take-append-drop}
 use Rattle.nl_base.specs.declared.fault.Reason.TheVariants.{EndOfInput, BadByte, TokenTooLong}
 use Rattle.nl_bytes.specs.Bytes.{first}
 use Rattle.nl_bytes.proofs.Uses.{AllByRecursion-append}
-use Rattle.edif_tokens.specs.Flaws.{flaw}
+use Rattle.nl_bytes.specs.Flaws.{flaw}
 use Rattle.edif_tokens.specs.Spelling.{span_at, text_of, text_at, ended, may_follow}
 use Rattle.edif_lexemes.specs.Lexemes.{EndsRun, one_of}
 use Rattle.edif_lexemes.proofs.Moves.{Spelled}

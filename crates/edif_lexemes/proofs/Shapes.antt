@@ -11,7 +11,7 @@ use Rattle.edif_values.specs.declared.token.Token.{Token}
 use Rattle.edif_values.specs.declared.token.Token.TheVariants.{LeftParen, RightParen, Word, Number, Str}
 use Rattle.edif_tokens.specs.declared.scan.Start.{Start}
 use Rattle.edif_tokens.specs.declared.scan.Start.TheVariants.{Open, Close, Quote, Letter, Ampersand, Digit, Sign, Other}
-use Rattle.edif_tokens.specs.Flaws.{◌>>=◌}
+use Rattle.nl_bytes.specs.Flaws.{◌>>=◌}
 use Rattle.edif_tokens.specs.Spelling.{start_of, begins_word, token_at, token_by, text_at, word_of, number_of, integer_of, decimal_value, may_follow}
 use Rattle.edif_lexemes.specs.Strings.{AreDigits}
 use Rattle.edif_lexemes.specs.Lexemes.{IsWord, IsInteger, Unsigned, Plus, Minus, IsString, IsLexeme, EndsRun}

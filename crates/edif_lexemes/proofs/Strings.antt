@@ -11,7 +11,7 @@ use Rattle.nl_base.specs.declared.fault.Reason.{Reason}
 use Rattle.nl_base.specs.declared.fault.Reason.TheVariants.{EndOfInput}
 use Rattle.nl_bytes.specs.Classes.{is_space, is_string_byte}
 use Rattle.nl_bytes.proofs.Uses.{AllByRecursion-push}
-use Rattle.edif_tokens.specs.Flaws.{Piece, Flaw, flaw}
+use Rattle.nl_bytes.specs.Flaws.{Piece, Flaw, flaw}
 use Rattle.edif_tokens.specs.Strings.{Within, string_at, is_full}
 use Rattle.edif_tokens.specs.Strings as within
 use Rattle.edif_tokens.specs.Spelling.{decimal_value}

@@ -2,31 +2,36 @@
 use Rattle.std.proofs.Common.{◌≡◌, ℕ, zero, suc, ◌+◌, ◌-◌, ◌≤◌, Bool, true, false, cond, List, [], ◌∷◌, ◌++◌, length, take, drop, Ok, Err, refl, sym, ap, ◌∙◌, subst, arith, append-nil, length-append}
 use Rattle.std.specs.Prelude.{◌↔◌}
 use Rattle.std.proofs.lemmas.List.{take_at, drop_at}
+use Rattle.grammar.specs.Whole.{Terminal, proper, end, Finish, Done, Bad, Over}
 use Rattle.nl_base.specs.declared.place.Place.{Place}
 use Rattle.nl_base.specs.declared.fault.Reason.{Reason}
 use Rattle.nl_base.specs.declared.fault.TextFault.{TextFault}
 use Rattle.nl_base.specs.Place.{place_after, place_past}
 use Rattle.nl_base.proofs.Places.{place_past-append}
 use Rattle.nl_bytes.specs.Classes.{is_space}
+use Rattle.nl_bytes.specs.Tokens.{Ahead, follow, no_token, limited}
 use Rattle.edif_tokens.specs.declared.token.Found.{Found}
 use Rattle.edif_values.specs.declared.token.Token.{Token}
-use Rattle.edif_tokens.specs.Flaws.{Piece, flaw}
+use Rattle.nl_bytes.specs.Flaws.{Piece, flaw}
 use Rattle.edif_tokens.specs.Spelling.{token_at}
-use Rattle.edif_tokens.specs.Streams.{Finish, End, Bad, Over, Stream, ends, follow, limited}
-use Rattle.edif_tokens.specs.Stream.{tokens_from, then_tokens, found_at, stop_of, stream_from}
+use Rattle.edif_tokens.specs.Language.{tokens_from, then_tokens, found_at, stop_of, stream_from}
 use Rattle.edif_lexemes.specs.Strings.{AreWhite}
 use Rattle.edif_lexemes.specs.Lexemes.{IsNext, seen_behind}
 use Rattle.edif_lexemes.specs.Faults.{IsFault}
-use Rattle.edif_lexemes.specs.Texts.{IsFirst, Fails, AreLexemes, IsStreamOf, AreTold, Stands, IsFaulty}
+use Rattle.edif_lexemes.specs.Texts.{IsFirst, Fails, AreLexemes, AreTold, Stands, IsFaulty}
 use Rattle.edif_lexemes.proofs.Shapes.{not_empty}
 use Rattle.edif_lexemes.proofs.Tokens.{Answer, TokenRow, token_sound, token_complete, answer}
 use Rattle.edif_lexemes.proofs.Faults.{fault_complete, fault_not_empty}
 
+abbrev IsStreamOf : Place → List ℕ → Ahead Found → Type 0
+IsStreamOf p text s = AreLexemes p text s.tokens s.finish
+
 -- ---- from the bytes to the table
 
-white_more : (b : ℕ) (p : Place) (text : List ℕ) (found : List Found) (finish : Finish) → is_space b ≡ true
+white_more : (b : ℕ) (p : Place) (text : List ℕ) (found : List (Terminal Found Place)) (finish : Finish TextFault) → is_space b ≡ true
     → AreLexemes (place_after p b) text found finish → AreLexemes p (b ∷ text) found finish
-white_more b p text [] (End q) is are = ((is, are.0), are.1)
+white_more b p text (end q ∷ xs) finish is are = ((is, are.0), are.1, are.2, are.3)
+white_more b p text [] Done is are = are
 white_more b p text [] (Bad fault) is are = record {
   white = b ∷ are.white;
   rest = are.rest;
@@ -39,7 +44,7 @@ white_more b p text [] (Bad fault) is are = record {
   stop = are.stop;
 }
 white_more b p text [] Over is are = are
-white_more b p text (x ∷ xs) finish is are =
+white_more b p text (proper x ∷ xs) finish is are =
     let one : IsFirst p (b ∷ text) x = record {
       white = b ∷ are.0.white;
       lexeme = are.0.lexeme;
@@ -88,7 +93,7 @@ then_row p b bs (Ok piece) row others =
 
 text_sound : (p : Place) (bs : List ℕ) → Behind p bs
 unfolding tokens_from
-text_sound p [] zero le = (tt, refl)
+text_sound p [] zero le = (tt, refl, refl, refl)
 text_sound p [] (suc n) le = absurd (omega (arith, le))
 text_sound p (b ∷ bs) (suc n) le = text_sound (place_after p b) bs n (omega (arith, le))
 text_sound p (b ∷ bs) zero le = by (is_space b) refl (text_sound (place_after p b) bs)
@@ -119,7 +124,7 @@ unfolding tokens_from
 token_then p b bs t count seen space spelled = rw (space, spelled) refl
 
 fault_then : (p : Place) (b : ℕ) (bs : List ℕ) (reason : Reason) (before seen : ℕ) → is_space b ≡ false → token_at b bs ≡ flaw reason before seen
-    → tokens_from 0 p (b ∷ bs) ≡ ends (Bad (record { place = place_past p (take before (b ∷ bs)); stop = p.offset + seen; reason = reason }))
+    → tokens_from 0 p (b ∷ bs) ≡ no_token Found (Bad (record { place = place_past p (take before (b ∷ bs)); stop = p.offset + seen; reason = reason }))
 unfolding tokens_from
 fault_then p b bs reason before seen space spelled = rw (space, spelled) refl
 
@@ -131,7 +136,7 @@ first_then p (b ∷ cs) rest t next =
     let less : suc (length cs) - 1 ≡ length cs = omega arith in
     let x : Found = record { place = p; stop = p.offset + (suc (length cs) + seen_behind t rest); token = t } in
     token_then p b (cs ++ rest) t (suc (length cs)) (suc (length cs) + seen_behind t rest) r.0 r.1
-    ∙ ap (λ (n : ℕ). follow x (tokens_from n (place_after p b) (cs ++ rest))) less ∙ ap (λ (s : Stream Found). follow x s) (behind_then (place_after p b) cs rest)
+    ∙ ap (λ (n : ℕ). follow x (tokens_from n (place_after p b) (cs ++ rest))) less ∙ ap (λ (s : Ahead Found). follow x s) (behind_then (place_after p b) cs rest)
 
 abbrev found_of : Place → ℕ → Token → Found
 found_of p stop t = record { place = p; stop = stop; token = t }
@@ -145,47 +150,49 @@ text_fault p stop reason = record { place = p; stop = stop; reason = reason }
 same_fault : (p q : Place) (m n : ℕ) (reason : Reason) → p ≡ q → m ≡ n → text_fault p m reason ≡ text_fault q n reason
 same_fault p q m n reason e f = ap (λ (x : Place). text_fault x m reason) e ∙ ap (λ (x : ℕ). text_fault q x reason) f
 
-fails_then : (p : Place) (text : List ℕ) (fault : TextFault) → Fails p text fault → tokens_from 0 p text ≡ ends (Bad fault)
+fails_then : (p : Place) (text : List ℕ) (fault : TextFault) → Fails p text fault → tokens_from 0 p text ≡ no_token Found (Bad fault)
 fails_then p text fault f = ap (tokens_from 0 p) f.parts ∙ white_then p f.white f.rest f.blank ∙ by f.rest f.why f.place
   where
     q : Place
     q = place_past p f.white
 
     by : (rest : List ℕ) → IsFault rest fault.reason f.before f.seen → fault.place ≡ place_past q (take f.before rest)
-        → tokens_from 0 q rest ≡ ends (Bad fault)
+        → tokens_from 0 q rest ≡ no_token Found (Bad fault)
     by [] why place = absurd (fault_not_empty fault.reason f.before f.seen why)
     by (b ∷ bs) why place =
         let r = fault_complete b bs fault.reason f.before f.seen why in
         fault_then q b bs fault.reason f.before f.seen r.0 r.1
-        ∙ ap (λ (x : TextFault). ends (Bad x)) (same_fault (place_past q (take f.before (b ∷ bs))) fault.place (q.offset + f.seen) fault.stop fault.reason (sym place) (sym f.stop))
+        ∙ ap (λ (x : TextFault). no_token Found (Bad x)) (same_fault (place_past q (take f.before (b ∷ bs))) fault.place (q.offset + f.seen) fault.stop fault.reason (sym place) (sym f.stop))
 
-pub stream_complete : (p : Place) (text : List ℕ) (found : List Found) (finish : Finish) → AreLexemes p text found finish
+pub stream_complete : (p : Place) (text : List ℕ) (found : List (Terminal Found Place)) (finish : Finish TextFault) → AreLexemes p text found finish
     → tokens_from 0 p text ≡ record { tokens = found; finish = finish }
 unfolding tokens_from
-stream_complete p text [] (End q) are =
-    ap (tokens_from 0 p) (sym (append-nil text)) ∙ white_then p text [] are.0 ∙ ap (λ (x : Place). ends (End x)) (sym are.1)
+stream_complete p text [] Done are = absurd are
 stream_complete p text [] (Bad fault) are = fails_then p text fault are
 stream_complete p text [] Over are = absurd are
-stream_complete p text (x ∷ xs) finish are =
+stream_complete p text (end q ∷ xs) finish are =
+    ap (tokens_from 0 p) (sym (append-nil text)) ∙ white_then p text [] are.0
+    ∙ (λ j. record { tokens = end (sym are.1 j) ∷ sym are.2 j; finish = sym are.3 j })
+stream_complete p text (proper x ∷ xs) finish are =
     let one = are.0 in
     let q : Place = place_past p one.white in
     let place : place_past q one.lexeme ≡ place_past p (one.white ++ one.lexeme) = sym (place_past-append p one.white one.lexeme) in
     let stop : ℕ = q.offset + (length one.lexeme + seen_behind x.token one.rest) in
     ap (tokens_from 0 p) one.parts ∙ white_then p one.white (one.lexeme ++ one.rest) one.blank ∙ first_then q one.lexeme one.rest x.token one.next
     ∙ ap (λ (y : Found). follow y (tokens_from 0 (place_past q one.lexeme) one.rest)) (same_found q x.place stop x.stop x.token (sym one.place) (sym one.stop))
-    ∙ ap (λ (y : Place). follow x (tokens_from 0 y one.rest)) place ∙ ap (λ (s : Stream Found). follow x s) (stream_complete (place_past p (one.white ++ one.lexeme)) one.rest xs finish are.1)
+    ∙ ap (λ (y : Place). follow x (tokens_from 0 y one.rest)) place ∙ ap (λ (s : Ahead Found). follow x s) (stream_complete (place_past p (one.white ++ one.lexeme)) one.rest xs finish are.1)
 
 -- ---- the laws
 
-pub tokens_law : (p : Place) (text : List ℕ) (found : List Found) (finish : Finish)
+pub tokens_law : (p : Place) (text : List ℕ) (found : List (Terminal Found Place)) (finish : Finish TextFault)
     → (tokens_from 0 p text ≡ record { tokens = found; finish = finish }) ↔ AreLexemes p text found finish
-tokens_law p text found finish = (λ e. subst (λ (s : Stream Found). IsStreamOf p text s) e (stream_sound p text), stream_complete p text found finish)
+tokens_law p text found finish = (λ e. subst (λ (s : Ahead Found). IsStreamOf p text s) e (stream_sound p text), stream_complete p text found finish)
 
-pub told_law : (p : Place) (text : List ℕ) (s : Stream Found) → (stream_from p text ≡ s) ↔ AreTold p text s
+pub told_law : (p : Place) (text : List ℕ) (s : Ahead Found) → (stream_from p text ≡ s) ↔ AreTold p text s
 unfolding stream_from
 told_law p text s = (
-  λ e. record { found = (tokens_from 0 p text).tokens; finish = (tokens_from 0 p text).finish; lexemes = stream_sound p text; told = sym e },
-  λ are. ap (limited stop_of) (stream_complete p text are.found are.finish are.lexemes) ∙ sym are.told,
+  λ e. record { all = tokens_from 0 p text; lexemes = stream_sound p text; told = sym e },
+  λ are. ap (limited stop_of) (stream_complete p text are.all.tokens are.all.finish are.lexemes) ∙ sym are.told,
 )
 
 apart : (b : ℕ) (bs : List ℕ) → IsFaulty (b ∷ bs) → Stands (b ∷ bs) → ⊥

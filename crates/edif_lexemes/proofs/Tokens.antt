@@ -7,7 +7,7 @@ use Rattle.nl_bytes.specs.Classes.{is_space, is_word_byte}
 use Rattle.edif_values.specs.declared.token.Token.{Token}
 use Rattle.edif_values.specs.declared.token.Token.TheVariants.{LeftParen, RightParen, Word, Number, Str}
 use Rattle.edif_tokens.specs.declared.scan.Start.{Start}
-use Rattle.edif_tokens.specs.Flaws.{Piece, Flaw, ◌>>=◌}
+use Rattle.nl_bytes.specs.Flaws.{Piece, Flaw, ◌>>=◌}
 use Rattle.edif_tokens.specs.Strings.{Within, string_at, is_full}
 use Rattle.edif_tokens.specs.Strings as within
 use Rattle.edif_tokens.specs.Spelling.{token_at, token_by, begins_word, word_of, number_of, number_or_range, str_of}

@@ -8,20 +8,21 @@ use Rattle.std.proofs.lemmas.Bool.{lt-ltb, le-ltb, eqb-true}
 use Rattle.std.proofs.lemmas.Bool.Decides.{nat_tests}
 use Rattle.std.proofs.lemmas.List.Sums.{fold-append}
 use Rattle.std.proofs.lemmas.Fmt.{decimal_by_steps, length-decimal-le}
+use Rattle.grammar.specs.Whole.{proper}
 use Rattle.nl_base.specs.Identifiers as base
 use Rattle.nl_base.specs.declared.place.Place.{Place}
 use Rattle.nl_base.specs.Place.{place_after, place_past}
 use Rattle.nl_bytes.specs.Bytes.{first}
 use Rattle.nl_bytes.specs.Classes.{is_space, is_word_byte}
+use Rattle.nl_bytes.specs.Tokens.{Ahead, follow}
 use Rattle.edif_tokens.specs.declared.token.Found.{Found}
 use Rattle.edif_values.specs.declared.token.Token.{Token}
 use Rattle.edif_values.specs.declared.token.Token.TheVariants as t
 use Rattle.edif_tokens.specs.declared.scan.Start.TheVariants.{Letter, Ampersand, Digit}
-use Rattle.edif_tokens.specs.Flaws.{Piece, Flaw}
+use Rattle.nl_bytes.specs.Flaws.{Piece, Flaw}
 use Rattle.edif_values.specs.Proper.{IsProper}
 use Rattle.edif_tokens.specs.Spelling.{token_at, start_of, may_follow, ended, span_at, integer_of, decimal_value}
-use Rattle.edif_tokens.specs.Streams.{Stream, follow}
-use Rattle.edif_tokens.specs.Stream.{tokens_from, found_at}
+use Rattle.edif_tokens.specs.Language.{tokens_from, found_at}
 use Rattle.edif_tokens.proofs.Spans.{AllPass, span_run}
 use Rattle.edif_lexing.specs.Lexing.{Shows, Lexes}
 
@@ -31,7 +32,7 @@ Parts bs = IfSome (first bs) (λ b. IsTrue (may_follow b))
 
 pub lexes_end : Lexes [] []
 unfolding tokens_from
-lexes_end = record { at = λ p. (refl, tt) }
+lexes_end = record { at = λ p. record { found = []; last = p; tokens = refl; same = refl; finish = refl } }
 
 pub lexes_space : (b : ℕ) (rest : List ℕ) (ts : List Token) → is_space b ≡ true → Lexes rest ts → Lexes (b ∷ rest) ts
 unfolding tokens_from
@@ -52,6 +53,15 @@ token_first : (p : Place) (b : ℕ) (bs : List ℕ) (token : Token) (count seen 
 unfolding tokens_from
 token_first p b bs token count seen space spelled = rw (space, spelled) refl
 
+shows_follow : (f : Found) (s : Ahead Found) (ts : List Token) → Shows s ts → Shows (follow f s) (f.token ∷ ts)
+shows_follow f s ts h = record {
+  found = f ∷ h.found;
+  last = h.last;
+  tokens = ap (λ z. proper f ∷ z) h.tokens;
+  same = ap (λ (z : List Token). f.token ∷ z) h.same;
+  finish = h.finish;
+}
+
 -- a token that begins with a byte, and then other tokens
 pub lexes_token : (b : ℕ) (tail rest : List ℕ) (token : Token) (seen : ℕ) (ts : List Token) → is_space b ≡ false
     → token_at b (tail ++ rest) ≡ piece token (suc (length tail)) seen → Lexes rest ts → Lexes (b ∷ (tail ++ rest)) (token ∷ ts)
@@ -62,9 +72,9 @@ lexes_token b tail rest token seen ts space spelled h = record {
       let whole : tokens_from 0 p (b ∷ (tail ++ rest)) ≡ follow here (tokens_from 0 (place_past (place_after p b) tail) rest) =
       token_first p b (tail ++ rest) token (suc (length tail)) seen space spelled
       ∙ ap (λ (n : ℕ). follow here (tokens_from n (place_after p b) (tail ++ rest))) less
-      ∙ ap (λ (s : Stream Found). follow here s) (tokens_behind (place_after p b) tail rest) in
-      let behind = h.at (place_past (place_after p b) tail) in
-      subst (λ (s : Stream Found). Shows s (token ∷ ts)) (sym whole) (ap (λ (z : List Token). token ∷ z) behind.0, behind.1);
+      ∙ ap (λ (s : Ahead Found). follow here s) (tokens_behind (place_after p b) tail rest) in
+      subst (λ (s : Ahead Found). Shows s (token ∷ ts)) (sym whole)
+      (shows_follow here (tokens_from 0 (place_past (place_after p b) tail) rest) ts (h.at (place_past (place_after p b) tail)));
 }
 
 pub lexes_open : (rest : List ℕ) (ts : List Token) → Lexes rest ts → Lexes (40 ∷ rest) (t.LeftParen ∷ ts)

@@ -1,20 +1,19 @@
 -- Which tokens some bytes have, wherever they begin: places and stops are forgotten.
-use Rattle.std.specs.Prelude.{◌≡◌, ⊤, ℕ, List, map}
+use Rattle.std.specs.Prelude.{◌≡◌, ℕ, List, [], ◌∷◌, ◌++◌, map}
+use Rattle.grammar.specs.Whole.{Done, proper, end}
 use Rattle.nl_base.specs.declared.place.Place.{Place}
+use Rattle.nl_bytes.specs.Tokens.{Ahead}
 use Rattle.edif_tokens.specs.declared.token.Found.{Found}
 use Rattle.edif_values.specs.declared.token.Token.{Token}
-use Rattle.edif_tokens.specs.Streams.{Finish, End, Bad, Over, Stream}
-use Rattle.edif_tokens.specs.Stream.{tokens_from}
+use Rattle.edif_tokens.specs.Language.{tokens_from}
 
--- tokens that end at the end of the bytes
-abbrev pub EndsWell : Finish → Type 0
-EndsWell (End p) = ⊤
-EndsWell (Bad fault) = ⊥
-EndsWell Over = ⊥
-
--- these are the tokens of a stream, and it ends at the end of the bytes
-abbrev pub Shows : Stream Found → List Token → Type 0
-Shows s ts = (map (λ f. f.token) s.tokens ≡ ts) × EndsWell s.finish
+-- these are the tokens of a stream, and the end of the input stands behind them
+pub record Shows (s : Ahead Found) (ts : List Token) : Type 0 where
+  pub found : List Found
+  pub last : Place
+  pub tokens : s.tokens ≡ map proper found ++ end last ∷ []
+  pub same : map (λ f. f.token) found ≡ ts
+  pub finish : s.finish ≡ Done
 
 -- the tokens of the bytes are these
 pub record Lexes (bs : List ℕ) (ts : List Token) : Type 0 where

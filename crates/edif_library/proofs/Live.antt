@@ -1,5 +1,5 @@
 -- From each place in a view, cell, library, design or file some tokens lead to its end, and none of its texts goes on to another.
-use Rattle.std.proofs.Common.{◌≡◌, refl, Bool, true, false, cond, List, [], ◌∷◌, pos, codes}
+use Rattle.std.proofs.Common.{◌≡◌, refl, Bool, true, false, List, [], ◌∷◌, pos, codes}
 use Rattle.edif_values.specs.declared.token.Token.TheVariants.{Number}
 use Rattle.grammar.specs.Part.{under}
 use Rattle.readers.proofs.Items.{live_as_item, closed_as_item, live_one_of, closed_one_of}
@@ -12,7 +12,7 @@ use Rattle.edif_values.specs.Keywords.{has, same_keyword}
 use Rattle.edif_keywords.specs.Aliases.{Alias}
 use Rattle.edif_keywords.specs.Language.{Edif}
 use Rattle.edif_keywords.specs.Reasons as say
-use Rattle.edif_keywords.specs.Grammar.{word, choice, view_type, level}
+use Rattle.edif_keywords.specs.Grammar.{choice, view_type, level}
 use Rattle.edif_keywords.proofs.Live.{Lives, Closes, live_word, live_closing, live_choice, live_view_type, live_keyword, live_begin, closed_closing, closed_begin, seen, live_items, closed_items, live_header, closed_header}
 use Rattle.edif_values.specs.declared.name.NameDef.{NameDef}
 use Rattle.edif_names.proofs.Live.{closed_word, live_name, closed_name, live_scaled, closed_scaled, live_property, closed_property}

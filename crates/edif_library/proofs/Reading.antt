@@ -4,8 +4,8 @@ use Rattle.nl_base.specs.declared.fault.ReadError.{ReadError}
 use Rattle.nl_base.specs.declared.fault.ReadError.TheVariants as errors
 use Rattle.nl_bytes.specs.declared.bytes.TheConstants.{LIMIT}
 use Rattle.edif_tokens.specs.declared.token.Found.{Found}
-use Rattle.edif_tokens.specs.Streams.{State}
-use Rattle.edif_tokens.specs.Stream as tokens
+use Rattle.nl_bytes.specs.Tokens.{State}
+use Rattle.nl_bytes.specs.Tokens as tokens
 use Rattle.nl_io.specs.Sources.{Supply}
 use Rattle.readers.specs.Readers.{Reader, ReadsWhole, Ends, same, room}
 use Rattle.readers.specs.Texts.{ReadsText, Comes, tokens_of}

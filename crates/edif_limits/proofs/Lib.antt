@@ -1,6 +1,3 @@
 pub mod Stops
-pub mod Front
-pub mod Faults
-pub mod Looked
 pub mod Tokens
 pub mod Law

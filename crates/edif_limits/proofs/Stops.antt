@@ -1,21 +1,23 @@
--- The stops of the tokens of a text do not fall.
+-- The stops of the tokens of a text rise.
 use Rattle.std.proofs.Common.{◌≡◌, ℕ, zero, suc, ◌+◌, ◌-◌, ◌<◌, ◌≤◌, Bool, true, false, cond, ltb, List, [], ◌∷◌, ◌++◌, length, take, drop, Option, Some, None, Result, Ok, Err, refl, arith, rules, length-drop}
 use Rattle.std.specs.Prelude.{ℤ, ◌*◌, nat_le}
 use Rattle.std.specs.Char.{is_ascii_digit}
 use Rattle.std.specs.List.{prefix_len}
 use Rattle.std.proofs.lemmas.List.Sums.{prefix_len-le-length}
+use Rattle.grammar.specs.Whole.{Over}
 use Rattle.nl_base.specs.declared.place.Place.{Place}
-use Rattle.nl_base.specs.Place.{place_after}
+use Rattle.nl_base.specs.Place.{place_after, place_at_start}
 use Rattle.nl_bytes.specs.Bytes.{first}
 use Rattle.nl_bytes.specs.Classes.{is_space, is_word_byte}
+use Rattle.nl_bytes.specs.Tokens.{Ahead}
+use Rattle.readers.specs.Rises.{Rises}
 use Rattle.edif_tokens.specs.declared.token.Found.{Found}
 use Rattle.edif_values.specs.declared.token.Token.{Token}
 use Rattle.edif_tokens.specs.declared.scan.Start.{Start}
 use Rattle.edif_tokens.specs.declared.scan.Start.TheVariants.{Open, Close, Quote, Letter, Ampersand, Digit, Sign, Other}
 use Rattle.edif_tokens.specs.Strings.{Within, Parts, Escape, Code, string_at}
 use Rattle.edif_tokens.specs.Spelling.{Piece, Flaw, flaw, ◌>>=◌, span_at, text_of, ended, may_follow, text_at, token_by, token_at, start_of, number_or_range, integer_of, word_of, number_of, str_of}
-use Rattle.edif_tokens.specs.Streams.{Finish, End, Bad, Over, Stream}
-use Rattle.edif_tokens.specs.Stream.{tokens_from, then_tokens}
+use Rattle.edif_tokens.specs.Language.{tokens_from, then_tokens, stop_of, all_tokens}
 use Rattle.nl_base.specs.declared.fault.Reason.TheVariants.{BadByte, TokenTooLong, EndOfInput}
 
 -- ---- what is seen of a token of n bytes, of which so many are left
@@ -114,32 +116,37 @@ token_counted Other b bs = omega arith
 
 -- ---- stops
 
-abbrev pub EndsFrom : ℕ → Finish → Type 0
-EndsFrom m (End p) = m ≤ p.offset
-EndsFrom m (Bad f) = m ≤ f.stop
-EndsFrom m Over = ⊥
+-- they rise from a number on, and the tokens are not cut
+abbrev Rise : ℕ → Ahead Found → Type 0
+Rise m s = Rises stop_of m s.tokens s.finish × (s.finish ≡ Over → ⊥)
 
--- each stop is at least this one, and those behind it at least that stop
-abbrev pub Rises : ℕ → List Found → Finish → Type 0
-Rises m [] e = EndsFrom m e
-Rises m (x ∷ xs) e = (m ≤ x.stop) × Rises x.stop xs e
+rise_by : (m : ℕ) (t : Bool) (x y : Ahead Found) → Rise m x → Rise m y → Rise m (cond t x y)
+rise_by m true x y p q = p
+rise_by m false x y p q = q
 
-rises_by : (m : ℕ) (t : Bool) (x y : Stream Found) → Rises m x.tokens x.finish → Rises m y.tokens y.finish → Rises m (cond t x y).tokens (cond t x y).finish
-rises_by m true x y p q = p
-rises_by m false x y p q = q
+rise_then : (m left : ℕ) (p : Place) (bs : List ℕ) (x : Result (Piece Token) Flaw) (after : ℕ → Ahead Found) → m ≤ p.offset + 1 → Counted left x
+    → ((piece : Piece Token) → Counts left piece → Rise (p.offset + piece.seen) (after piece.count)) → Rise m (then_tokens p bs x after)
+rise_then m left p bs (Ok piece) after le h rest = let r = rest piece h in ((omega (arith, le, h.some), r.0), r.1)
+rise_then m left p bs (Err f) after le h rest = (omega (arith, le, h), λ e. cc)
 
-rises_then : (m left : ℕ) (p : Place) (bs : List ℕ) (x : Result (Piece Token) Flaw) (after : ℕ → Stream Found) → m ≤ p.offset + 1 → Counted left x
-    → ((piece : Piece Token) → Counts left piece → Rises (p.offset + piece.seen) (after piece.count).tokens (after piece.count).finish) → Rises m (then_tokens p bs x after).tokens (then_tokens p bs x after).finish
-rises_then m left p bs (Ok piece) after le h rest = (omega (arith, le, h.some), rest piece h)
-rises_then m left p bs (Err f) after le h rest = omega (arith, le, h)
-
-pub rises : (skipped : ℕ) (p : Place) (bs : List ℕ) (m : ℕ) → m ≤ p.offset + skipped + 1 → (length bs ≤ skipped → m ≤ p.offset + length bs) → Rises m (tokens_from skipped p bs).tokens (tokens_from skipped p bs).finish
+rise_from : (skipped : ℕ) (p : Place) (bs : List ℕ) (m : ℕ) → m ≤ p.offset + skipped + 1 → (length bs ≤ skipped → m ≤ p.offset + length bs) → Rise m (tokens_from skipped p bs)
 unfolding tokens_from token_at
-rises zero p [] m le end = let h = end (omega arith) in omega (arith, h)
-rises (suc n) p [] m le end = let h = end (omega arith) in omega (arith, h)
-rises (suc n) p (b ∷ bs) m le end = rises n (place_after p b) bs m (omega (arith, le)) (λ l. let h = end (omega (arith, l)) in omega (arith, h))
-rises zero p (b ∷ bs) m le end =
-    rises_by m (is_space b) (tokens_from zero (place_after p b) bs) (then_tokens p (b ∷ bs) (token_at b bs) (λ count. tokens_from (count - 1) (place_after p b) bs))
-    (rises zero (place_after p b) bs m (omega (arith, le)) (λ l. omega (arith, le)))
-    (rises_then m (suc (length bs)) p (b ∷ bs) (token_at b bs) (λ count. tokens_from (count - 1) (place_after p b) bs) (omega (arith, le)) (token_counted (start_of b) b bs)
-    (λ piece h. let near = h.near in let there = h.there in rises (piece.count - 1) (place_after p b) bs (p.offset + piece.seen) (omega (arith, near)) (λ l. omega (arith, there))))
+rise_from zero p [] m le end = ((let h = end (omega arith) in omega (arith, h), refl, refl), λ e. cc)
+rise_from (suc n) p [] m le end = ((let h = end (omega arith) in omega (arith, h), refl, refl), λ e. cc)
+rise_from (suc n) p (b ∷ bs) m le end = rise_from n (place_after p b) bs m (omega (arith, le)) (λ l. let h = end (omega (arith, l)) in omega (arith, h))
+rise_from zero p (b ∷ bs) m le end =
+    rise_by m (is_space b) (tokens_from zero (place_after p b) bs) (then_tokens p (b ∷ bs) (token_at b bs) (λ count. tokens_from (count - 1) (place_after p b) bs))
+    (rise_from zero (place_after p b) bs m (omega (arith, le)) (λ l. omega (arith, le)))
+    (rise_then m (suc (length bs)) p (b ∷ bs) (token_at b bs) (λ count. tokens_from (count - 1) (place_after p b) bs) (omega (arith, le)) (token_counted (start_of b) b bs)
+    (λ piece h. let near = h.near in let there = h.there in rise_from (piece.count - 1) (place_after p b) bs (p.offset + piece.seen) (omega (arith, near)) (λ l. omega (arith, there))))
+
+rise : (text : List ℕ) → Rise 0 (all_tokens text)
+rise text = rise_from 0 place_at_start text 0 (omega arith) (λ _. omega arith)
+
+-- the stops of the tokens of a text rise
+pub rises : (text : List ℕ) → Rises stop_of 0 (all_tokens text).tokens (all_tokens text).finish
+rises text = (rise text).0
+
+-- the tokens of a text are never cut without the limit
+pub never_over : (text : List ℕ) → (all_tokens text).finish ≡ Over → ⊥
+never_over text = (rise text).1

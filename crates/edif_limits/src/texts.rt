@@ -8,8 +8,8 @@ ghost use Rattle.nl_base.specs.declared.fault.TextFault.{TextFault};
 ghost use Rattle.nl_bytes.specs.declared.bytes.TheConstants.{LIMIT};
 ghost use Rattle.readers.specs.Readers.{fault_at};
 ghost use Rattle.edif_tokens.specs.declared.token.Found.{Found};
-ghost use Rattle.edif_tokens.specs.Stream.{all_tokens};
-ghost use Rattle.edif_keywords.specs.Language.{edif, ahead_of};
+ghost use Rattle.edif_tokens.specs.Language.{all_tokens};
+ghost use Rattle.edif_keywords.specs.Language.{edif};
 ghost use Rattle.edif_keywords.specs.Reasons.{trailing};
 ghost use Rattle.edif_values.specs.declared.file.EdifFile.{EdifFile};
 ghost use Rattle.edif_library.specs.Grammar.{file as file_part};
@@ -33,5 +33,5 @@ pub fn cut_behind_the_limit()
 
 /// The first token of a text that no file has there, after the tokens before it, is the first fault, for some reason; so is the end.
 pub fn first_fault_is_there()
-    ensures { (bytes : List ℕ) (before after : List (Terminal Found Place)) (x : Terminal Found Place) → (ahead_of (all_tokens bytes)).tokens ≡ before ++ x ∷ after → Begins [] (whole trailing (file_part [])) before → ¬ Begins [] (whole trailing (file_part [])) (before ++ x ∷ []) → (reason : Reason) × EdifFails bytes (fault_at edif x reason) }
+    ensures { (bytes : List ℕ) (before after : List (Terminal Found Place)) (x : Terminal Found Place) → (all_tokens bytes).tokens ≡ before ++ x ∷ after → Begins [] (whole trailing (file_part [])) before → ¬ Begins [] (whole trailing (file_part [])) (before ++ x ∷ []) → (reason : Reason) × EdifFails bytes (fault_at edif x reason) }
 {}

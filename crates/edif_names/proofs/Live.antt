@@ -1,5 +1,5 @@
 -- From each place in a name, a scaled number or a property some tokens lead to its end, and none of its texts goes on to another.
-use Rattle.std.proofs.Common.{◌≡◌, refl, ℕ, Bool, true, false, cond, List, [], ◌∷◌, None, inl, inr}
+use Rattle.std.proofs.Common.{◌≡◌, refl, ℕ, Bool, true, false, List, [], ◌∷◌, None, inl, inr}
 use Rattle.grammar.specs.Part.{gives, sequence, leaves}
 use Rattle.grammar.specs.Clear.{First, Empty}
 use Rattle.grammar.specs.Whole.{proper}

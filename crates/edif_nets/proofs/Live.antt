@@ -1,5 +1,5 @@
 -- From each place in a port, an instance or a net some tokens lead to its end, and none of its texts goes on to another.
-use Rattle.std.proofs.Common.{◌≡◌, refl, Bool, true, false, cond, List, [], ◌∷◌, None, codes}
+use Rattle.std.proofs.Common.{◌≡◌, refl, Bool, true, false, List, [], ◌∷◌, None, codes}
 use Rattle.grammar.specs.Part.{gives, sequence}
 use Rattle.nl_base.specs.declared.value.Dir.TheVariants as dirs
 use Rattle.readers.proofs.Items.{live_as_item, closed_as_item, live_one_of, closed_one_of}
@@ -9,10 +9,9 @@ use Rattle.readers.proofs.Shapes.{live_if, shut_gives, shut_one, shut_then, shut
 use Rattle.edif_values.specs.declared.keyword.Keyword.{Keyword}
 use Rattle.edif_values.specs.declared.keyword.Keyword.TheVariants as k
 use Rattle.edif_values.specs.Keywords.{has, same_keyword}
-use Rattle.edif_keywords.specs.Language.{Edif}
 use Rattle.edif_keywords.specs.Reasons as say
 use Rattle.edif_keywords.specs.Reasons.{meant_by}
-use Rattle.edif_keywords.specs.Grammar.{word, string, integer, closing, keyword, form_or}
+use Rattle.edif_keywords.specs.Grammar.{closing, keyword, form_or}
 use Rattle.edif_keywords.proofs.Live.{Lives, Closes, live_word, live_string, live_integer, live_closing, live_choice, live_keyword, live_begin, closed_keyword, closed_closing, closed_begin, closing_leaves, word_leaves, live_items, closed_items}
 use Rattle.edif_names.proofs.Live.{closed_word, closed_string, closed_integer, live_name, closed_name, live_port_name, closed_port_name, live_property, closed_property}
 use Rattle.edif_status.proofs.Live.{live_note, closed_note}

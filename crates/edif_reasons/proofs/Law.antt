@@ -17,10 +17,12 @@ use Rattle.nl_base.specs.declared.fault.Reason.{Reason}
 use Rattle.nl_base.specs.declared.fault.TextFault.{TextFault}
 use Rattle.readers.specs.Parts.{PartOf}
 use Rattle.readers.specs.Readers.{fault_at}
+use Rattle.readers.specs.Rises.{Rises}
+use Rattle.readers.proofs.Limited.{ends_there}
 use Rattle.edif_tokens.specs.declared.token.Found.{Found}
-use Rattle.edif_tokens.specs.Stream.{all_tokens}
+use Rattle.edif_tokens.specs.Language.{stop_of, all_tokens}
 use Rattle.edif_keywords.specs.Aliases.{Alias}
-use Rattle.edif_keywords.specs.Language.{edif, ahead_of}
+use Rattle.edif_keywords.specs.Language.{edif}
 use Rattle.edif_keywords.specs.Reasons as say
 use Rattle.edif_values.specs.declared.file.EdifFile.{EdifFile}
 use Rattle.edif_library.specs.Grammar.{file}
@@ -28,7 +30,7 @@ use Rattle.edif_library.specs.Text.{EdifFault}
 use Rattle.edif_library.proofs.Live.{live_file, closed_file}
 use Rattle.edif_library.specs.AnyLength.{EdifFails}
 use Rattle.edif_limits.proofs.Law.{faults}
-use Rattle.edif_limits.proofs.Looked.{end_is_last}
+use Rattle.edif_limits.proofs.Stops.{rises}
 use Rattle.edif_reasons.specs.Context.{Tokens, at_start}
 use Rattle.edif_reasons.specs.Rows.{reason_row}
 use Rattle.edif_reasons.specs.FirstFault.{GoesOn, FailsByTable, FailsEarlyByTable, of_token, of_no_token}
@@ -87,7 +89,7 @@ module _ (before : Tokens) (x : Terminal Found Place) (r : Reason) (goes_on : Be
       by_places s.0 s.1 s.2 s.3 (s.4 []) (places before x [] s.0 x s.1 s.2)
 
 abbrev all_ahead : List ℕ → Tokens
-all_ahead bs = (ahead_of (all_tokens bs)).tokens
+all_ahead bs = (all_tokens bs).tokens
 
 -- what has a token behind it is no whole text
 no_text : (bs : List ℕ) (before after : Tokens) (x : Terminal Found Place) → all_ahead bs ≡ before ++ x ∷ after → (v : EdifFile)
@@ -96,7 +98,7 @@ no_text bs before after x e v h =
     let n = whole_ends say.trailing [] (file []) before v h in
     let place : all_ahead bs ≡ n.0 ++ end n.1 ∷ (x ∷ after) = e ∙ ap (λ (z : Tokens). z ++ x ∷ after) n.2 ∙ append_assoc n.0 (end n.1 ∷ [])
     (x ∷ after) in
-    let none = (end_is_last (all_tokens bs).tokens (all_tokens bs).finish n.0 (x ∷ after) n.1 place).nothing in
+    let none = (ends_there stop_of 0 n.0 (x ∷ after) n.1 (all_tokens bs).finish (subst (λ (z : Tokens). Rises stop_of 0 z (all_tokens bs).finish) place (rises bs))).nothing in
     absurd cc
 
 to_table : (bs : List ℕ) (f : TextFault) → EdifFails bs f → FailsByTable bs f

@@ -7,8 +7,8 @@ use Rattle.nl_base.specs.declared.fault.TextFault.{TextFault}
 use Rattle.nl_bytes.specs.declared.bytes.TheConstants.{LIMIT}
 use Rattle.readers.specs.Readers.{fault_at}
 use Rattle.edif_tokens.specs.declared.token.Found.{Found}
-use Rattle.edif_tokens.specs.Stream.{all_tokens}
-use Rattle.edif_keywords.specs.Language.{edif, ahead_of}
+use Rattle.edif_tokens.specs.Language.{all_tokens}
+use Rattle.edif_keywords.specs.Language.{edif}
 use Rattle.edif_keywords.specs.Reasons as say
 use Rattle.edif_library.specs.Grammar.{file}
 use Rattle.edif_reasons.specs.Context.{Tokens}
@@ -16,11 +16,11 @@ use Rattle.edif_reasons.specs.Rows.{reason_row}
 
 -- all tokens of the bytes, with the end of the bytes where they come to it
 abbrev pub tokens : List ℕ → Tokens
-tokens bytes = (ahead_of (all_tokens bytes)).tokens
+tokens bytes = (all_tokens bytes).tokens
 
 -- what comes behind them
 abbrev pub rest : List ℕ → Finish TextFault
-rest bytes = (ahead_of (all_tokens bytes)).finish
+rest bytes = (all_tokens bytes).finish
 
 -- some text of a file begins with these tokens
 abbrev pub GoesOn : Tokens → Type 0

@@ -6,8 +6,7 @@ use Rattle.grammar.specs.Whole.{whole, the_end}
 use Rattle.nl_base.specs.Place.{place_at_start}
 use Rattle.nl_bytes.proofs.Uses.{AllByRecursion-push}
 use Rattle.edif_values.specs.Proper.{AreBytes}
-use Rattle.edif_tokens.specs.Stream.{stream_from}
-use Rattle.edif_tokens.proofs.Proper.{tokens_proper}
+use Rattle.edif_tokens.proofs.Proper.{tokens_sound}
 use Rattle.edif_values.specs.declared.keyword.Keyword.{Keyword}
 use Rattle.edif_values.specs.declared.keyword.Keyword.TheVariants as k
 use Rattle.edif_values.specs.Keywords.{has, same_keyword}
@@ -16,7 +15,7 @@ use Rattle.edif_keywords.specs.Language.{Edif}
 use Rattle.edif_keywords.specs.Reasons.{trailing}
 use Rattle.edif_values.specs.Values.{IsWord, IsNameDef, IsNote, is_contents, is_view, IsInterfaceItem, IsContentsItem, IsViewItem, IsView, IsCellItem, IsCell, IsScale, IsLibraryItem, IsLibrary, IsDesignItem, IsDesign, IsFileItem, IsEdifValue}
 use Rattle.edif_keywords.specs.Grammar.{closing, begin, level, header}
-use Rattle.edif_keywords.proofs.Kept.{Kept, sound_tokens, kept_gives, kept_then, kept_after, kept_cond, kept_weaker, kept_word, kept_items, kept_all}
+use Rattle.edif_keywords.proofs.Kept.{Kept, kept_gives, kept_then, kept_after, kept_cond, kept_weaker, kept_word, kept_items, kept_all}
 use Rattle.edif_names.proofs.Kept.{kept_name, kept_scaled, kept_property}
 use Rattle.edif_values.specs.declared.name.NameDef.{NameDef}
 use Rattle.edif_status.specs.Grammar.{note, note_keywords}
@@ -179,4 +178,4 @@ kept_whole = kept_then (kept_file []) (λ v is. kept_after (the_end trailing) (�
 -- A text of a file reads as one that can be written.
 pub read_values : (bs : List ℕ) (v : EdifFile) → AreBytes bs → EdifReads bs v → IsEdifValue v
 read_values bs v all reads =
-    kept_whole.kept [] _ v (sound_tokens (stream_from place_at_start bs).tokens (stream_from place_at_start bs).finish (tokens_proper place_at_start bs all)) reads.0
+    kept_whole.kept [] _ v (tokens_sound place_at_start bs all) reads.0

@@ -1,5 +1,5 @@
 -- From each place in user data, a note or a status some tokens lead to its end, and none of its texts goes on to another.
-use Rattle.std.proofs.Common.{◌≡◌, refl, ℕ, zero, suc, Bool, true, false, cond, List, [], ◌∷◌, ◌++◌, None, Ok, ℤ}
+use Rattle.std.proofs.Common.{◌≡◌, refl, ℕ, zero, suc, List, [], ◌∷◌, ◌++◌, None, Ok, ℤ}
 use Rattle.grammar.specs.Part.{gives, sequence, leaves}
 use Rattle.edif_values.specs.declared.token.Token.{Token}
 use Rattle.edif_values.specs.declared.token.Token.TheVariants.{LeftParen, RightParen, Word, Number, Str}

@@ -16,7 +16,7 @@ use Rattle.edif_values.specs.declared.token.Token.{Token}
 use Rattle.edif_values.specs.declared.token.Token.TheVariants.{Word, Number, Str}
 use Rattle.edif_tokens.specs.declared.scan.Start.{Start}
 use Rattle.edif_tokens.specs.declared.scan.Start.TheVariants.{Open, Close, Quote, Letter, Ampersand, Digit, Sign, Other}
-use Rattle.edif_tokens.specs.Flaws.{Piece, Flaw, flaw, ◌>>=◌}
+use Rattle.nl_bytes.specs.Flaws.{Piece, Flaw, flaw, ◌>>=◌}
 use Rattle.edif_tokens.specs.Strings.{Within, Escape, Code, string_at, is_full}
 use Rattle.edif_tokens.specs.Strings as within
 use Rattle.edif_tokens.specs.Spelling.{span_at, ended, may_follow, goes_on, text_at, word_of, number_of, number_or_range, integer_of, str_of, token_by}

@@ -1,26 +1,27 @@
 -- The bytes of a front of the tokens of some bytes, and its tokens read again where other bytes stand behind them.
-use Rattle.std.proofs.Common.{◌≡◌, ℕ, suc, ◌-◌, Bool, true, false, cond, List, [], ◌∷◌, ◌++◌, length, Ok, Err, Result, refl, sym, ap, ◌∙◌, subst, arith, append_assoc}
+use Rattle.std.proofs.Common.{◌≡◌, ℕ, suc, ◌-◌, Bool, true, false, cond, List, [], ◌∷◌, ◌++◌, length, map, Ok, Err, Result, refl, sym, ap, ◌∙◌, subst, arith, append_assoc}
+use Rattle.grammar.specs.Whole.{Terminal, proper}
 use Rattle.grammar_alike.specs.Alike.{AreAlike}
 use Rattle.nl_base.specs.declared.place.Place.{Place}
 use Rattle.nl_base.specs.Place.{place_after, place_past}
 use Rattle.nl_base.proofs.Places.{place_past-append}
 use Rattle.nl_bytes.specs.Classes.{is_space}
+use Rattle.nl_bytes.specs.Tokens.{Ahead, follow}
 use Rattle.edif_tokens.specs.declared.token.Found.{Found}
 use Rattle.edif_values.specs.declared.token.Token.{Token}
-use Rattle.edif_tokens.specs.Flaws.{Piece, Flaw}
+use Rattle.nl_bytes.specs.Flaws.{Piece, Flaw}
 use Rattle.edif_tokens.specs.Spelling.{token_at, start_of}
-use Rattle.edif_tokens.specs.Streams.{Stream, follow}
-use Rattle.edif_tokens.specs.Stream.{tokens_from, then_tokens, found_at}
+use Rattle.edif_tokens.specs.Language.{tokens_from, then_tokens, found_at}
 use Rattle.edif_lexing.proofs.Lexing.{Parts, piece}
 use Rattle.edif_texts_go_on.specs.Onward.{IsSame}
 use Rattle.edif_texts_go_on.proofs.Again.{token_again}
 
 -- tokens, and a stream behind them
-abbrev pub followed : List Found → Stream Found → Stream Found
-followed xs s = record { tokens = xs ++ s.tokens; finish = s.finish }
+abbrev pub followed : List Found → Ahead Found → Ahead Found
+followed xs s = record { tokens = map proper xs ++ s.tokens; finish = s.finish }
 
 -- the bytes up to the end of the next token, and those behind
-record Next (p : Place) (bs : List ℕ) (x : Found) (others : List Found) : Type 0 where
+record Next (p : Place) (bs : List ℕ) (x : Found) (others : List (Terminal Found Place)) : Type 0 where
   used : List ℕ
   rest : List ℕ
   parts : bs ≡ used ++ rest
@@ -50,9 +51,9 @@ behind_token p b tail rest value seen space spelled =
     let less : suc (length tail) - 1 ≡ length tail = omega arith in
     first_token p b (tail ++ rest) value (suc (length tail)) seen space spelled
     ∙ ap (λ (n : ℕ). follow here (tokens_from n (place_after p b) (tail ++ rest))) less
-    ∙ ap (λ (s : Stream Found). follow here s) (tokens_behind (place_after p b) tail rest)
+    ∙ ap (λ (s : Ahead Found). follow here s) (tokens_behind (place_after p b) tail rest)
 
-next_space : (p : Place) (b : ℕ) (bs : List ℕ) (x : Found) (others : List Found) → is_space b ≡ true → Next (place_after p b) bs x others
+next_space : (p : Place) (b : ℕ) (bs : List ℕ) (x : Found) (others : List (Terminal Found Place)) → is_space b ≡ true → Next (place_after p b) bs x others
     → Next p (b ∷ bs) x others
 next_space p b bs x others is n = record {
   used = b ∷ n.used;
@@ -62,11 +63,11 @@ next_space p b bs x others is n = record {
   again = λ other h. let a = n.again other h in (a.0, a.1, behind_space p b (n.used ++ other) is ∙ a.2);
 }
 
-head_is : (x y : Found) (xs ys : List Found) → x ∷ xs ≡ y ∷ ys → (x ≡ y) × (xs ≡ ys)
+head_is : (x y : Found) (xs ys : List (Terminal Found Place)) → proper x ∷ xs ≡ proper y ∷ ys → (x ≡ y) × (xs ≡ ys)
 head_is x y xs ys e = (cc, cc)
 
-next_token : (p : Place) (b : ℕ) (bs : List ℕ) (x : Found) (others : List Found) (token : Piece Token) → is_space b ≡ false → token_at b bs ≡ Ok token
-    → found_at p token ∷ (tokens_from (token.count - 1) (place_after p b) bs).tokens ≡ x ∷ others → Next p (b ∷ bs) x others
+next_token : (p : Place) (b : ℕ) (bs : List ℕ) (x : Found) (others : List (Terminal Found Place)) (token : Piece Token) → is_space b ≡ false → token_at b bs ≡ Ok token
+    → proper (found_at p token) ∷ (tokens_from (token.count - 1) (place_after p b) bs).tokens ≡ proper x ∷ others → Next p (b ∷ bs) x others
 unfolding token_at
 next_token p b bs x others token space spelled e =
     let t = token_again (start_of b) b bs token spelled in
@@ -80,25 +81,25 @@ next_token p b bs x others token space spelled e =
       used = b ∷ t.tail;
       rest = t.rest;
       parts = ap (λ (z : List ℕ). b ∷ z) t.parts;
-      behind = sym (ap (λ (s : Stream Found). s.tokens) behind) ∙ is.1;
+      behind = sym (ap (λ (s : Ahead Found). s.tokens) behind) ∙ is.1;
       again = λ other h.
           let a = t.again other h in
           let y : Found = found_at p (record { value = token.value; count = suc (length t.tail); seen = a.0 }) in
           (y, record { token = ap (λ (f : Found). f.token) (sym is.0); place = ap (λ (f : Found). f.place) (sym is.0) }, behind_token p b t.tail other token.value a.0 space a.1);
     }
 
-next : (p : Place) (bs : List ℕ) (x : Found) (others : List Found) → (tokens_from 0 p bs).tokens ≡ x ∷ others → Next p bs x others
+next : (p : Place) (bs : List ℕ) (x : Found) (others : List (Terminal Found Place)) → (tokens_from 0 p bs).tokens ≡ proper x ∷ others → Next p bs x others
 unfolding tokens_from
 next p [] x others e = absurd cc
 next p (b ∷ bs) x others e = by (is_space b) refl (next (place_after p b) bs x others) e
   where
     by_token : (r : Result (Piece Token) Flaw) → token_at b bs ≡ r → is_space b ≡ false
-        → (then_tokens p (b ∷ bs) r (λ count. tokens_from (count - 1) (place_after p b) bs)).tokens ≡ x ∷ others → Next p (b ∷ bs) x others
+        → (then_tokens p (b ∷ bs) r (λ count. tokens_from (count - 1) (place_after p b) bs)).tokens ≡ proper x ∷ others → Next p (b ∷ bs) x others
     by_token (Ok token) spelled space e = next_token p b bs x others token space spelled e
     by_token (Err f) spelled space e = absurd cc
 
-    by : (t : Bool) → is_space b ≡ t → ((tokens_from 0 (place_after p b) bs).tokens ≡ x ∷ others → Next (place_after p b) bs x others)
-        → (cond t (tokens_from 0 (place_after p b) bs) (then_tokens p (b ∷ bs) (token_at b bs) (λ count. tokens_from (count - 1) (place_after p b) bs))).tokens ≡ x ∷ others
+    by : (t : Bool) → is_space b ≡ t → ((tokens_from 0 (place_after p b) bs).tokens ≡ proper x ∷ others → Next (place_after p b) bs x others)
+        → (cond t (tokens_from 0 (place_after p b) bs) (then_tokens p (b ∷ bs) (token_at b bs) (λ count. tokens_from (count - 1) (place_after p b) bs))).tokens ≡ proper x ∷ others
         → Next p (b ∷ bs) x others
     by true is rest e = next_space p b bs x others is (rest e)
     by false is rest e = by_token (token_at b bs) refl is e
@@ -117,10 +118,10 @@ parts_on : (used rest other : List ℕ) → (Parts rest → Parts other) → Par
 parts_on [] rest other h k = h k
 parts_on (b ∷ used) rest other h k = k
 
-pub splits : (front others : List Found) (p : Place) (bs : List ℕ) → (tokens_from 0 p bs).tokens ≡ front ++ others → Splits p bs front
+pub splits : (front : List Found) (others : List (Terminal Found Place)) (p : Place) (bs : List ℕ) → (tokens_from 0 p bs).tokens ≡ map proper front ++ others → Splits p bs front
 splits [] others p bs e = record { used = []; rest = bs; parts = refl; again = λ other h. ([], tt, refl) }
 splits (x ∷ front) others p bs e =
-    let n = next p bs x (front ++ others) e in
+    let n = next p bs x (map proper front ++ others) e in
     let s = splits front others (place_past p n.used) n.rest n.behind in
     record {
       used = n.used ++ s.used;
@@ -131,7 +132,7 @@ splits (x ∷ front) others p bs e =
           let b = n.again (s.used ++ other) (λ k. parts_on s.used s.rest other h (subst Parts s.parts k)) in (
             b.0 ∷ a.0,
             (b.1, a.1),
-            ap (tokens_from 0 p) (append_assoc n.used s.used other) ∙ b.2 ∙ ap (λ (z : Stream Found). follow b.0 z) a.2
+            ap (tokens_from 0 p) (append_assoc n.used s.used other) ∙ b.2 ∙ ap (λ (z : Ahead Found). follow b.0 z) a.2
                 ∙ ap (λ (q : Place). followed (b.0 ∷ a.0) (tokens_from 0 q other)) (sym (place_past-append p n.used s.used)),
           );
     }

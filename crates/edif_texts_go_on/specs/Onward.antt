@@ -1,13 +1,13 @@
 -- Texts that go on from a front of the tokens of some bytes (EDIF 2 0 0, basic syntax and edif).
-use Rattle.std.specs.Prelude.{◌≡◌, ◌≤◌, ℕ, List, [], ◌∷◌, ◌++◌, length}
+use Rattle.std.specs.Prelude.{◌≡◌, ◌≤◌, ℕ, List, [], ◌∷◌, ◌++◌, map, length}
+use Rattle.grammar.specs.Whole.{Terminal, proper, end, Finish, Done, Bad, Over}
 use Rattle.grammar_alike.specs.Alike.{AreAlike}
 use Rattle.nl_base.specs.declared.fault.TextFault.{TextFault}
+use Rattle.nl_base.specs.declared.place.Place.{Place}
 use Rattle.nl_bytes.specs.declared.bytes.TheConstants.{LIMIT}
 use Rattle.edif_tokens.specs.declared.token.Found.{Found}
-use Rattle.edif_tokens.specs.Streams.{Finish, End, Bad, Over}
-use Rattle.edif_tokens.specs.Stream.{all_tokens, tokens}
+use Rattle.edif_tokens.specs.Language.{all_tokens, tokens}
 use Rattle.edif_values.specs.Proper.{AreBytes}
-use Rattle.edif_lexing.specs.Lexing.{EndsWell}
 use Rattle.edif_values.specs.declared.file.EdifFile.{EdifFile}
 use Rattle.edif_library.specs.Text.{EdifReads}
 use Rattle.edif_library.specs.AnyLength.{EdifSpells}
@@ -29,12 +29,14 @@ pub record GoesOnFrom (bytes : List ℕ) (front : List Found) (text : List ℕ) 
   pub of_bytes : bytes ≡ used ++ behind
   pub of_text : text ≡ used ++ more
   -- the bytes of the front have its tokens and no others
-  pub used_are : AreAlike IsSame front (all_tokens used).tokens
-  pub used_end : EndsWell (all_tokens used).finish
+  pub alone : List Found
+  pub last : Place
+  pub used_tokens : (all_tokens used).tokens ≡ map proper alone ++ end last ∷ []
+  pub used_are : AreAlike IsSame front alone
   -- the tokens of the text begin with them
   pub same : List Found
-  pub others : List Found
-  pub tokens : (all_tokens text).tokens ≡ same ++ others
+  pub others : List (Terminal Found Place)
+  pub tokens : (all_tokens text).tokens ≡ map proper same ++ others
   pub are_same : AreAlike IsSame front same
 
 -- some text goes on so and is a file; where the limit of an input allows it, it reads as the file
@@ -44,10 +46,11 @@ GoesOnToFile bytes front =
     × (AreBytes bytes → AreBytes text) × EdifSpells text file
     × (length text ≤ LIMIT → EdifReads text file)
 
--- the fault stands at the next token, or behind the last
-abbrev pub StandsAt : TextFault → List Found → Finish → Type 0
-StandsAt fault (x ∷ rest) finish = (fault.place ≡ x.place) × (fault.stop ≡ x.stop)
-StandsAt fault [] (End p) = (fault.place ≡ p) × (fault.stop ≡ p.offset)
+-- the fault stands at the next token or the end, or at bytes that are no token, behind the last
+abbrev pub StandsAt : TextFault → List (Terminal Found Place) → Finish TextFault → Type 0
+StandsAt fault (proper x ∷ rest) finish = (fault.place ≡ x.place) × (fault.stop ≡ x.stop)
+StandsAt fault (end p ∷ rest) finish = (fault.place ≡ p) × (fault.stop ≡ p.offset)
+StandsAt fault [] Done = ⊥
 StandsAt fault [] (Bad other) = fault ≡ other
 StandsAt fault [] Over = ⊥
 
@@ -55,5 +58,6 @@ StandsAt fault [] Over = ⊥
 -- fault stands.
 abbrev pub GoesOnBefore : List ℕ → TextFault → Type 0
 GoesOnBefore bytes fault =
-    (front : List Found) × (rest : List Found) × ((tokens bytes).tokens ≡ front ++ rest)
+    (front : List Found) × (rest : List (Terminal Found Place))
+    × ((tokens bytes).tokens ≡ map proper front ++ rest)
     × StandsAt fault rest (tokens bytes).finish × GoesOnToFile bytes front

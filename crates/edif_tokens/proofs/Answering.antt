@@ -14,7 +14,7 @@ use Rattle.edif_tokens.specs.declared.lexeme.Spanned.{Spanned}
 use Rattle.edif_tokens.specs.declared.token.Found.{Found}
 use Rattle.edif_values.specs.declared.token.Token.{Token}
 use Rattle.edif_tokens.specs.Spelling.{Piece, Flaw, ◌>>=◌, span_at, text_of, text_at}
-use Rattle.edif_tokens.specs.Stream.{found_at}
+use Rattle.edif_tokens.specs.Language.{found_at}
 use Rattle.edif_tokens.specs.Scan.{Answers, seen_of, IsLed, Leads, Spans, Begins, ReadsText}
 use Rattle.edif_tokens.proofs.Spans.{GivesText, seen-text_of, text_unseen, of_error}
 

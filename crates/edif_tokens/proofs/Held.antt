@@ -27,8 +27,8 @@ use Rattle.edif_values.specs.declared.token.Token.TheVariants.{Word, Number, Str
 use Rattle.edif_tokens.proofs.Quoted.{Steps, string_given}
 use Rattle.edif_tokens.proofs.Strings.{plain_part}
 use Rattle.edif_tokens.specs.declared.lexeme.Spanned.{Spanned}
-use Rattle.edif_tokens.specs.Flaws.{Piece, Flaw}
-use Rattle.edif_tokens.specs.Scan.{Answers, IsLed, IsUnseen, IsWhole, IsQuoted, ReadsText, Reads, refusal, ending, number_or_refusal, number_found}
+use Rattle.nl_bytes.specs.Flaws.{Piece, Flaw, refusal}
+use Rattle.edif_tokens.specs.Scan.{Answers, IsLed, IsUnseen, IsWhole, IsQuoted, ReadsText, Reads, ending, number_or_refusal, number_found}
 use Rattle.edif_tokens.specs.declared.scan.Start.TheVariants.{Other}
 use Rattle.edif_tokens.specs.Spelling.{span_at, text_of, text_at, token_by, may_follow, word_of, number_of, number_or_range, integer_of, word_spelled, number_spelled, string_spelled}
 use Rattle.edif_tokens.proofs.Spans.{AllPass, GivesText, Spans-ending, refusal_answers, refusal_reads, text_unseen, bounded_refusal}

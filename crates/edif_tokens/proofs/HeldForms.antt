@@ -10,7 +10,7 @@ use Rattle.nl_io.specs.Sources.{Supply}
 use Rattle.edif_tokens.specs.declared.form.FormAt.{FormAt}
 use Rattle.edif_tokens.specs.Held.{is_near, space_length, past_space, front_mark, held_mark, past_mark, word_length, front_word, held_word, past_word}
 use Rattle.edif_tokens.specs.HeldForm.{no_form, opened, form_behind, form_at, ReadsForm}
-use Rattle.edif_tokens.specs.Streams.{State}
+use Rattle.nl_bytes.specs.Tokens.{State}
 use Rattle.edif_tokens.proofs.HeldTokens.{past_given, space_given, past_mark_is, word_enough, mark_taken, word_taken, word_within}
 
 -- there is as much white space as there are bytes, at most

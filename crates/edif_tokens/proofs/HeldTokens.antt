@@ -17,20 +17,19 @@ use Rattle.nl_bytes.specs.Bytes.{Window, Skips, given}
 use Rattle.nl_bytes.proofs.Uses.{Uses-front, Uses-byte}
 use Rattle.nl_bytes.proofs.Fronts.{front-all}
 use Rattle.nl_io.specs.Sources.{Supply}
-use Rattle.nl_bytes.specs.Tokens.{ReadsToken}
+use Rattle.nl_bytes.specs.Tokens.{State, ReadsToken}
 use Rattle.edif_tokens.specs.declared.scan.Start.{Start}
 use Rattle.edif_tokens.specs.declared.scan.Start.TheVariants.{Letter}
 use Rattle.edif_tokens.specs.declared.token.Found.{Found}
 use Rattle.edif_values.specs.declared.token.Token.TheVariants.{Word}
 use Rattle.edif_tokens.specs.Spelling.{may_follow, is_parenthesis, start_of, token_by, word_spelled}
 use Rattle.edif_tokens.specs.Scan.{IsLed, IsWhole, Reads}
-use Rattle.edif_tokens.specs.Streams.{State}
 use Rattle.edif_tokens.specs.Language.{edif}
 use Rattle.edif_tokens.specs.Held.{is_near, space_length, past, past_space, mark_token, front_mark, held_mark, past_mark, word_by, word_length, front_word, held_word, past_word}
 use Rattle.edif_tokens.proofs.Held.{word_whole, whole_each, whole_shape}
 use Rattle.edif_tokens.proofs.Words.{identifier_led}
 use Rattle.edif_tokens.proofs.Streams.{finds_found}
-use Rattle.edif_tokens.proofs.Readers.{reads_found}
+use Rattle.nl_bytes.proofs.Readers.{reads_found}
 
 -- ---- what is held
 

@@ -5,7 +5,6 @@ pub mod Strings
 pub mod Quoted
 pub mod Held
 pub mod Words
-pub mod Readers
 pub mod HeldTokens
 pub mod Limits
 pub mod Proper

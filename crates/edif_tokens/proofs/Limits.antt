@@ -3,21 +3,24 @@ use Rattle.std.proofs.Common.{◌≡◌, ℕ, zero, suc, ◌+◌, ◌-◌, ◌<�
 use Rattle.std.specs.Prelude.{ℤ, ◌*◌}
 use Rattle.std.specs.Char.{is_ascii_digit}
 use Rattle.std.specs.List.{prefix_len}
-use Rattle.std.proofs.lemmas.Bool.{ltb-true, le-ltb, cases_lt}
+use Rattle.std.proofs.lemmas.Bool.{ltb-true, cases_lt}
 use Rattle.std.proofs.lemmas.List.Sums.{prefix_len-le-length}
+use Rattle.grammar.specs.Whole.{Over}
 use Rattle.nl_base.specs.declared.place.Place.{Place}
 use Rattle.nl_base.specs.Place.{place_after, place_at_start}
 use Rattle.nl_bytes.specs.declared.bytes.TheConstants.{LIMIT}
 use Rattle.nl_bytes.specs.Bytes.{first}
 use Rattle.nl_bytes.specs.Classes.{is_space, is_word_byte}
+use Rattle.nl_bytes.specs.Tokens.{Ahead, follow, limited}
+use Rattle.nl_bytes.proofs.Limited.{token_near, fault_near, end_near}
 use Rattle.edif_tokens.specs.declared.token.Found.{Found}
 use Rattle.edif_values.specs.declared.token.Token.{Token}
 use Rattle.edif_tokens.specs.declared.scan.Start.{Start}
 use Rattle.edif_tokens.specs.declared.scan.Start.TheVariants.{Open, Close, Quote, Letter, Ampersand, Digit, Sign, Other}
 use Rattle.edif_tokens.specs.Strings.{Within, Parts, Escape, Code, string_at}
 use Rattle.edif_tokens.specs.Spelling.{Piece, Flaw, flaw, ◌>>=◌, span_at, text_of, ended, may_follow, text_at, token_by, token_at, start_of, number_or_range, integer_of, word_of, number_of, str_of}
-use Rattle.edif_tokens.specs.Streams.{Over, Stream, follow, limited}
-use Rattle.edif_tokens.specs.Stream.{stop_of, stream_from, tokens, all_tokens, tokens_from, then_tokens, found_at}
+use Rattle.nl_bytes.specs.Flaws.{fault_at}
+use Rattle.edif_tokens.specs.Language.{stop_of, stream_from, tokens, all_tokens, tokens_from, then_tokens, found_at}
 use Rattle.edif_tokens.specs.Scan.{seen_of}
 use Rattle.nl_base.specs.declared.fault.Reason.TheVariants.{BadByte, TokenTooLong}
 
@@ -107,21 +110,21 @@ token_within Other b bs = omega arith
 
 -- ---- texts
 
-limited_stops : (p : Place) (bs : List ℕ) (n : ℕ) (x : Result (Piece Token) Flaw) (after : ℕ → Stream Found) → p.offset + n ≤ LIMIT → seen_of x ≤ n → ((count : ℕ) → limited stop_of (after count) ≡ after count)
+limited_stops : (p : Place) (bs : List ℕ) (n : ℕ) (x : Result (Piece Token) Flaw) (after : ℕ → Ahead Found) → p.offset + n ≤ LIMIT → seen_of x ≤ n → ((count : ℕ) → limited stop_of (after count) ≡ after count)
     → limited stop_of (then_tokens p bs x after) ≡ then_tokens p bs x after
-unfolding limited
-limited_stops p bs n (Ok piece) after le seen rest = rw (le-ltb LIMIT (p.offset + piece.seen) (omega (arith, seen))) (ap (λ (s : Stream Found). follow (found_at p piece) s) (rest piece.count))
-limited_stops p bs n (Err f) after le seen rest = rw (le-ltb LIMIT (p.offset + f.seen) (omega (arith, seen))) refl
+limited_stops p bs n (Ok piece) after le seen rest =
+    let near : p.offset + piece.seen ≤ LIMIT = omega (arith, le, seen) in token_near stop_of (found_at p piece) (after piece.count) near ∙ ap (follow (found_at p piece)) (rest piece.count)
+limited_stops p bs n (Err f) after le seen rest = let near : p.offset + f.seen ≤ LIMIT = omega (arith, le, seen) in fault_near stop_of (fault_at p bs f) near
 
-limited_by : (t : Bool) (x y : Stream Found) → limited stop_of x ≡ x → limited stop_of y ≡ y → limited stop_of (cond t x y) ≡ cond t x y
+limited_by : (t : Bool) (x y : Ahead Found) → limited stop_of x ≡ x → limited stop_of y ≡ y → limited stop_of (cond t x y) ≡ cond t x y
 limited_by true x y e f = e
 limited_by false x y e f = f
 
 -- bytes that end within the limit are read whole
 limited_whole : (skipped : ℕ) (p : Place) (bs : List ℕ) → p.offset + length bs ≤ LIMIT → limited stop_of (tokens_from skipped p bs) ≡ tokens_from skipped p bs
-unfolding limited tokens_from token_at
-limited_whole zero p [] le = rw (le-ltb LIMIT p.offset (omega arith)) refl
-limited_whole (suc n) p [] le = rw (le-ltb LIMIT p.offset (omega arith)) refl
+unfolding tokens_from token_at
+limited_whole zero p [] le = end_near stop_of p (omega arith)
+limited_whole (suc n) p [] le = end_near stop_of p (omega arith)
 limited_whole (suc n) p (b ∷ bs) le = limited_whole n (place_after p b) bs (omega arith)
 limited_whole zero p (b ∷ bs) le =
     limited_by (is_space b) (tokens_from zero (place_after p b) bs) (then_tokens p (b ∷ bs) (token_at b bs) (λ count. tokens_from (count - 1) (place_after p b) bs))
@@ -129,11 +132,11 @@ limited_whole zero p (b ∷ bs) le =
     (limited_stops p (b ∷ bs) (suc (length bs)) (token_at b bs) (λ count. tokens_from (count - 1) (place_after p b) bs) le (token_within (start_of b) b bs)
     (λ count. limited_whole (count - 1) (place_after p b) bs (omega arith)))
 
-finish_stops : (p : Place) (bs : List ℕ) (x : Result (Piece Token) Flaw) (after : ℕ → Stream Found) → ((count : ℕ) → (after count).finish ≡ Over → ⊥) → (then_tokens p bs x after).finish ≡ Over → ⊥
+finish_stops : (p : Place) (bs : List ℕ) (x : Result (Piece Token) Flaw) (after : ℕ → Ahead Found) → ((count : ℕ) → (after count).finish ≡ Over → ⊥) → (then_tokens p bs x after).finish ≡ Over → ⊥
 finish_stops p bs (Ok piece) after rest e = rest piece.count e
 finish_stops p bs (Err f) after rest e = cc
 
-finish_by : (t : Bool) (x y : Stream Found) → (x.finish ≡ Over → ⊥) → (y.finish ≡ Over → ⊥) → (cond t x y).finish ≡ Over → ⊥
+finish_by : (t : Bool) (x y : Ahead Found) → (x.finish ≡ Over → ⊥) → (y.finish ≡ Over → ⊥) → (cond t x y).finish ≡ Over → ⊥
 finish_by true x y e f h = e h
 finish_by false x y e f h = f h
 
@@ -157,5 +160,5 @@ pub over_long : (p : Place) (bs : List ℕ) → (stream_from p bs).finish ≡ Ov
 unfolding stream_from
 over_long p bs over = elim (cases_lt LIMIT (p.offset + length bs)) [
   | inl lt ↦ lt
-  | inr le ↦ absurd (never_over 0 p bs (sym (ap (λ (s : Stream Found). s.finish) (limited_whole 0 p bs le)) ∙ over))
+  | inr le ↦ absurd (never_over 0 p bs (sym (ap (λ (s : Ahead Found). s.finish) (limited_whole 0 p bs le)) ∙ over))
 ]

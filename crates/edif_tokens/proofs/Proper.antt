@@ -7,10 +7,11 @@ use Rattle.std.proofs.lemmas.Bool.{ltb-true, ltb-false, leb-false}
 use Rattle.nl_base.specs.declared.place.Place.{Place}
 use Rattle.nl_base.specs.Place.{place_after}
 use Rattle.nl_base.specs.declared.fault.Reason.TheVariants.{BadByte, TokenTooLong}
-use Rattle.nl_bytes.specs.declared.bytes.TheConstants.{LIMIT}
 use Rattle.nl_bytes.specs.Bytes.{first}
 use Rattle.nl_bytes.specs.Classes.{is_space, is_word_byte, is_string_byte}
 use Rattle.nl_bytes.proofs.Fronts.{front-all}
+use Rattle.nl_bytes.specs.Tokens.{Ahead}
+use Rattle.nl_bytes.proofs.Limited.{limited_each}
 use Rattle.nl_bytes.proofs.Uses.{AllByRecursion-push}
 use Rattle.edif_tokens.specs.declared.token.Found.{Found}
 use Rattle.edif_values.specs.declared.token.Token.{Token}
@@ -18,10 +19,9 @@ use Rattle.edif_tokens.specs.declared.scan.Start.{Start}
 use Rattle.edif_tokens.specs.declared.scan.Start.TheVariants.{Open, Close, Quote, Letter, Ampersand, Digit, Sign, Other}
 use Rattle.edif_tokens.specs.Strings.{Within, Parts, Escape, Code, string_at, is_full}
 use Rattle.edif_tokens.specs.Spelling.{Piece, Flaw, flaw, ◌>>=◌, span_at, text_of, ended, may_follow, text_at, token_by, token_at, start_of, begins_word, number_or_range, integer_of, number_of, str_of, word_of, decimal_value}
-use Rattle.edif_tokens.specs.Streams.{Finish, Over, Stream, ends, follow, limited, limited_from}
-use Rattle.edif_tokens.specs.Stream.{stop_of, stream_from, tokens_from, then_tokens}
+use Rattle.edif_tokens.specs.Language.{stop_of, stream_from, tokens_from, then_tokens}
 use Rattle.edif_values.specs.Proper.{AreBytes, IsProper}
-use Rattle.edif_tokens.specs.Proper.{AreProper}
+use Rattle.edif_tokens.specs.Proper.{IsSound, AreSound}
 use Rattle.edif_tokens.proofs.Words.{identifier_of, letter_begins, ampersand_begins}
 
 -- ---- words and integers
@@ -149,29 +149,25 @@ token_proper Digit b bs is all = number_proper (text_at is_ascii_digit false (b 
 token_proper Sign b bs is all = number_proper (text_at is_ascii_digit true (b ∷ bs))
 token_proper Other b bs is all = tt
 
-proper_then : (p : Place) (bs : List ℕ) (x : Result (Piece Token) Flaw) (after : ℕ → Stream Found) → IfOk x (λ piece. IsProper piece.value) → ((count : ℕ) → AreProper (after count).tokens) → AreProper (then_tokens p bs x after).tokens
-proper_then p bs (Ok piece) after h rest = (h, rest piece.count)
-proper_then p bs (Err f) after h rest = tt
+sound_then : (p : Place) (bs : List ℕ) (x : Result (Piece Token) Flaw) (after : ℕ → Ahead Found) → IfOk x (λ piece. IsProper piece.value) → ((count : ℕ) → AreSound (after count).tokens) → AreSound (then_tokens p bs x after).tokens
+sound_then p bs (Ok piece) after h rest = (h, rest piece.count)
+sound_then p bs (Err f) after h rest = tt
 
-proper_by : (t : Bool) (x y : Stream Found) → AreProper x.tokens → AreProper y.tokens → AreProper (cond t x y).tokens
-proper_by true x y e f = e
-proper_by false x y e f = f
+sound_by : (t : Bool) (x y : Ahead Found) → AreSound x.tokens → AreSound y.tokens → AreSound (cond t x y).tokens
+sound_by true x y e f = e
+sound_by false x y e f = f
 
-all_proper : (skipped : ℕ) (p : Place) (bs : List ℕ) → AreBytes bs → AreProper (tokens_from skipped p bs).tokens
+all_sound : (skipped : ℕ) (p : Place) (bs : List ℕ) → AreBytes bs → AreSound (tokens_from skipped p bs).tokens
 unfolding tokens_from token_at
-all_proper zero p [] all = tt
-all_proper (suc n) p [] all = tt
-all_proper (suc n) p (b ∷ bs) all = all_proper n (place_after p b) bs all.1
-all_proper zero p (b ∷ bs) all =
-    proper_by (is_space b) (tokens_from zero (place_after p b) bs) (then_tokens p (b ∷ bs) (token_at b bs) (λ count. tokens_from (count - 1) (place_after p b) bs))
-    (all_proper zero (place_after p b) bs all.1)
-    (proper_then p (b ∷ bs) (token_at b bs) (λ count. tokens_from (count - 1) (place_after p b) bs) (token_proper (start_of b) b bs refl all.1) (λ count. all_proper (count - 1) (place_after p b) bs all.1))
+all_sound zero p [] all = (tt, tt)
+all_sound (suc n) p [] all = (tt, tt)
+all_sound (suc n) p (b ∷ bs) all = all_sound n (place_after p b) bs all.1
+all_sound zero p (b ∷ bs) all =
+    sound_by (is_space b) (tokens_from zero (place_after p b) bs) (then_tokens p (b ∷ bs) (token_at b bs) (λ count. tokens_from (count - 1) (place_after p b) bs))
+    (all_sound zero (place_after p b) bs all.1)
+    (sound_then p (b ∷ bs) (token_at b bs) (λ count. tokens_from (count - 1) (place_after p b) bs) (token_proper (start_of b) b bs refl all.1) (λ count. all_sound (count - 1) (place_after p b) bs all.1))
 
-limited_proper : (xs : List Found) (finish : Finish) → AreProper xs → AreProper (limited_from stop_of xs finish).tokens
-limited_proper [] finish all = tt
-limited_proper (x ∷ xs) finish all = proper_by (ltb LIMIT x.stop) (ends Over) (follow x (limited_from stop_of xs finish)) tt (all.0, limited_proper xs finish all.1)
-
--- the tokens of a text are proper
-pub tokens_proper : (p : Place) (bs : List ℕ) → AreBytes bs → AreProper (stream_from p bs).tokens
-unfolding stream_from limited
-tokens_proper p bs all = limited_proper (tokens_from 0 p bs).tokens (tokens_from 0 p bs).finish (all_proper 0 p bs all)
+-- the tokens of a text are sound
+pub tokens_sound : (p : Place) (bs : List ℕ) → AreBytes bs → AreSound (stream_from p bs).tokens
+unfolding stream_from
+tokens_sound p bs all = limited_each IsSound stop_of (tokens_from 0 p bs) (all_sound 0 p bs all)

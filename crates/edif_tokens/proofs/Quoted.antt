@@ -5,18 +5,18 @@ use Rattle.nl_base.specs.declared.fault.ReadError.{ReadError}
 use Rattle.nl_base.specs.declared.fault.ReadError.TheVariants.{ReadFault, NoMemory}
 use Rattle.nl_base.specs.Place.{place_after, place_past}
 use Rattle.nl_bytes.specs.Bytes.{Window, Uses, TakesWhenUsed, given}
-use Rattle.nl_bytes.proofs.Uses.{Uses-byte, Uses-trans}
+use Rattle.nl_bytes.proofs.Uses.{Uses-byte, Uses-trans, offset_grows}
 use Rattle.nl_bytes.proofs.Known.{Uses-known}
 use Rattle.edif_tokens.specs.declared.token.Found.{Found}
 use Rattle.edif_values.specs.declared.token.Token.{Token}
 use Rattle.edif_values.specs.declared.token.Token.TheVariants.{Str}
-use Rattle.edif_tokens.specs.Flaws.{Piece, Flaw, ◌>>=◌}
+use Rattle.nl_bytes.specs.Flaws.{Piece, Flaw, ◌>>=◌}
 use Rattle.edif_tokens.specs.Strings.{Parts, string_at}
 use Rattle.edif_tokens.specs.Spelling.{string_spelled, str_of}
-use Rattle.edif_tokens.specs.Stream.{found_at}
+use Rattle.edif_tokens.specs.Language.{found_at}
 use Rattle.edif_tokens.specs.Scan.{Answers, IsUnseen, ReadsPart, Reads}
 use Rattle.edif_tokens.proofs.Answering.{Answers-err-then, no_memory}
-use Rattle.edif_tokens.proofs.Spans.{offset_grows, of_error}
+use Rattle.edif_tokens.proofs.Spans.{of_error}
 
 -- the byte at which a reader stands was used
 pub record Steps (a b : Window) (byte : ℕ) : Type 0 where

@@ -10,7 +10,7 @@ use Rattle.nl_base.specs.declared.fault.Reason.{Reason}
 use Rattle.nl_base.specs.declared.fault.Reason.TheVariants.{BadByte, TokenTooLong}
 use Rattle.nl_base.specs.declared.fault.ReadError.{ReadError}
 use Rattle.nl_base.specs.declared.fault.ReadError.TheVariants.{Text, ReadFault, TooLong}
-use Rattle.nl_base.specs.Place.{place_after, place_past}
+use Rattle.nl_base.specs.Place.{place_past}
 use Rattle.nl_bytes.specs.declared.bytes.TheConstants.{LIMIT}
 use Rattle.nl_bytes.specs.declared.class.Class.{Class}
 use Rattle.nl_bytes.specs.declared.halt.Halt.{Halt}
@@ -18,18 +18,11 @@ use Rattle.nl_bytes.specs.declared.halt.Halt.TheVariants as halts
 use Rattle.nl_bytes.specs.Halts.{error_of}
 use Rattle.nl_bytes.specs.Classes.{in_class}
 use Rattle.nl_bytes.specs.Bytes.{first, Window, Uses, Runs, IsAhead, TakesWhenUsed, given}
-use Rattle.nl_base.proofs.Places.{place_past-append}
+use Rattle.nl_base.proofs.Places.{place_past-append, place_past-offset}
 use Rattle.nl_bytes.proofs.Known.{Uses-known, IsAhead-known}
 use Rattle.edif_tokens.specs.Spelling.{Piece, Flaw, flaw, span_at, text_of, ended, may_follow}
-use Rattle.edif_tokens.specs.Scan.{refusal, ending, ended_here, Answers, Spans, IsLast, IsUnseen, seen_of}
-
-pub offset_past : (p : Place) (bs : List ℕ) → (place_past p bs).offset ≡ p.offset + length bs
-offset_past p [] = omega arith
-offset_past p (b ∷ bs) = omega (arith, offset_past (place_after p b) bs)
-
--- the bytes that are used take the reader on
-pub offset_grows : {old new : Window} {l l' : Option (List ℕ)} {used : List ℕ} → Uses old new l l' used → new.place.offset ≡ old.place.offset + length used
-offset_grows {old} {new} {l} {l'} {used} u = ap (λ (q : Place). q.offset) u.place ∙ offset_past old.place used
+use Rattle.nl_bytes.specs.Flaws.{refusal}
+use Rattle.edif_tokens.specs.Scan.{ending, ended_here, Answers, Spans, IsLast, IsUnseen, seen_of}
 
 -- a refusal answers for the flaw at its place
 pub refusal_answers : {A B : Type 0} (p : Place) (bs : List ℕ) (Gives : Piece A → B → Type 0) (reason : Reason) (before seen : ℕ) (here : Place) (stop : ℕ)
@@ -120,7 +113,7 @@ pub ending_answers : (p here : Place) (after rest : List ℕ) (next : Option ℕ
 ending_answers p here after rest next at_place = by_length (ltb 1024 (length after))
   where
     offset : here.offset ≡ p.offset + length after
-    offset = ap (λ (q : Place). q.offset) at_place ∙ offset_past p after
+    offset = ap (λ (q : Place). q.offset) at_place ∙ place_past-offset p after
 
     by_byte : (t : Bool) → Answers p (after ++ rest) (GivesText p after) (cond t (Ok (record { value = after; count = length after; seen = length after + 1 })) (flaw BadByte (length after) (length after + 1)))
         (cond t (Ok (here.offset + 1)) (Err (refusal here (here.offset + 1) BadByte)))
@@ -264,7 +257,7 @@ Spans-halted {class} {m} {old} {new} {l} {l'} {before} {after} {h} runs p lead b
   answer = λ rest known.
       let k = Uses-known old new l l' runs.used rest runs.uses known in
       let seen = span_seen (in_class class) before runs.used k.0 runs.each (omega (arith, runs.bounded)) in
-      let place = ap (λ (q : Place). q.offset) (at_place p old new l l' before runs.used runs.uses begins) ∙ offset_past p (before ++ runs.used) in
+      let place = ap (λ (q : Place). q.offset) (at_place p old new l l' before runs.used runs.uses begins) ∙ place_past-offset p (before ++ runs.used) in
       subst (λ (r : List ℕ). Answers p (before ++ r) (GivesText p after) (span_at (in_class class) (length before) (before ++ r)) (Err (error_of h))) (sym k.2)
       (halted p (before ++ (runs.used ++ k.0)) (GivesText p after) (span_at (in_class class) (length before) (before ++ (runs.used ++ k.0))) h
       (λ is. let late = runs.too_long (ap at_err is) in omega (arith, late, seen, place, length-append before runs.used)));
@@ -301,6 +294,6 @@ pub Spans-bounded : {class : Class} {m : ℕ} {old new : Window} {l l' : Option 
     → OnText result (λ t. new.place.offset ≤ t.stop) × IfOk result (λ stop. new.place.offset ≤ stop)
 Spans-bounded {class} {m} {old} {new} {l} {l'} {before} {after} {next} runs p lead begins m-is here here-is n result result-is =
     let place = at_place p old new l l' before runs.used runs.uses begins in
-    let offset = ap (λ (q : Place). q.offset) place ∙ offset_past p (before ++ runs.used) in
+    let offset = ap (λ (q : Place). q.offset) place ∙ place_past-offset p (before ++ runs.used) in
     let facts = bounded_ending p here n next (omega (arith, offset, ap (λ (q : Place). q.offset) here-is, length-append before runs.used, runs.bounded)) in
     rw (result-is, ← here-is) facts

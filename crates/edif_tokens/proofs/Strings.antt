@@ -18,10 +18,11 @@ use Rattle.nl_bytes.specs.Classes.{AreIn, is_space, is_string_byte}
 use Rattle.nl_bytes.specs.Bytes.{Window, Uses, Skips, Runs, IsAhead, input, first}
 use Rattle.nl_bytes.proofs.Uses.{Uses-byte, Uses-none, Uses-trans}
 use Rattle.nl_bytes.proofs.Known.{Uses-known, IsAhead-known}
-use Rattle.edif_tokens.specs.Scan.{refusal, Answers, seen_of, Continues, ReadsPart}
+use Rattle.edif_tokens.specs.Scan.{Answers, seen_of, Continues, ReadsPart}
 use Rattle.edif_tokens.specs.Strings.{is_full, Codes, EndsCode}
-use Rattle.edif_tokens.proofs.Spans.{offset_past, refusal_answers, refusal_reads, at_place, halted, halted_used_up}
-use Rattle.edif_tokens.specs.Flaws.{Piece, Flaw, flaw}
+use Rattle.nl_base.proofs.Places.{place_past-offset}
+use Rattle.edif_tokens.proofs.Spans.{refusal_answers, refusal_reads, at_place, halted, halted_used_up}
+use Rattle.nl_bytes.specs.Flaws.{Piece, Flaw, flaw, refusal}
 use Rattle.edif_tokens.specs.Strings.{Within, Parts, Escape, Code, string_at, Digits}
 
 code-digit : (start code n b : ℕ) (value rest : List ℕ) → is_ascii_digit b ≡ true → 10 * code + (b - 48) ≤ 255
@@ -114,7 +115,7 @@ part_halted {from} {mid} {p} {start} {old} {new} {l} {l'} {v} {w} f to x h late 
   spelled = λ front bs rest s le st place known new_known parts.
       let one = f.spelled front bs rest s le st place known new_known parts in
       let far = string_seen (mid s) w (length front + length f.used) rest in
-      let at = ap (λ (q : Place). q.offset) (here_at p old new l l' front f.used f.uses place) ∙ offset_past p (front ++ f.used) in
+      let at = ap (λ (q : Place). q.offset) (here_at p old new l l' front f.used f.uses place) ∙ place_past-offset p (front ++ f.used) in
       halted p (front ++ bs) (λ _ _. ⊥) (string_at (from s) v (length front) bs) h (λ is. let k = late is in omega (arith, k, at, far, ap seen_of one, length-append front f.used));
 }
 
@@ -181,7 +182,7 @@ code_refused {begun} {old} {new} {l} {l'} c p start v x = go c.ends.0 c.ends.1 c
           length front + 1,
           ap (string_at (Code s c.code) v (length front)) f.1 ∙ code_over s c.code (length front) b v f.0 ends.0 ends.1,
           st ∙ ap (λ (xs : List ℕ). place_past p xs) (sym (take-append-le s front rest le)),
-          omega (arith, ap (λ (q : Place). q.offset) at, offset_past p front),
+          omega (arith, ap (λ (q : Place). q.offset) at, place_past-offset p front),
         ))
 
 -- the string is full before a code's value
@@ -189,7 +190,7 @@ pub code_full : {begun : ℕ} {old new : Window} {l l' : Option (List ℕ)} {a :
     → ReadsPart (λ s. Code s begun) (λ s. Escape s true) p start old new l l' v x (Err (refusal p new.place.offset TokenTooLong))
 code_full {begun} {old} {new} {l} {l'} {a} c p start v x full = part_refused (code_part c p start v) (λ s. Escape s true) x p new.place.offset TokenTooLong (λ front rest s le st at known.
     let e = c.ends in
-    (0, length front, code_ends_full s c.code (length front) v rest e.0 (IsAhead-known new l' e.0 rest e.1 known) e.2.1 (le-leb 1048576 (length v) full), refl, omega (arith, ap (λ (q : Place). q.offset) at, offset_past p front)))
+    (0, length front, code_ends_full s c.code (length front) v rest e.0 (IsAhead-known new l' e.0 rest e.1 known) e.2.1 (le-leb 1048576 (length v) full), refl, omega (arith, ap (λ (q : Place). q.offset) at, place_past-offset p front)))
 
 pub code_added : {begun : ℕ} {old new : Window} {l l' : Option (List ℕ)} {a : ℕ} → Codes begun old new l l' (Ok (Some a)) → (p start : Place) (v x : List ℕ) → length v < 1048576 → x ≡ v ++ a ∷ []
     → ReadsPart (λ s. Code s begun) (λ s. Escape s true) p start old new l l' v x (Ok tt)
@@ -264,7 +265,7 @@ part_ends {from} {mid} {p} {start} {old} {new} {l} {l'} {v} {w} f to x at_end wh
       length front,
       ap (λ (xs : List ℕ). string_at (mid s) w (length front) xs) e ∙ why s (length front),
       at ∙ ap (λ (xs : List ℕ). place_past p xs) (sym (take_at front rest (length front) refl)),
-      omega (arith, ap (λ (q : Place). q.offset) at, offset_past p front),
+      omega (arith, ap (λ (q : Place). q.offset) at, place_past-offset p front),
     ))
 
 pub escape_end : (coded : Bool) (v : List ℕ) (s n : ℕ) → string_at (Escape s coded) v n [] ≡ flaw EndOfInput n n
@@ -284,7 +285,7 @@ escape_refused {from} {coded} {p} {start} {old} {new} {l} {l'} {v} {w} f to x b 
       length front + 1,
       ap (string_at (Escape s coded) w (length front)) t.1 ∙ bad,
       st ∙ ap (λ (xs : List ℕ). place_past p xs) (sym (take-append-le s front rest le)),
-      omega (arith, ap (λ (q : Place). q.offset) at, offset_past p front),
+      omega (arith, ap (λ (q : Place). q.offset) at, place_past-offset p front),
     ))
 
 -- after an error it doesn't matter where the reader would have been
@@ -343,7 +344,7 @@ parts_full {from} {p} {start} {old} {new} {l} {l'} {v} {w} f to x b is_ahead pla
     let percent = n.1 in
     let full : is_full w ≡ true = le-leb 1048576 (length w) most in
     let bad : string_at Parts w (length front) (b ∷ t.0) ≡ flaw TokenTooLong 0 (length front + 1) = rw (plain, quote, percent, full) refl in
-    (0, length front + 1, ap (string_at Parts w (length front)) t.1 ∙ bad, refl, omega (arith, ap (λ (q : Place). q.offset) at, offset_past p front)))
+    (0, length front + 1, ap (string_at Parts w (length front)) t.1 ∙ bad, refl, omega (arith, ap (λ (q : Place). q.offset) at, place_past-offset p front)))
 
 -- a byte that may not stand in a string
 pub parts_bad : {from : ℕ → Within} {p start : Place} {old new : Window} {l l' : Option (List ℕ)} {v w : List ℕ} {u : Unit {0}}
@@ -357,7 +358,7 @@ parts_bad {from} {p} {start} {old} {new} {l} {l'} {v} {w} f to x b is_ahead quot
       length front + 1,
       ap (string_at Parts w (length front)) t.1 ∙ bad,
       at ∙ ap (λ (xs : List ℕ). place_past p xs) (sym (take_at front rest (length front) refl)),
-      omega (arith, ap (λ (q : Place). q.offset) at, offset_past p front),
+      omega (arith, ap (λ (q : Place). q.offset) at, place_past-offset p front),
     ))
 
 percent_step : (v : List ℕ) (n : ℕ) (rest : List ℕ) → string_at Parts v n (37 ∷ rest) ≡ string_at (Escape n false) v (n + 1) rest

@@ -2,12 +2,11 @@
 use Rattle.std.specs.Prelude.{◌≡◌, ℕ, ◌==◌, if◌then◌else◌, List, [], ◌∷◌, drop, Some, Ok}
 use Rattle.nl_io.specs.Sources.{Supply}
 use Rattle.nl_bytes.specs.Bytes.{Window}
-use Rattle.nl_bytes.specs.Tokens.{ReadsToken}
+use Rattle.nl_bytes.specs.Tokens.{State, ReadsToken}
 use Rattle.edif_tokens.specs.declared.form.FormAt.{FormAt}
 use Rattle.edif_tokens.specs.declared.token.Found.{Found}
 use Rattle.edif_values.specs.declared.token.Token.TheVariants.{LeftParen, Word}
 use Rattle.edif_tokens.specs.Held.{is_near, space_length, word_length}
-use Rattle.edif_tokens.specs.Streams.{State}
 use Rattle.edif_tokens.specs.Language.{edif}
 
 -- no form

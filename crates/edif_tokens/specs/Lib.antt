@@ -1,8 +1,5 @@
-pub mod Flaws
 pub mod Strings
 pub mod Spelling
-pub mod Streams
-pub mod Stream
 pub mod Language
 pub mod Scan
 pub mod Proper

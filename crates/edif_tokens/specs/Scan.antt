@@ -1,12 +1,9 @@
 -- What the parts of the reader answer.
-use Rattle.std.specs.Prelude.{◌≡◌, ℕ, ◌+◌, ◌<◌, ◌≤◌, ◌++◌, nat_lt, if◌then◌else◌, Bool, true, false, List, [], ◌∷◌, take, drop, length, slice_index, IsTrue, IfOk, IfSome, OnOk, IsErrOf, MatchResult, ℤ, Option, Some, None, option_map, Result, Ok, Err, ⊤}
+use Rattle.std.specs.Prelude.{◌≡◌, ℕ, ◌+◌, ◌<◌, ◌≤◌, ◌++◌, nat_lt, if◌then◌else◌, Bool, true, false, List, [], ◌∷◌, take, drop, length, slice_index, IsTrue, IfOk, OnOk, IsErrOf, MatchResult, ℤ, Option, Some, None, Result, Ok, Err, ⊤}
 use Rattle.std.specs.List.{prefix_len}
 use Rattle.nl_base.specs.declared.place.Place.{Place}
-use Rattle.nl_base.specs.declared.fault.Reason.{Reason}
 use Rattle.nl_base.specs.declared.fault.ReadError.{ReadError}
 use Rattle.nl_base.specs.declared.fault.ReadError.TheVariants.{Text, ReadFault, TooLong, NoMemory, Spent}
-use Rattle.std.specs.Io.KnownBytes.{IsAtEnd}
-use Rattle.nl_bytes.specs.Tokens.{Ahead, TellsKnown, Shortens}
 use Rattle.nl_bytes.specs.declared.class.Class.{Class}
 use Rattle.nl_bytes.specs.declared.bytes.TheConstants.{LIMIT}
 use Rattle.nl_bytes.specs.Classes.{AreIn, in_class, is_string_byte}
@@ -15,15 +12,12 @@ use Rattle.nl_base.specs.declared.fault.Reason.TheVariants.{BadByte, TokenTooLon
 use Rattle.nl_base.specs.Place.{place_past}
 use Rattle.edif_tokens.specs.Strings.{Within, string_at}
 use Rattle.edif_tokens.specs.Spelling.{Piece, Flaw, span_at, may_follow, led, text_at, integer_of}
-use Rattle.edif_tokens.specs.Stream.{fault_at, found_at}
-use Rattle.edif_tokens.specs.Language.{edif}
+use Rattle.nl_bytes.specs.Flaws.{fault_at, refusal}
+use Rattle.edif_tokens.specs.Language.{found_at}
 use Rattle.edif_tokens.specs.declared.token.Found.{Found}
 use Rattle.edif_values.specs.declared.token.Token.{Token}
 use Rattle.edif_values.specs.declared.token.Token.TheVariants.{Number}
 use Rattle.edif_tokens.specs.declared.lexeme.Spanned.{Spanned}
-
-abbrev pub refusal : Place → ℕ → Reason → ReadError
-refusal p stop reason = if nat_lt LIMIT stop then TooLong else Text (record { place = p; stop = stop; reason = reason })
 
 abbrev pub ended_here : Place → Option ℕ → Result ℕ ReadError
 ended_here here None = Ok here.offset
@@ -159,35 +153,3 @@ pub record ReadsPart (from to : ℕ → Within) (p start : Place) (old new : Win
   pub spelled : (front bs rest : List ℕ) (s : ℕ) → s ≤ length front → start ≡ place_past p (take s front) → old.place ≡ place_past p front
       → input old left ≡ Some bs → input new left' ≡ Some rest → bs ≡ used ++ rest
       → Continues p (front ++ bs) (string_at (from s) before (length front) bs) result (string_at (to s) after (length front + length used) rest)
-
--- no byte past a token's stop was used
-abbrev pub UsesTo : Option Found → Window → Type 0
-UsesTo (Some f) w = w.place.offset ≤ f.stop
-UsesTo None w = ⊤
-
--- nothing was taken for a token that the bytes taken before show
-abbrev pub ShownBefore : Option Found → Window → Window → Type 0
-ShownBefore (Some f) old new = IsUnseen f.stop old new
-ShownBefore None old new = ⊤
-
--- at the end no byte is left
-abbrev pub EndsAt : Option Found → Option (List ℕ) → Type 0
-EndsAt (Some f) left = ⊤
-EndsAt None left = IsAtEnd left
-
--- the tokens that are ahead, where the source tells its bytes
-abbrev pub known_ahead : Window → Option (List ℕ) → Option (Ahead Found)
-known_ahead w left = option_map (λ bs. edif.tokens w.place bs) (input w left)
-
--- the next token was read
-pub record Finds (old new : Window) (left left' : Option (List ℕ)) (result : Result (Option Found) ReadError) : Type 0 where
-  pub used : List ℕ
-  pub uses : Uses old new left left' used
-  pub told : TellsKnown (known_ahead old left) result new (known_ahead new left')
-  pub shorter : IfOk result (λ x. Shortens x old new)
-  -- no byte past the limit is used for a token
-  pub limit : IfOk result (λ x. IfSome x (λ _. new.place.offset ≤ LIMIT))
-  pub used_to : IfOk result (λ x. UsesTo x new)
-  pub ended : IfOk result (λ x. EndsAt x left')
-  pub unseen : IfOk result (λ x. ShownBefore x old new)
-  pub used_up : IsErrOf result ReadFault → new.held ≡ []

@@ -5,7 +5,7 @@ use Rattle.std.specs.List.{prefix_len}
 use Rattle.nl_base.specs.declared.fault.Reason.TheVariants.{EndOfInput, BadByte, TokenTooLong, NumberRange}
 use Rattle.nl_bytes.specs.Classes.{is_space, is_word_byte}
 use Rattle.nl_bytes.specs.Bytes.{first}
-pub use Rattle.edif_tokens.specs.Flaws.{Piece, Flaw, ◌>>=◌, flaw}
+pub use Rattle.nl_bytes.specs.Flaws.{Piece, Flaw, ◌>>=◌, flaw}
 use Rattle.edif_tokens.specs.Strings.{Parts, string_at}
 use Rattle.edif_values.specs.declared.token.Token.{Token}
 use Rattle.edif_values.specs.declared.token.Token.TheVariants.{LeftParen, RightParen, Word, Number, Str}

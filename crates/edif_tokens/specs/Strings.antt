@@ -7,7 +7,7 @@ use Rattle.nl_bytes.specs.Bytes.{Window, Uses, IsAhead}
 use Rattle.nl_bytes.specs.declared.halt.Halt.{Halt}
 use Rattle.nl_bytes.specs.declared.halt.Halt.TheVariants.{TooLong, Failed}
 use Rattle.nl_bytes.specs.declared.bytes.TheConstants.{LIMIT}
-use Rattle.edif_tokens.specs.Flaws.{Piece, Flaw, flaw}
+use Rattle.nl_bytes.specs.Flaws.{Piece, Flaw, flaw}
 
 -- where a byte of a string stands: among the parts; in an escape, whose `%` has so many bytes of the token before it, after
 -- a code or with none yet; in a code, with its value so far

@@ -2,7 +2,9 @@ ghost use Rattle.std.specs.Prelude.{◌≡◌, ◌≤◌, ◌<◌, ℕ, List, le
 ghost use Rattle.nl_io.specs.Causes.{Rose};
 ghost use Rattle.nl_base.specs.Faults.{OnText};
 ghost use Rattle.edif_values.specs.Proper.{IsProper};
-ghost use Rattle.edif_tokens.specs.Scan.{Finds};
+ghost use Rattle.nl_bytes.specs.declared.bytes.TheConstants.{LIMIT};
+ghost use Rattle.nl_bytes.specs.Tokens.{Finds};
+ghost use Rattle.edif_tokens.specs.Language.{edif};
 
 use crate::lexeme::token;
 use crate::token::Found;
@@ -19,7 +21,8 @@ pub fn found<S: Source>(
     alloc: Global,
     source: &mut S,
 ) -> Result<Option<Found>, ReadError>
-    ensures finds { Finds bytes.old bytes.new (S.supply source.old).left (S.supply source.new).left result }
+    ensures finds { Finds edif bytes.old bytes.new (S.supply source.old).left (S.supply source.new).left result }
+    ensures limit { IfOk result (λ t. IfSome t (λ _. bytes.new.place.offset ≤ LIMIT)) }
     ensures never_spent { IsErrOf result ReadError.Spent → ⊥ }
     ensures bounded { OnText result (λ t. bytes.new.place.offset ≤ t.stop) }
     ensures count { (S.supply source.old).faults ≤ (S.supply source.new).faults }

@@ -4,7 +4,8 @@ ghost use Rattle.nl_base.specs.Faults.{OnText};
 ghost use Rattle.nl_bytes.specs.Classes.{in_class};
 ghost use Rattle.nl_base.specs.Place.{place_past};
 ghost use Rattle.edif_tokens.specs.Spelling.{start_of, may_follow, integer_of};
-ghost use Rattle.edif_tokens.specs.Scan.{refusal, ending, Spans};
+ghost use Rattle.nl_bytes.specs.Flaws.{refusal};
+ghost use Rattle.edif_tokens.specs.Scan.{ending, Spans};
 
 use nl_base::{Int, Place, ReadError, Reason, TextFault};
 use nl_bytes::bytes::LIMIT;

@@ -22,7 +22,7 @@ pub struct Tokens {
 }
 
 impl Model for Tokens {
-    ghost use Rattle.edif_tokens.specs.Streams.{State};
+    ghost use Rattle.nl_bytes.specs.Tokens.{State};
 
     ghost Value = { State };
 
@@ -33,8 +33,7 @@ impl Tokens {
     ghost use Rattle.edif_values.specs.declared.token.Token.TheVariants.{Word};
     ghost use Rattle.edif_values.specs.Proper.{IsProper};
     ghost use Rattle.nl_io.specs.Sources.{Supply};
-    ghost use Rattle.nl_bytes.specs.Tokens.{ReadsToken};
-    ghost use Rattle.edif_tokens.specs.Stream.{fresh};
+    ghost use Rattle.nl_bytes.specs.Tokens.{ReadsToken, fresh};
     ghost use Rattle.edif_tokens.specs.Language.{edif};
     ghost use Rattle.edif_tokens.specs.Held.{held_mark, mark_token, past_mark, held_word, past_word};
     ghost use Rattle.edif_tokens.specs.HeldForm.{form_at, ReadsForm};

@@ -63,6 +63,10 @@ Uses-taken a b l m taken none held place bytes left =
     go (Some x) None h = absurd h
     go (Some x) (Some y) h = h
 
+-- the bytes that are used take the reader on
+pub offset_grows : {old new : Window} {l m : Option (List ℕ)} {used : List ℕ} → Uses old new l m used → new.place.offset ≡ old.place.offset + length used
+offset_grows {old} {new} {l} {m} {used} u = ap (λ (q : Place). q.offset) u.place ∙ place_past-offset old.place used
+
 -- over two calls too bytes are taken only where all that were taken before are used
 pub takes_then : (a b c : Window) → b.place.offset ≤ c.place.offset → TakesWhenUsed a b → TakesWhenUsed b c → TakesWhenUsed a c
 takes_then a b c on (inl e) (inl f) = inl (f ∙ e)

@@ -9,3 +9,4 @@ pub mod Whole
 pub mod Shapes
 pub mod Items
 pub mod Maybes
+pub mod Limited

@@ -2,16 +2,14 @@
 use Rattle.std.proofs.Common.{◌≡◌, refl, ℕ, zero, suc, ◌+◌, ◌-◌, ◌*◌, ◌<◌, ◌≤◌, Bool, true, false, cond, ltb, eqb, ◌||◌, ◌&&◌, List, [], ◌∷◌, ◌++◌, length, drop, Option, Some, None, Result, Ok, Err, arith, length-append}
 use Rattle.std.specs.Prelude.{⊤, IfOk, IfSome}
 use Rattle.std.proofs.lemmas.Bool.{ltb-false, leb-false}
-use Rattle.grammar.specs.Whole.{Terminal, proper, end, Finish, Done, Bad, Over}
 use Rattle.nl_base.specs.Place.{place_after}
 use Rattle.nl_base.specs.declared.place.Place.{Place}
-use Rattle.nl_base.specs.declared.fault.TextFault.{TextFault}
 use Rattle.nl_base.specs.declared.fault.Reason.TheVariants.{EndOfInput}
 use Rattle.nl_bytes.specs.Bytes.{first}
 use Rattle.nl_bytes.specs.Classes.{is_verilog_string_byte}
-use Rattle.nl_bytes.specs.declared.bytes.TheConstants.{LIMIT}
 use Rattle.nl_bytes.proofs.Uses.{AllByRecursion-push}
-use Rattle.nl_bytes.specs.Tokens.{Ahead, follow, only_end, no_token}
+use Rattle.nl_bytes.specs.Tokens.{Ahead}
+use Rattle.nl_bytes.proofs.Limited.{limited_each}
 use Rattle.vlog_values.specs.Values.{IsString}
 use Rattle.vlog_tokens.specs.declared.token.VFound.{VFound}
 use Rattle.vlog_tokens.specs.declared.token.VToken.TheVariants as token
@@ -22,13 +20,13 @@ use Rattle.vlog_tokens.specs.declared.start.Start.{Start}
 use Rattle.vlog_tokens.specs.declared.start.Start.TheVariants as starts
 use Rattle.vlog_tokens.specs.declared.string.Escaped.{Escaped}
 use Rattle.vlog_tokens.specs.declared.string.Escaped.TheVariants.{Stands, Octal, NoEscape, NoByte}
-use Rattle.vlog_tokens.specs.Flaws.{Piece, Flaw, flaw, ◌>>=◌}
+use Rattle.nl_bytes.specs.Flaws.{Piece, Flaw, flaw, ◌>>=◌}
 use Rattle.vlog_tokens.specs.Items.{item_of, finish, finished}
 use Rattle.vlog_tokens.specs.Scanning.{Lexeme, scan_at, kept}
 use Rattle.vlog_tokens.specs.Strings.{Within, Parts, Escape, Code, is_octal, escaped_by, is_full, part_by, escape_by, with_code, string_at}
 use Rattle.vlog_tokens.specs.Spelling.{lexeme_spelled, str_of, comment_at, pair_by, slash_by, start_of, item_by, item_at}
-use Rattle.vlog_tokens.specs.Language.{then_tokens, then_items, tokens_from, limited_finish, limited_from, limited, stream_from, with_line}
-use Rattle.vlog_tokens.specs.Proper.{AreBytes, IsProperItem, AreSound}
+use Rattle.vlog_tokens.specs.Language.{then_tokens, then_items, tokens_from, stop_of, stream_from, with_line}
+use Rattle.vlog_tokens.specs.Proper.{AreBytes, IsProperItem, IsSound, AreSound}
 use Rattle.vlog_tokens.proofs.Lexemes.{IsScanned, scan_good}
 use Rattle.vlog_tokens.proofs.Proper.{Begins, IsBegun, begun_good, item_good}
 
@@ -187,21 +185,7 @@ all_good (suc n) p [] all = (tt, tt)
 all_good (suc n) p (b ∷ bs) all = all_good n (place_after p b) bs all.1
 all_good zero p (b ∷ bs) all = items_good p (b ∷ bs) (item_at b bs) (λ count. tokens_from (count - 1) (place_after p b) bs) (at_good b bs all) (λ count. all_good (count - 1) (place_after p b) bs all.1)
 
-ahead_test : (t : Bool) (x y : Ahead VFound) → AreSound x.tokens → AreSound y.tokens → AreSound (cond t x y).tokens
-ahead_test true x y p q = p
-ahead_test false x y p q = q
-
-finish_sound : (finish : Finish TextFault) → AreSound (limited_finish finish).tokens
-finish_sound Done = tt
-finish_sound (Bad fault) = ahead_test (ltb LIMIT fault.stop) (no_token VFound Over) (no_token VFound (Bad fault)) tt tt
-finish_sound Over = tt
-
-limited_sound : (xs : List (Terminal VFound Place)) (finish : Finish TextFault) → AreSound xs → AreSound (limited_from xs finish).tokens
-limited_sound [] finish all = finish_sound finish
-limited_sound (proper x ∷ xs) finish all = ahead_test (ltb LIMIT x.stop) (no_token VFound Over) (follow x (limited_from xs finish)) tt (all.0, limited_sound xs finish all.1)
-limited_sound (end p ∷ xs) finish all = ahead_test (ltb LIMIT p.offset) (no_token VFound Over) (only_end VFound p) tt (tt, tt)
-
 -- The tokens of a text of bytes are such as a text can have.
 pub tokens_sound : (p : Place) (bs : List ℕ) → AreBytes bs → AreSound (stream_from p bs).tokens
-unfolding stream_from limited
-tokens_sound p bs all = limited_sound (tokens_from 0 p bs).tokens (tokens_from 0 p bs).finish (all_good 0 p bs all)
+unfolding stream_from
+tokens_sound p bs all = limited_each IsSound stop_of (tokens_from 0 p bs) (all_good 0 p bs all)

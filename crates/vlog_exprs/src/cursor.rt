@@ -12,8 +12,8 @@ ghost use Rattle.vlog_exprs.specs.Calls.{is_unlooked, held_mark, past_mark, held
 ghost use Rattle.vlog_exprs.specs.Reasons.{trailing};
 
 use crate::glance::Glance;
-use crate::reasons::refused;
-use nl_base::{NoMemory, Place, ReadError, Reason, Seq, Text, TextFault};
+use crate::reasons::{Said, refused};
+use nl_base::{Place, ReadError, Reason, Seq, Text, TextFault};
 use nl_io::Source;
 use std::alloc::Global;
 use std::marker::Model;
@@ -276,7 +276,7 @@ impl VCursor {
         &mut self,
         place: Place,
         stop: u64,
-        said: Result<Result<T, Reason>, NoMemory>,
+        said: Said<T>,
     ) -> Result<T, ReadError>
         requires unspent { IsFalse self.old.spent }
         ensures answer { result ≡ answer place stop said }

@@ -3,7 +3,7 @@ use Rattle.std.proofs.Common.{◌≡◌, ◌∙◌, refl, sym, ap, subst, ℕ, L
 use Rattle.grammar.specs.Clear.{IsLive, IsClear, IsClosed}
 use Rattle.grammar.specs.Reading.{refused, ended, Found, read}
 use Rattle.grammar.specs.Texts.{Begins, Spells}
-use Rattle.grammar.specs.Whole.{Terminal, proper, end, Finish, Done, Bad, Over, whole}
+use Rattle.grammar.specs.Whole.{Terminal, end, Finish, Done, Bad, Over, whole}
 use Rattle.grammar.proofs.Exact.{text_from_read, begins_from_read}
 use Rattle.grammar.proofs.Follow.{clear_fewer}
 use Rattle.grammar.proofs.Whole as grammar
@@ -14,7 +14,7 @@ use Rattle.nl_base.specs.declared.place.Place.{Place}
 use Rattle.readers.specs.Parts.{PartOf}
 use Rattle.readers.specs.Readers.{fault_at}
 use Rattle.vlog_tokens.specs.declared.token.VFound.{VFound}
-use Rattle.vlog_tokens.specs.Language.{vlog, all_tokens}
+use Rattle.vlog_tokens.specs.Language.{vlog, stop_of, all_tokens}
 use Rattle.vlog_exprs.specs.Reasons.{trailing}
 use Rattle.vlog_values.specs.declared.module.VlogFile.{VlogFile}
 use Rattle.vlog_modules.specs.Grammar.{file}
@@ -24,7 +24,8 @@ use Rattle.vlog_modules.specs.AnyLength.{VlogSpells, VlogFails}
 use Rattle.grammar_laws.specs.GoesOn.{AllOf}
 use Rattle.grammar_laws.proofs.Ending.{IsToken, one_end, none_more, whole_ends}
 use Rattle.grammar_laws.proofs.Refusing.{text_has}
-use Rattle.vlog_limits.specs.Rises.{Rises}
+use Rattle.readers.specs.Rises.{Rises}
+use Rattle.readers.proofs.Limited.{ends_there, has_last}
 use Rattle.vlog_limits.proofs.Limits.{never_over}
 use Rattle.vlog_limits.proofs.Rising.{rises}
 use Rattle.vlog_faults.specs.Fitting.{Fits}
@@ -52,27 +53,9 @@ clear = clear_fewer tt text (λ _ x. x ≡ last) (λ _ _. Unit {0}) (λ _ _ _. t
 tokens_alone : (ts : Tokens) (v : VlogFile) → Spells tt file ts v → AllOf IsToken ts
 tokens_alone ts v h = text_has Fits IsToken tt file file_fit ts v h
 
--- the end stands last, and all is told up to it
-record EndsThere (rest : Tokens) (finish : Finish TextFault) : Type 0 where
-  pub nothing : rest ≡ []
-  pub done : finish ≡ Done
-
-ends_there : (n : ℕ) (before rest : Tokens) (p : Place) (finish : Finish TextFault) → Rises n (before ++ end p ∷ rest) finish → EndsThere rest finish
-ends_there n [] rest p finish r = record { nothing = r.1; done = r.2 }
-ends_there n (proper x ∷ before) rest p finish r = ends_there x.stop before rest p finish r.1
-ends_there n (end q ∷ []) rest p finish r = absurd cc
-ends_there n (end q ∷ y ∷ before) rest p finish r = absurd cc
-
 -- what is told up to the end has it
 abbrev HasLast : Tokens → Type 0
 HasLast ts = (before : Tokens) × (p : Place) × (ts ≡ before ++ end p ∷ [])
-
-has_last : (n : ℕ) (xs : Tokens) (finish : Finish TextFault) → finish ≡ Done → Rises n xs finish → HasLast xs
-has_last n [] Done e r = absurd r
-has_last n [] (Bad f) e r = absurd cc
-has_last n [] Over e r = absurd cc
-has_last n (proper x ∷ xs) finish e r = let h = has_last x.stop xs finish e r.1 in (proper x ∷ h.0, h.1, ap (λ (z : Tokens). proper x ∷ z) h.2)
-has_last n (end p ∷ xs) finish e r = ([], p, ap (λ (z : Tokens). end p ∷ z) r.1)
 
 -- tokens up to the end that can go on are a text
 complete : (ts : Tokens) → HasLast ts → Begins tt text ts → (v : VlogFile) × Spells tt text ts v
@@ -90,7 +73,7 @@ by_reading bs (Ok w) e =
     let t = text_from_read tt text lives last clear (all_tokens bs).tokens w.1 w.0 e in
     let n = whole_ends trailing tt file t.text w.0 t.is_text in
     let place : (all_tokens bs).tokens ≡ n.0 ++ end n.1 ∷ w.1 = t.place ∙ ap (λ (z : Tokens). z ++ w.1) n.2 ∙ append_assoc n.0 (end n.1 ∷ []) w.1 in
-    let there = ends_there 0 n.0 w.1 n.1 (all_tokens bs).finish (subst (λ (z : Tokens). Rises 0 z (all_tokens bs).finish) place (rises bs)) in
+    let there = ends_there stop_of 0 n.0 w.1 n.1 (all_tokens bs).finish (subst (λ (z : Tokens). Rises stop_of 0 z (all_tokens bs).finish) place (rises bs)) in
     let whole_text : (all_tokens bs).tokens ≡ t.text = t.place ∙ ap (λ (z : Tokens). t.text ++ z) there.nothing ∙ append-nil t.text in
     inl (w.0, (subst (λ (z : Tokens). Spells tt text z w.0) (sym whole_text) t.is_text, there.done))
 by_reading bs (Err (refused x r)) e = inr (fault_at vlog x r, grammar.fault_is (fault_at vlog) tt text lives last closed (all_tokens bs) x r e)
@@ -98,7 +81,7 @@ by_reading bs (Err ended) e = by (all_tokens bs).finish refl
   where
     by : (finish : Finish TextFault) → (all_tokens bs).finish ≡ finish → IsEither bs
     by Done d =
-        let whole_text = complete (all_tokens bs).tokens (has_last 0 (all_tokens bs).tokens (all_tokens bs).finish d (rises bs)) (begins_from_read tt text lives last clear (all_tokens bs).tokens e) in
+        let whole_text = complete (all_tokens bs).tokens (has_last stop_of 0 (all_tokens bs).tokens (all_tokens bs).finish d (rises bs)) (begins_from_read tt text lives last clear (all_tokens bs).tokens e) in
         inl (whole_text.0, (whole_text.1, d))
     by (Bad f) d = inr (f, grammar.bad_is (fault_at vlog) tt text lives last closed (all_tokens bs) f e d)
     by Over d = absurd (never_over 0 place_at_start bs d)

@@ -9,7 +9,7 @@ use Rattle.vlog_tokens.specs.declared.phase.Phase.{Phase}
 use Rattle.vlog_tokens.specs.declared.start.Start.{Start}
 use Rattle.vlog_tokens.specs.declared.start.Start.TheVariants as start
 use Rattle.vlog_tokens.specs.declared.token.VToken.TheVariants.{Str, Punct, Symbol}
-use Rattle.vlog_tokens.specs.Flaws.{Piece, Flaw, ◌>>=◌}
+use Rattle.nl_bytes.specs.Flaws.{Piece, Flaw, ◌>>=◌}
 use Rattle.vlog_tokens.specs.Items.{item_of, finished, finish}
 use Rattle.vlog_tokens.specs.Scanning.{Lexeme, scan_at, kept}
 use Rattle.vlog_tokens.specs.Spelling.{comment_at, item_by, str_of, pair_by, both_of, single_of, slash_by}

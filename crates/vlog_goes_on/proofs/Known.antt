@@ -23,7 +23,7 @@ use Rattle.vlog_tokens.specs.declared.start.Start.TheVariants as start
 use Rattle.vlog_tokens.specs.declared.token.VFound.{VFound}
 use Rattle.vlog_tokens.specs.declared.token.VToken.{VToken}
 use Rattle.vlog_tokens.specs.declared.token.VToken.TheVariants as t
-use Rattle.vlog_tokens.specs.Flaws.{Piece, Flaw, ◌>>=◌}
+use Rattle.nl_bytes.specs.Flaws.{Piece, Flaw, ◌>>=◌}
 use Rattle.vlog_tokens.specs.Items.{item_of, number_item, real_item, based_item, has_value, digits_of, is_signed, directive_item, finished, finish}
 use Rattle.vlog_tokens.specs.Keywords.{is_keyword}
 use Rattle.vlog_tokens.specs.Language.{with_line, then_tokens, then_items, tokens_from, vtokens}

@@ -4,7 +4,7 @@ use Rattle.std.specs.Prelude.{◌↔◌}
 use Rattle.std.specs.List.{AllByRecursion}
 use Rattle.grammar.specs.Clear.{IsLive, IsClosed}
 use Rattle.grammar.specs.Texts.{Begins, Spells}
-use Rattle.grammar.specs.Whole.{Terminal, proper, end, whole, Finish, Done, Bad, IsText, at_token, at_bad}
+use Rattle.grammar.specs.Whole.{Terminal, proper, end, whole, Finish, IsText, at_token, at_bad}
 use Rattle.grammar.proofs.Whole as grammar
 use Rattle.grammar_alike.specs.Alike.{AreAlike, Respects}
 use Rattle.grammar_alike.proofs.Alike.{alike_both, spells_alike, begins_alike}
@@ -22,7 +22,7 @@ use Rattle.readers.specs.Readers.{fault_at}
 use Rattle.nl_bytes.specs.Tokens.{Ahead, only_end}
 use Rattle.vlog_tokens.specs.declared.token.VFound.{VFound}
 use Rattle.vlog_tokens.specs.declared.token.VToken.{VToken}
-use Rattle.vlog_tokens.specs.Language.{vlog, tokens_from, all_tokens}
+use Rattle.vlog_tokens.specs.Language.{vlog, stop_of, tokens_from, all_tokens}
 use Rattle.vlog_tokens.specs.Proper.{AreBytes}
 use Rattle.vlog_exprs.specs.Language.{NoContext}
 use Rattle.vlog_exprs.specs.Reasons.{trailing}
@@ -33,7 +33,7 @@ use Rattle.vlog_modules.proofs.Clear.{clear_file}
 use Rattle.vlog_lexing.specs.Lexing.{Shows, Lexes}
 use Rattle.vlog_lexing.proofs.Scanning.{lexes_space}
 use Rattle.vlog_modules.specs.AnyLength.{VlogSpells, VlogFails}
-use Rattle.vlog_limits.specs.Rises.{Rises}
+use Rattle.readers.proofs.Limited.{no_end_before, no_end}
 use Rattle.vlog_limits.proofs.Law.{reads}
 use Rattle.vlog_limits.proofs.Rising.{rises}
 use Rattle.vlog_faults.specs.Fitting.{Fits}
@@ -219,29 +219,6 @@ fronts bs front rest e = (λ h. goes_on bs front rest e h, λ h. begins bs front
 
 -- ---- before a first fault
 
--- what stands before another token has no end
-no_end_before : (n : ℕ) (ts before after : Tokens) (x : Terminal VFound Place) (finish : Finish TextFault) → Rises n ts finish
-    → ts ≡ before ++ x ∷ after → (front : List VFound) × (before ≡ map proper front)
-no_end_before n ts [] after x finish h e = ([], refl)
-no_end_before n [] (y ∷ before) after x finish h e = absurd cc
-no_end_before n (end p ∷ ts) (y ∷ before) after x finish h e = let tail : ts ≡ before ++ x ∷ after = cc in absurd (by before (sym h.1 ∙ tail))
-  where
-    by : (before : Tokens) → [] ≡ before ++ x ∷ after → ⊥
-    by [] f = cc
-    by (z ∷ before) f = cc
-no_end_before n (proper z ∷ ts) (y ∷ before) after x finish h e =
-    let tail : ts ≡ before ++ x ∷ after = cc in
-    let r = no_end_before z.stop ts before after x finish h.1 tail in
-    let is : y ≡ proper z = cc in
-    (z ∷ r.0, cons_is y (proper z) before (map proper r.0) is r.1)
-
--- where bytes that are no token stand behind them, no token is the end
-no_end : (n : ℕ) (ts : Tokens) (finish : Finish TextFault) (f : TextFault) → Rises n ts finish → finish ≡ Bad f
-    → (front : List VFound) × (ts ≡ map proper front)
-no_end n [] finish f h e = ([], refl)
-no_end n (end p ∷ ts) finish f h e = let done : finish ≡ Done = h.2 in absurd cc
-no_end n (proper x ∷ ts) finish f h e = let r = no_end x.stop ts finish f h.1 e in (x ∷ r.0, ap (λ (z : Tokens). proper x ∷ z) r.1)
-
 at_fault : (x : Terminal VFound Place) (reason : Reason) (f : TextFault) (rest : Tokens) (finish : Finish TextFault) → f ≡ fault_at vlog x reason
     → StandsAt f (x ∷ rest) finish
 at_fault (proper x) reason f rest finish e = (ap (λ (z : TextFault). z.place) e, ap (λ (z : TextFault). z.stop) e)
@@ -249,10 +226,10 @@ at_fault (end p) reason f rest finish e = (ap (λ (z : TextFault). z.place) e, a
 
 pub before_fault : (bs : List ℕ) (f : TextFault) → VlogFails bs f → GoesOnBefore bs f
 before_fault bs f (at_token x reason h e) =
-    let b = no_end_before 0 (all_tokens bs).tokens h.before h.after x (all_tokens bs).finish (rises bs) h.place in
+    let b = no_end_before stop_of 0 (all_tokens bs).tokens h.before h.after x (all_tokens bs).finish (rises bs) h.place in
     let parts : (all_tokens bs).tokens ≡ map proper b.0 ++ x ∷ h.after = h.place ∙ ap (λ (z : Tokens). z ++ x ∷ h.after) b.1 in
     (b.0, x ∷ h.after, parts, at_fault x reason f h.after (all_tokens bs).finish e, goes_on bs b.0 (x ∷ h.after) parts (subst (Begins tt text) b.1 h.goes_on))
 before_fault bs f (at_bad h e) =
-    let b = no_end 0 (all_tokens bs).tokens (all_tokens bs).finish f (rises bs) e in
+    let b = no_end stop_of 0 (all_tokens bs).tokens (all_tokens bs).finish f (rises bs) e in
     let parts : (all_tokens bs).tokens ≡ map proper b.0 ++ [] = b.1 ∙ sym (append-nil (map proper b.0)) in
     (b.0, [], parts, subst (StandsAt f []) (sym e) refl, goes_on bs b.0 [] parts (subst (Begins tt text) b.1 h))

@@ -7,7 +7,7 @@ use Rattle.nl_bytes.specs.Classes.{is_verilog_string_byte}
 use Rattle.vlog_tokens.specs.declared.item.Item.TheVariants.{Blank}
 use Rattle.vlog_tokens.specs.declared.string.Escaped.{Escaped}
 use Rattle.vlog_tokens.specs.declared.string.Escaped.TheVariants as escaped
-use Rattle.vlog_tokens.specs.Flaws.{Piece, Flaw, flaw}
+use Rattle.nl_bytes.specs.Flaws.{Piece, Flaw, flaw}
 use Rattle.vlog_tokens.specs.Spelling.{comment_at}
 use Rattle.vlog_tokens.specs.Strings.{Within, Escape, Code, string_at, escaped_by, escape_by, part_by, with_code, is_full, is_octal}
 use Rattle.vlog_tokens.specs.Strings as within

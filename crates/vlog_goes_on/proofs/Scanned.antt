@@ -12,7 +12,7 @@ use Rattle.vlog_tokens.specs.declared.phase.Phase.{Phase}
 use Rattle.vlog_tokens.specs.declared.phase.Phase.TheVariants as phase
 use Rattle.vlog_tokens.specs.declared.phase.Step.{Step}
 use Rattle.vlog_tokens.specs.declared.phase.Step.TheVariants.{Keep, Pass, Ends, Bad}
-use Rattle.vlog_tokens.specs.Flaws.{Piece, Flaw, flaw}
+use Rattle.nl_bytes.specs.Flaws.{Piece, Flaw, flaw}
 use Rattle.vlog_tokens.specs.Phases.{next_step, is_complete, most_of, base_of, letter_step, based_step, first_digit, is_digit, is_open, is_sign}
 use Rattle.vlog_tokens.specs.Phases as phases
 use Rattle.vlog_tokens.specs.Scanning.{Lexeme, scan_at, stepped, ended}

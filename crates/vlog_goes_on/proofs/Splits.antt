@@ -15,7 +15,7 @@ use Rattle.vlog_tokens.specs.declared.item.Item.{Item}
 use Rattle.vlog_tokens.specs.declared.item.Item.TheVariants.{Blank, Line, Token}
 use Rattle.vlog_tokens.specs.declared.token.VFound.{VFound}
 use Rattle.vlog_tokens.specs.declared.token.VToken.{VToken}
-use Rattle.vlog_tokens.specs.Flaws.{Piece, Flaw}
+use Rattle.nl_bytes.specs.Flaws.{Piece, Flaw}
 use Rattle.vlog_tokens.specs.Language.{with_line, then_tokens, then_items, tokens_from}
 use Rattle.vlog_tokens.specs.Spelling.{item_at, start_of}
 use Rattle.vlog_lexing.proofs.Scanning.{piece}

@@ -3,7 +3,7 @@ use Rattle.std.proofs.Common.{◌≡◌, ℕ, suc, ◌+◌, Bool, true, false, c
 use Rattle.std.specs.Prelude.{◌⊎◌}
 use Rattle.std.proofs.lemmas.Bool.{eqb-true}
 use Rattle.nl_base.specs.Case.{same_bytes}
-use Rattle.vlog_tokens.specs.Flaws.{Piece, Flaw}
+use Rattle.nl_bytes.specs.Flaws.{Piece, Flaw}
 use Rattle.vlog_tokens.specs.declared.item.Item.{Item}
 use Rattle.vlog_tokens.specs.declared.item.Item.TheVariants.{Blank}
 use Rattle.vlog_tokens.specs.Spelling.{comment_at}

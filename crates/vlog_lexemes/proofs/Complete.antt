@@ -14,7 +14,7 @@ use Rattle.nl_base.specs.Case.{same_bytes}
 use Rattle.vlog_tokens.specs.declared.phase.Phase.{Phase}
 use Rattle.vlog_tokens.specs.declared.phase.Phase.TheVariants as phases
 use Rattle.vlog_tokens.specs.declared.start.Start.TheVariants.{White, Mark, Sign}
-use Rattle.vlog_tokens.specs.Flaws.{Piece, Flaw, ◌>>=◌}
+use Rattle.nl_bytes.specs.Flaws.{Piece, Flaw, ◌>>=◌}
 use Rattle.vlog_tokens.specs.Items.{item_of, finish, finished, directive_item}
 use Rattle.vlog_tokens.specs.Numbers.{decimal_value}
 use Rattle.vlog_tokens.specs.Language.{with_line}

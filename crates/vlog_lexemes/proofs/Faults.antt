@@ -14,7 +14,7 @@ use Rattle.vlog_tokens.specs.declared.phase.Phase.{Phase}
 use Rattle.vlog_tokens.specs.declared.phase.Phase.TheVariants as phases
 use Rattle.vlog_tokens.specs.declared.start.Start.{Start}
 use Rattle.vlog_tokens.specs.declared.start.Start.TheVariants as starts
-use Rattle.vlog_tokens.specs.Flaws.{Piece, Flaw, flaw, ◌>>=◌}
+use Rattle.nl_bytes.specs.Flaws.{Piece, Flaw, flaw, ◌>>=◌}
 use Rattle.vlog_tokens.specs.Items.{item_of, finish, finished, real_item, based_item, digits_of, has_value}
 use Rattle.vlog_tokens.specs.Numbers.{decimal_value, number_of, real_of}
 use Rattle.vlog_tokens.specs.Phases.{is_complete, most_of}

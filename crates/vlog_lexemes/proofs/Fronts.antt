@@ -10,7 +10,7 @@ use Rattle.vlog_tokens.specs.declared.phase.Phase.{Phase}
 use Rattle.vlog_tokens.specs.declared.phase.Phase.TheVariants as phases
 use Rattle.vlog_tokens.specs.declared.phase.Step.{Step}
 use Rattle.vlog_tokens.specs.declared.phase.Step.TheVariants.{Keep, Pass, Ends, Bad}
-use Rattle.vlog_tokens.specs.Flaws.{Piece}
+use Rattle.nl_bytes.specs.Flaws.{Piece}
 use Rattle.vlog_tokens.specs.Phases.{next_step, is_complete, most_of, is_mark, is_sign, is_open, is_digit, base_of, letter_step, first_digit}
 use Rattle.vlog_tokens.specs.Scanning.{Lexeme, scan_at, stepped}
 use Rattle.vlog_lexemes.specs.Lexemes.{IsRun, IsSigned, MayFollow, begins_name, digit_byte, is_low_line, one_of}

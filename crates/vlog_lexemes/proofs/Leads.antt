@@ -6,7 +6,7 @@ use Rattle.vlog_values.specs.declared.literal.Base.TheVariants.{Decimal}
 use Rattle.vlog_tokens.specs.declared.phase.Phase.{Phase}
 use Rattle.vlog_tokens.specs.declared.phase.Phase.TheVariants.{Word, Escape, Escaped, Whole, Point, Mark, Sign, Prefix, Signed, Letter, Digits, Unknown, Grave, Directive}
 use Rattle.vlog_tokens.specs.declared.start.Start.TheVariants.{Lexeme}
-use Rattle.vlog_tokens.specs.Flaws.{◌>>=◌}
+use Rattle.nl_bytes.specs.Flaws.{◌>>=◌}
 use Rattle.vlog_tokens.specs.Items.{finish}
 use Rattle.vlog_tokens.specs.Phases.{most_of}
 use Rattle.vlog_tokens.specs.Scanning.{scan_at, kept}

@@ -8,7 +8,7 @@ use Rattle.vlog_values.specs.declared.literal.Base.TheVariants.{Binary, Octal, D
 use Rattle.vlog_tokens.specs.declared.phase.Phase.{Phase}
 use Rattle.vlog_tokens.specs.declared.phase.Phase.TheVariants.{Word, Escape, Escaped, Whole, Point, Fraction, Mark, Sign, Exponent, Prefix, Signed, Letter, Digits, Unknown, Grave, Directive}
 use Rattle.vlog_tokens.specs.declared.phase.Step.TheVariants.{Keep, Pass, Ends}
-use Rattle.vlog_tokens.specs.Flaws.{Piece, Flaw}
+use Rattle.nl_bytes.specs.Flaws.{Piece, Flaw}
 use Rattle.vlog_tokens.specs.Phases.{next_step, is_complete, most_of, is_mark, is_sign, is_open, is_digit, base_of, letter_step, first_digit}
 use Rattle.vlog_tokens.specs.Scanning.{Lexeme, scan_at}
 use Rattle.vlog_tokens.proofs.Scanning.{keep_step}

@@ -20,7 +20,7 @@ use Rattle.vlog_tokens.specs.declared.phase.Phase.{Phase}
 use Rattle.vlog_tokens.specs.declared.phase.Phase.TheVariants as phases
 use Rattle.vlog_tokens.specs.declared.start.Start.{Start}
 use Rattle.vlog_tokens.specs.declared.start.Start.TheVariants as starts
-use Rattle.vlog_tokens.specs.Flaws.{Piece, ◌>>=◌}
+use Rattle.nl_bytes.specs.Flaws.{Piece, ◌>>=◌}
 use Rattle.vlog_tokens.specs.Items.{item_of, finish, finished, directive_item, word_item, number_item, real_item, based_item, is_signed, digits_of, has_value}
 use Rattle.vlog_tokens.specs.Keywords.{is_keyword}
 use Rattle.vlog_tokens.specs.Numbers.{decimal_value, number_of, real_of}

@@ -9,7 +9,7 @@ use Rattle.vlog_values.specs.declared.literal.Base.TheVariants.{Binary, Octal, D
 use Rattle.vlog_tokens.specs.declared.phase.Phase.{Phase}
 use Rattle.vlog_tokens.specs.declared.phase.Step.{Step}
 use Rattle.vlog_tokens.specs.declared.phase.Step.TheVariants.{Keep, Pass, Ends, Bad}
-use Rattle.vlog_tokens.specs.Flaws.{Flaw, flaw}
+use Rattle.nl_bytes.specs.Flaws.{Flaw, flaw}
 use Rattle.vlog_tokens.specs.Phases.{next_step, is_complete, most_of, is_mark, is_sign, is_open, is_digit, base_of, letter_step, first_digit}
 use Rattle.vlog_tokens.specs.Scanning.{scan_at, stepped}
 use Rattle.vlog_lexemes.specs.Lexemes.{digit_byte, is_low_line}

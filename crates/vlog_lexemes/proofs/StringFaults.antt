@@ -6,7 +6,7 @@ use Rattle.nl_base.specs.declared.fault.Reason.{Reason}
 use Rattle.nl_base.specs.declared.fault.Reason.TheVariants.{EndOfInput, BadByte, BadEscape, TokenTooLong}
 use Rattle.nl_bytes.specs.Classes.{is_verilog_string_byte}
 use Rattle.vlog_tokens.specs.declared.string.Escaped.TheVariants.{NoEscape, NoByte}
-use Rattle.vlog_tokens.specs.Flaws.{Piece, flaw}
+use Rattle.nl_bytes.specs.Flaws.{Piece, flaw}
 use Rattle.vlog_tokens.specs.Strings.{Within, string_at, is_full, is_octal, escaped_by, part_by, escape_by, with_code}
 use Rattle.vlog_tokens.specs.Strings as within
 use Rattle.vlog_lexemes.specs.Strings.{MOST, Part, Plain, Coded, StandsFor, line_feed, tab, backslash, quote, octal_value, NoOctal, IsCode, IsPart, part_bytes, part_value, parts_bytes, parts_value, AreParts}

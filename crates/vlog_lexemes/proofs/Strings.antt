@@ -9,7 +9,7 @@ use Rattle.nl_bytes.specs.Classes.{is_verilog_string_byte}
 use Rattle.vlog_tokens.specs.declared.string.Escaped.{Escaped}
 use Rattle.vlog_tokens.specs.declared.string.Escaped.TheVariants.{Stands, NoEscape, NoByte}
 use Rattle.vlog_tokens.specs.declared.string.Escaped.TheVariants as escapes
-use Rattle.vlog_tokens.specs.Flaws.{Piece, Flaw, flaw}
+use Rattle.nl_bytes.specs.Flaws.{Piece, Flaw, flaw}
 use Rattle.vlog_tokens.specs.Strings.{Within, string_at, is_full, is_octal, escaped_by, part_by, escape_by, with_code}
 use Rattle.vlog_tokens.specs.Strings as within
 use Rattle.vlog_lexemes.specs.Strings.{MOST, Part, Plain, Coded, StandsFor, line_feed, tab, backslash, quote, octal_value, NoOctal, IsCode, IsPart, part_bytes, part_value, parts_bytes, parts_value, AreParts, IsString}

@@ -9,14 +9,13 @@ use Rattle.nl_base.specs.declared.fault.Reason.{Reason}
 use Rattle.nl_base.specs.declared.fault.TextFault.{TextFault}
 use Rattle.nl_base.specs.Place.{place_after, place_past}
 use Rattle.nl_base.proofs.Places.{place_past-append}
-use Rattle.nl_bytes.specs.Tokens.{Ahead, follow, only_end, no_token}
+use Rattle.nl_bytes.specs.Tokens.{Ahead, follow, only_end, no_token, limited}
 use Rattle.vlog_tokens.specs.declared.item.Item.{Item}
 use Rattle.vlog_tokens.specs.declared.item.Item.TheVariants.{Token}
 use Rattle.vlog_tokens.specs.declared.token.VFound.{VFound}
 use Rattle.vlog_tokens.specs.declared.token.VToken.{VToken}
-use Rattle.vlog_tokens.specs.Flaws.{Piece, Flaw}
-use Rattle.vlog_tokens.specs.Language.{tokens_from, then_items, then_tokens, with_line, limited, stream_from}
-use Rattle.vlog_tokens.specs.Parts.{fault_at}
+use Rattle.nl_bytes.specs.Flaws.{Piece, Flaw, fault_at}
+use Rattle.vlog_tokens.specs.Language.{tokens_from, then_items, then_tokens, with_line, stop_of, stream_from}
 use Rattle.vlog_tokens.specs.Spelling.{item_at}
 use Rattle.vlog_lexemes.specs.Lexemes.{IsLexeme, IsNext, IsBlank, AreBlanks, MayFollow, seen_behind}
 use Rattle.vlog_lexemes.specs.Texts.{IsFirst, AreLexemes, EndsAt, Stands, IsBlankFirst, Fails, FailsBy, whole_text, cut_text}
@@ -327,9 +326,9 @@ pub cut_law : (p : Place) (text : List ℕ) (found : List VFound)
 cut_law p text found = (λ cut. cut_sound found cut.0 p text (subst (λ (s : Ahead VFound). IsStreamOf p text s) cut.1 (stream_sound p text)), cut_complete found p text)
 
 pub told_law : (p : Place) (text : List ℕ) (found : List VFound) (last : Place) → AreLexemes (EndsAt last) p text found
-    → stream_from p text ≡ limited (whole_text found last)
+    → stream_from p text ≡ limited stop_of (whole_text found last)
 unfolding stream_from
-told_law p text found last are = ap limited (whole_complete found last p text are)
+told_law p text found last are = ap (limited stop_of) (whole_complete found last p text are)
 
 fault_sound : (found : List VFound) (fault : TextFault) (p : Place) (text : List ℕ) → AreTerminals p text (map proper found) (Bad fault) → AreLexemes (FailsBy fault) p text found
 fault_sound [] fault p text are = are.1
@@ -361,6 +360,6 @@ faults_complete (x ∷ xs) fault p text are =
 pub fault_law : (p : Place) (text : List ℕ) (found : List VFound) (fault : TextFault) → (tokens_from 0 p text ≡ cut_text found fault) ↔ AreLexemes (FailsBy fault) p text found
 fault_law p text found fault = (λ e. fault_sound found fault p text (subst (λ (s : Ahead VFound). IsStreamOf p text s) e (stream_sound p text)), faults_complete found fault p text)
 
-pub told_fault_law : (p : Place) (text : List ℕ) (found : List VFound) (fault : TextFault) → AreLexemes (FailsBy fault) p text found → stream_from p text ≡ limited (cut_text found fault)
+pub told_fault_law : (p : Place) (text : List ℕ) (found : List VFound) (fault : TextFault) → AreLexemes (FailsBy fault) p text found → stream_from p text ≡ limited stop_of (cut_text found fault)
 unfolding stream_from
-told_fault_law p text found fault are = ap limited (faults_complete found fault p text are)
+told_fault_law p text found fault are = ap (limited stop_of) (faults_complete found fault p text are)

@@ -19,7 +19,7 @@ use Rattle.vlog_tokens.specs.declared.start.Start.TheVariants as start
 use Rattle.vlog_tokens.specs.declared.token.VFound.{VFound}
 use Rattle.vlog_tokens.specs.declared.token.VToken.{VToken}
 use Rattle.vlog_tokens.specs.declared.token.VToken.TheVariants as t
-use Rattle.vlog_tokens.specs.Flaws.{Piece, Flaw}
+use Rattle.nl_bytes.specs.Flaws.{Piece, Flaw}
 use Rattle.vlog_tokens.specs.Language.{tokens_from}
 use Rattle.vlog_tokens.specs.Phases.{next_step, is_complete, most_of}
 use Rattle.vlog_tokens.specs.Phases as phases

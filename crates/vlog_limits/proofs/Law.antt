@@ -16,9 +16,12 @@ use Rattle.nl_base.specs.declared.fault.TextFault.{TextFault}
 use Rattle.nl_base.specs.declared.place.Place.{Place}
 use Rattle.nl_bytes.specs.declared.bytes.TheConstants.{LIMIT}
 use Rattle.readers.specs.Parts.{PartOf}
+use Rattle.nl_bytes.proofs.Limited.{done_there}
 use Rattle.readers.specs.Readers.{fault_at}
+use Rattle.readers.specs.Rises.{Rises}
+use Rattle.readers.proofs.Limited.{ends_there, fault_within, fault_looked}
 use Rattle.vlog_tokens.specs.declared.token.VFound.{VFound}
-use Rattle.vlog_tokens.specs.Language.{vlog, limited, stream_from, all_tokens, vtokens}
+use Rattle.vlog_tokens.specs.Language.{vlog, stop_of, stream_from, all_tokens, vtokens}
 use Rattle.vlog_exprs.specs.Reasons.{trailing}
 use Rattle.vlog_values.specs.declared.module.VlogFile.{VlogFile}
 use Rattle.vlog_modules.specs.Grammar.{file}
@@ -29,12 +32,9 @@ use Rattle.vlog_bounds.proofs.TokenCount.{read_within}
 use Rattle.vlog_modules.specs.AnyLength.{VlogSpells, VlogFails}
 use Rattle.grammar_laws.proofs.Ending.{whole_ends}
 use Rattle.grammar_laws.proofs.Existing.{fault_exists}
-use Rattle.vlog_limits.proofs.Ending.{done_there, none_behind}
-use Rattle.vlog_limits.proofs.Faults.{fault_within, fault_looked}
 use Rattle.vlog_limits.proofs.Limits.{over_long}
 use Rattle.vlog_limits.proofs.Rising.{rises}
 use Rattle.vlog_limits.proofs.Looked.{text_within, text_looked}
-use Rattle.vlog_limits.specs.Rises.{Rises}
 
 abbrev Tokens : Type 0
 Tokens = List (Terminal VFound Place)
@@ -57,13 +57,21 @@ clear = clear_fewer tt text (λ _ x. x ≡ last) (λ _ _. Unit {0}) (λ _ _ _. t
 pub reads : (bs : List ℕ) (v : VlogFile) → VlogReads bs v ↔ (VlogSpells bs v × (length bs ≤ LIMIT))
 reads bs v = (λ h. text_within tt text bs v h, λ h. text_looked tt text bs v h.0 h.1)
 
+within : (bs : List ℕ) (f : TextFault) → VlogFault bs f → VlogFails bs f × (f.stop ≤ LIMIT)
+unfolding stream_from
+within bs f h = fault_within vlog tt text (all_tokens bs) f h
+
+looked : (bs : List ℕ) (f : TextFault) → VlogFails bs f → f.stop ≤ LIMIT → VlogFault bs f
+unfolding stream_from
+looked bs f h le = fault_looked vlog tt text (all_tokens bs) f (rises bs) h le
+
 pub faults : (bs : List ℕ) (f : TextFault) → VlogFault bs f ↔ (VlogFails bs f × (f.stop ≤ LIMIT))
-faults bs f = (λ h. fault_within tt text bs f h, λ h. fault_looked tt text bs f h.0 h.1)
+faults bs f = (λ h. within bs f h, λ h. looked bs f h.0 h.1)
 
 late : (bs : List ℕ) (f : TextFault) → VlogCut bs → VlogFails bs f → LIMIT < f.stop
 late bs f c h = elim (cases_lt LIMIT f.stop) [
   | inl lt ↦ lt
-  | inr le ↦ absurd (grammar.fault_or_cut (fault_at vlog) tt text lives last closed (vtokens bs) f (fault_looked tt text bs f h le) c)
+  | inr le ↦ absurd (grammar.fault_or_cut (fault_at vlog) tt text lives last closed (vtokens bs) f (looked bs f h le) c)
 ]
 
 abbrev AllLate : List ℕ → Type 0
@@ -71,14 +79,14 @@ AllLate bs = (f : TextFault) → VlogFails bs f → LIMIT < f.stop
 
 -- where all first faults are past the limit, none is looked at
 none_within : (bs : List ℕ) (f : TextFault) → AllLate bs → VlogFault bs f → ⊥
-none_within bs f h g = let w = fault_within tt text bs f g in let l = h f w.0 in omega (arith, w.1, l)
+none_within bs f h g = let w = within bs f g in let l = h f w.0 in omega (arith, w.1, l)
 
 is_long : (bs : List ℕ) → LIMIT < length bs → (vtokens bs).finish ≡ Done → ⊥
 is_long bs long e = let w = read_within place_at_start bs e in omega (arith, long, w)
 
 done_at : (bs : List ℕ) (before rest : Tokens) (p : Place) → (vtokens bs).tokens ≡ before ++ end p ∷ rest → (vtokens bs).finish ≡ Done
-unfolding stream_from limited
-done_at bs before rest p e = done_there (all_tokens bs).tokens (all_tokens bs).finish before rest p e
+unfolding stream_from
+done_at bs before rest p e = done_there stop_of (all_tokens bs) before rest p e
 
 cut_by : (bs : List ℕ) → LIMIT < length bs → AllLate bs → (r : Found (Terminal VFound Place) Reason VlogFile) → read tt text (vtokens bs).tokens ≡ r → VlogCut bs
 cut_by bs long h (Ok w) e =
@@ -102,7 +110,7 @@ no_text : (bs : List ℕ) (before after : Tokens) (x : Terminal VFound Place) �
 no_text bs before after x e v h =
     let n = whole_ends trailing tt file before v h in
     let place : (all_tokens bs).tokens ≡ n.0 ++ end n.1 ∷ (x ∷ after) = e ∙ ap (λ (z : Tokens). z ++ x ∷ after) n.2 ∙ append_assoc n.0 (end n.1 ∷ []) (x ∷ after) in
-    let none = none_behind 0 n.0 (x ∷ after) n.1 (all_tokens bs).finish (subst (λ (z : Tokens). Rises 0 z (all_tokens bs).finish) place (rises bs)) in
+    let none = (ends_there stop_of 0 n.0 (x ∷ after) n.1 (all_tokens bs).finish (subst (λ (z : Tokens). Rises stop_of 0 z (all_tokens bs).finish) place (rises bs))).nothing in
     absurd cc
 
 pub first_fault : (bs : List ℕ) (before after : Tokens) (x : Terminal VFound Place) → (all_tokens bs).tokens ≡ before ++ x ∷ after → Begins tt text before → (Begins tt text (before ++ x ∷ []) → ⊥)

@@ -1,17 +1,19 @@
 -- What the limit of an input leaves of the tokens of a text.
-use Rattle.std.proofs.Common.{◌≡◌, ℕ, zero, suc, ◌-◌, ◌<◌, ◌≤◌, Bool, true, false, cond, ltb, List, [], ◌∷◌, ◌++◌, length, Result, Ok, Err, refl, sym, ap, ◌∙◌, inl, inr, arith}
-use Rattle.std.proofs.lemmas.Bool.{ltb-false, cases_lt}
-use Rattle.grammar.specs.Whole.{Terminal, proper, end, Finish, Done, Bad, Over}
+use Rattle.std.proofs.Common.{◌≡◌, ℕ, zero, suc, ◌-◌, ◌<◌, ◌≤◌, List, [], ◌∷◌, ◌++◌, length, Result, Ok, Err, sym, ap, ◌∙◌, inl, inr}
+use Rattle.std.proofs.lemmas.Bool.{cases_lt}
+use Rattle.grammar.specs.Whole.{Terminal, Bad, Over}
 use Rattle.nl_base.specs.declared.place.Place.{Place}
 use Rattle.nl_base.specs.declared.fault.TextFault.{TextFault}
 use Rattle.nl_base.specs.Place.{place_after, place_at_start}
 use Rattle.nl_bytes.specs.declared.bytes.TheConstants.{LIMIT}
-use Rattle.nl_bytes.specs.Tokens.{Ahead, follow, only_end, no_token}
+use Rattle.nl_bytes.specs.Tokens.{Ahead}
+use Rattle.nl_bytes.proofs.Limited.{limited_front}
+use Rattle.nl_bytes.proofs.Limited as any
 use Rattle.vlog_tokens.specs.declared.item.Item.{Item}
 use Rattle.vlog_tokens.specs.declared.item.Item.TheVariants.{Blank, Line, Token}
 use Rattle.vlog_tokens.specs.declared.token.VFound.{VFound}
-use Rattle.vlog_tokens.specs.Flaws.{Piece, Flaw}
-use Rattle.vlog_tokens.specs.Language.{with_line, then_tokens, then_items, tokens_from, limited, limited_from, limited_finish, stream_from, all_tokens, vtokens}
+use Rattle.nl_bytes.specs.Flaws.{Piece, Flaw}
+use Rattle.vlog_tokens.specs.Language.{with_line, then_tokens, then_items, tokens_from, stop_of, stream_from, all_tokens, vtokens}
 use Rattle.vlog_tokens.specs.Spelling.{item_at}
 use Rattle.vlog_lexing.proofs.Limits.{tokens_whole}
 
@@ -41,64 +43,12 @@ over_long text over = elim (cases_lt LIMIT (length text)) [
 
 -- ---- what is looked at is a front
 
-abbrev pub IsFront : List (Terminal VFound Place) → List (Terminal VFound Place) → Type 0
-IsFront xs ys = (rest : List (Terminal VFound Place)) × (xs ≡ ys ++ rest)
-
-front_by : (t : Bool) (x : Terminal VFound Place) (xs : List (Terminal VFound Place)) (a b : Ahead VFound) → a.tokens ≡ [] → IsFront (x ∷ xs) b.tokens → IsFront (x ∷ xs) (cond t a b).tokens
-front_by true x xs a b none f = (x ∷ xs, ap (λ (z : List (Terminal VFound Place)). z ++ (x ∷ xs)) (sym none))
-front_by false x xs a b none f = f
-
-pub finish_none : (finish : Finish TextFault) → (limited_finish finish).tokens ≡ []
-finish_none Done = refl
-finish_none (Bad fault) = by (ltb LIMIT fault.stop)
-  where
-    by : (t : Bool) → (cond t (no_token VFound Over) (no_token VFound (Bad fault))).tokens ≡ []
-    by true = refl
-    by false = refl
-finish_none Over = refl
-
-limited_front : (xs : List (Terminal VFound Place)) (finish : Finish TextFault) → IsFront xs (limited_from xs finish).tokens
-limited_front [] finish = ([], ap (λ (z : List (Terminal VFound Place)). z ++ []) (sym (finish_none finish)))
-limited_front (proper x ∷ xs) finish =
-    let f = limited_front xs finish in
-    front_by (ltb LIMIT x.stop) (proper x) xs (no_token VFound Over) (follow x (limited_from xs finish)) refl (f.0, ap (λ (z : List (Terminal VFound Place)). proper x ∷ z) f.1)
-limited_front (end p ∷ xs) finish = front_by (ltb LIMIT p.offset) (end p) xs (no_token VFound Over) (only_end VFound p) refl (xs, refl)
-
-pub a_front : (text : List ℕ) → IsFront (all_tokens text).tokens (vtokens text).tokens
-unfolding stream_from limited
-a_front text = limited_front (all_tokens text).tokens (all_tokens text).finish
+pub a_front : (text : List ℕ) → (rest : List (Terminal VFound Place)) × ((all_tokens text).tokens ≡ (vtokens text).tokens ++ rest)
+unfolding stream_from
+a_front text = limited_front stop_of (all_tokens text)
 
 -- ---- bytes that are no token
 
-pub record IsAll (xs : List (Terminal VFound Place)) (finish : Finish TextFault) (s : Ahead VFound) (fault : TextFault) : Type 0 where
-  pub tokens : xs ≡ s.tokens
-  pub finishes : finish ≡ Bad fault
-  pub within : fault.stop ≤ LIMIT
-
-limited_bad : (xs : List (Terminal VFound Place)) (finish : Finish TextFault) (fault : TextFault) → (limited_from xs finish).finish ≡ Bad fault → IsAll xs finish (limited_from xs finish) fault
-limited_bad [] Done fault e = absurd cc
-limited_bad [] (Bad other) fault e = by (ltb LIMIT other.stop) refl e
-  where
-    by : (t : Bool) → ltb LIMIT other.stop ≡ t → (cond t (no_token VFound Over) (no_token VFound (Bad other))).finish ≡ Bad fault → IsAll [] (Bad other) (cond t (no_token VFound Over) (no_token VFound (Bad other))) fault
-    by true is e = absurd cc
-    by false is e = let h = ltb-false _ _ is in let same : other ≡ fault = cc in record { tokens = refl; finishes = e; within = rw (sym same) (omega (arith, h)) }
-limited_bad [] Over fault e = absurd cc
-limited_bad (proper x ∷ xs) finish fault e = by (ltb LIMIT x.stop) (limited_bad xs finish fault) e
-  where
-    by : (t : Bool) → ((limited_from xs finish).finish ≡ Bad fault → IsAll xs finish (limited_from xs finish) fault) → (cond t (no_token VFound Over) (follow x (limited_from xs finish))).finish ≡ Bad fault → IsAll (proper x ∷ xs) finish (cond t (no_token VFound Over) (follow x (limited_from xs finish))) fault
-    by true rest e = absurd cc
-    by false rest e = let r = rest e in record { tokens = ap (λ (z : List (Terminal VFound Place)). proper x ∷ z) r.tokens; finishes = r.finishes; within = r.within }
-limited_bad (end p ∷ xs) finish fault e = by (ltb LIMIT p.offset) e
-  where
-    by : (t : Bool) → (cond t (no_token VFound Over) (only_end VFound p)).finish ≡ Bad fault → IsAll (end p ∷ xs) finish (cond t (no_token VFound Over) (only_end VFound p)) fault
-    by true e = absurd cc
-    by false e = absurd cc
-
-whole_of : (s t : Ahead VFound) → s.tokens ≡ t.tokens → s.finish ≡ t.finish → s ≡ t
-whole_of s t p q = λ j. record { tokens = p j; finish = q j }
-
 pub bad_within : (text : List ℕ) (fault : TextFault) → (vtokens text).finish ≡ Bad fault → (all_tokens text ≡ vtokens text) × (fault.stop ≤ LIMIT)
-unfolding stream_from limited
-bad_within text fault e =
-    let r = limited_bad (all_tokens text).tokens (all_tokens text).finish fault e in
-    (whole_of (all_tokens text) (limited_from (all_tokens text).tokens (all_tokens text).finish) r.tokens (r.finishes ∙ sym e), r.within)
+unfolding stream_from
+bad_within text fault e = any.bad_within stop_of (all_tokens text) fault e

@@ -19,15 +19,15 @@ use Rattle.vlog_tokens.specs.declared.start.Start.TheVariants as starts
 use Rattle.vlog_tokens.specs.declared.mark.PairStart.TheVariants as pair_starts
 use Rattle.vlog_tokens.specs.declared.string.Escaped.{Escaped}
 use Rattle.vlog_tokens.specs.declared.string.Escaped.TheVariants.{Stands, Octal, NoEscape, NoByte}
-use Rattle.vlog_tokens.specs.Flaws.{Piece, Flaw, flaw, ◌>>=◌}
+use Rattle.nl_bytes.specs.Flaws.{Piece, Flaw, flaw, ◌>>=◌}
 use Rattle.vlog_tokens.specs.Phases.{next_step, is_complete, most_of}
 use Rattle.vlog_tokens.specs.Scanning.{Lexeme, scan_at, stepped, ended, kept}
 use Rattle.vlog_tokens.specs.Items.{finish, finished, item_of}
 use Rattle.vlog_tokens.specs.Strings.{Within, Parts, Escape, Code, is_octal, escaped_by, is_full, part_by, escape_by, with_code, string_at}
 use Rattle.vlog_tokens.specs.Spelling.{pair_by, both_of, single_of, slash_by, comment_at, str_of, item_by, start_of, item_at}
-use Rattle.vlog_tokens.specs.Language.{with_line, then_tokens, then_items, tokens_from, all_tokens}
+use Rattle.vlog_tokens.specs.Language.{with_line, then_tokens, then_items, tokens_from, stop_of, all_tokens}
 use Rattle.vlog_tokens.proofs.Within.{IsWithin, item_within}
-use Rattle.vlog_limits.specs.Rises.{Rises}
+use Rattle.readers.specs.Rises.{Rises}
 
 -- ---- a piece has so many bytes or more, and at most one more was seen
 
@@ -135,19 +135,19 @@ item_far b bs = by_far (start_of b) b bs
 -- ---- stops
 
 rises_item : (n : ℕ) (item : Item) (p : Place) (bs : List ℕ) (k count seen : ℕ) (after : ℕ → Ahead VFound) → n ≤ p.offset + 1 → 1 ≤ count → 1 ≤ seen → seen ≤ count + 1 → seen ≤ suc k
-    → ((m c : ℕ) → m ≤ p.offset + 1 + (c - 1) + 1 → m ≤ p.offset + 1 + k → Rises m (after c).tokens (after c).finish) → n ≤ p.offset + 1 + k
-    → Rises n (then_tokens item p bs count seen after).tokens (then_tokens item p bs count seen after).finish
+    → ((m c : ℕ) → m ≤ p.offset + 1 + (c - 1) + 1 → m ≤ p.offset + 1 + k → Rises stop_of m (after c).tokens (after c).finish) → n ≤ p.offset + 1 + k
+    → Rises stop_of n (then_tokens item p bs count seen after).tokens (then_tokens item p bs count seen after).finish
 rises_item n Blank p bs k count seen after low some shown near within rest high = rest n count (omega (arith, low)) high
 rises_item n Line p bs k count seen after low some shown near within rest high = rest n (with_line count bs) (omega (arith, low)) high
 rises_item n (Token token) p bs k count seen after low some shown near within rest high = (omega (arith, low, shown), rest (p.offset + seen) count (omega (arith, near, some)) (omega (arith, within)))
 
 rises_then : (n : ℕ) (p : Place) (bs : List ℕ) (k : ℕ) (r : Result (Piece Item) Flaw) (after : ℕ → Ahead VFound) → n ≤ p.offset + 1 → IsFar 1 r → IsWithin (suc k) r
-    → ((m c : ℕ) → m ≤ p.offset + 1 + (c - 1) + 1 → m ≤ p.offset + 1 + k → Rises m (after c).tokens (after c).finish) → n ≤ p.offset + 1 + k
-    → Rises n (then_items p bs r after).tokens (then_items p bs r after).finish
+    → ((m c : ℕ) → m ≤ p.offset + 1 + (c - 1) + 1 → m ≤ p.offset + 1 + k → Rises stop_of m (after c).tokens (after c).finish) → n ≤ p.offset + 1 + k
+    → Rises stop_of n (then_items p bs r after).tokens (then_items p bs r after).finish
 rises_then n p bs k (Ok piece) after low far within rest high = rises_item n piece.value p bs k piece.count piece.seen after low far.0 far.1 far.2 within.1 rest high
 rises_then n p bs k (Err f) after low far within rest high = omega (arith, low, far)
 
-rises_from : (n : ℕ) (skipped : ℕ) (p : Place) (bs : List ℕ) → n ≤ p.offset + skipped + 1 → n ≤ p.offset + length bs → Rises n (tokens_from skipped p bs).tokens (tokens_from skipped p bs).finish
+rises_from : (n : ℕ) (skipped : ℕ) (p : Place) (bs : List ℕ) → n ≤ p.offset + skipped + 1 → n ≤ p.offset + length bs → Rises stop_of n (tokens_from skipped p bs).tokens (tokens_from skipped p bs).finish
 unfolding tokens_from
 rises_from n zero p [] low high = (omega (arith, high), refl, refl)
 rises_from n (suc k) p [] low high = (omega (arith, high), refl, refl)
@@ -157,5 +157,5 @@ rises_from n zero p (b ∷ bs) low high =
     (λ m c l h. rises_from m (c - 1) (place_after p b) bs (omega (arith, l)) (omega (arith, h))) (omega (arith, high))
 
 -- the stops of the tokens of a text rise
-pub rises : (text : List ℕ) → Rises 0 (all_tokens text).tokens (all_tokens text).finish
+pub rises : (text : List ℕ) → Rises stop_of 0 (all_tokens text).tokens (all_tokens text).finish
 rises text = rises_from 0 0 place_at_start text (omega arith) (omega arith)

@@ -4,9 +4,9 @@ ghost use Rattle.grammar.specs.Whole.{Terminal, Over, Bad};
 ghost use Rattle.nl_base.specs.declared.place.Place.{Place};
 ghost use Rattle.nl_base.specs.declared.fault.TextFault.{TextFault};
 ghost use Rattle.nl_bytes.specs.declared.bytes.TheConstants.{LIMIT};
+ghost use Rattle.readers.specs.Rises.{Rises};
 ghost use Rattle.vlog_tokens.specs.declared.token.VFound.{VFound};
-ghost use Rattle.vlog_tokens.specs.Language.{vtokens, all_tokens};
-ghost use Rattle.vlog_limits.specs.Rises.{Rises};
+ghost use Rattle.vlog_tokens.specs.Language.{stop_of, vtokens, all_tokens};
 
 /// Bytes within the limit have all their tokens within it.
 pub fn tokens_are_all()
@@ -30,5 +30,5 @@ pub fn no_token_is_found_within_the_limit()
 
 /// The stops of the tokens of a text rise.
 pub fn stops_rise()
-    ensures { (bytes : List ℕ) → Rises 0 (all_tokens bytes).tokens (all_tokens bytes).finish }
+    ensures { (bytes : List ℕ) → Rises stop_of 0 (all_tokens bytes).tokens (all_tokens bytes).finish }
 {}

@@ -4,13 +4,14 @@ use Rattle.nl_base.specs.declared.fault.ReadError.{ReadError}
 use Rattle.nl_base.specs.declared.fault.ReadError.TheVariants as errors
 use Rattle.nl_io.specs.Sources.{Supply}
 use Rattle.nl_bytes.specs.declared.bytes.TheConstants.{LIMIT}
+use Rattle.nl_bytes.specs.Tokens.{State}
+use Rattle.nl_bytes.specs.Tokens as tokens
 use Rattle.readers.specs.Readers.{Reader, ReadsWhole, Ends, room, same}
 use Rattle.readers.specs.Texts.{ReadsText, Comes, tokens_of}
 use Rattle.readers.proofs.Moving.{skip_none}
 use Rattle.readers.proofs.Whole.{fresh, part_fails_from, end_fails_from, text_is_read_from}
 use Rattle.vlog_tokens.specs.declared.token.VFound.{VFound}
-use Rattle.vlog_tokens.specs.Language.{State, vlog}
-use Rattle.vlog_tokens.specs.Language as tokens
+use Rattle.vlog_tokens.specs.Language.{vlog}
 use Rattle.vlog_values.specs.declared.module.VlogFile.{VlogFile}
 use Rattle.vlog_exprs.specs.Language.{NoContext}
 use Rattle.vlog_exprs.specs.Reasons.{trailing}

@@ -18,7 +18,7 @@ use Rattle.nl_base.specs.declared.fault.TextFault.{TextFault}
 use Rattle.readers.specs.Parts.{PartOf}
 use Rattle.readers.specs.Readers.{fault_at}
 use Rattle.vlog_tokens.specs.declared.token.VFound.{VFound}
-use Rattle.vlog_tokens.specs.Language.{vlog, all_tokens}
+use Rattle.vlog_tokens.specs.Language.{vlog, stop_of, all_tokens}
 use Rattle.vlog_exprs.specs.Reasons.{trailing}
 use Rattle.vlog_values.specs.declared.module.VlogFile.{VlogFile}
 use Rattle.vlog_modules.specs.Grammar.{file}
@@ -26,8 +26,8 @@ use Rattle.vlog_modules.specs.Text.{VlogFault}
 use Rattle.vlog_modules.proofs.Live.{live_file}
 use Rattle.vlog_modules.proofs.Clear.{clear_file}
 use Rattle.vlog_modules.specs.AnyLength.{VlogFails}
-use Rattle.vlog_limits.specs.Rises.{Rises}
-use Rattle.vlog_limits.proofs.Ending.{none_behind}
+use Rattle.readers.specs.Rises.{Rises}
+use Rattle.readers.proofs.Limited.{ends_there}
 use Rattle.vlog_limits.proofs.Law.{faults}
 use Rattle.vlog_limits.proofs.Rising.{rises}
 use Rattle.vlog_reasons.specs.Context.{Tokens, at_start}
@@ -95,7 +95,7 @@ no_text bs before after x e v h =
     let n = whole_ends trailing tt file before v h in
     let place : all_ahead bs ≡ n.0 ++ end n.1 ∷ (x ∷ after) = e ∙ ap (λ (z : Tokens). z ++ x ∷ after) n.2 ∙ append_assoc n.0 (end n.1 ∷ [])
     (x ∷ after) in
-    let none = none_behind 0 n.0 (x ∷ after) n.1 (all_tokens bs).finish (subst (λ (z : Tokens). Rises 0 z (all_tokens bs).finish) place (rises bs)) in
+    let none = (ends_there stop_of 0 n.0 (x ∷ after) n.1 (all_tokens bs).finish (subst (λ (z : Tokens). Rises stop_of 0 z (all_tokens bs).finish) place (rises bs))).nothing in
     absurd cc
 
 to_table : (bs : List ℕ) (f : TextFault) → VlogFails bs f → FailsByTable bs f

@@ -17,10 +17,11 @@ use Rattle.nl_bytes.specs.declared.class.Class.{Class}
 use Rattle.nl_bytes.specs.declared.class.Class.TheVariants.{NameByte, NumberByte, Graphic}
 use Rattle.nl_bytes.specs.Classes.{AreIn, in_class, is_verilog_space, is_name_byte, is_number_byte, is_graphic}
 use Rattle.nl_bytes.specs.Bytes.{Window, Uses, TakesWhenUsed, IsAhead, input, given}
-use Rattle.nl_bytes.proofs.Uses.{Uses-front, Uses-none, Uses-trans}
+use Rattle.nl_bytes.proofs.Uses.{Uses-front, Uses-none, Uses-trans, offset_grows}
 use Rattle.nl_bytes.proofs.Known.{Uses-known, IsAhead-known}
+use Rattle.nl_bytes.proofs.Limited.{Uses-unknown}
 use Rattle.nl_bytes.proofs.Fronts.{front-all}
-use Rattle.nl_bytes.specs.Tokens.{Ahead, TellsKnown, Shortens}
+use Rattle.nl_bytes.specs.Tokens.{Ahead, TellsKnown, Shortens, known_ahead, UsesTo, FoundUnseen, Finds}
 use Rattle.vlog_tokens.specs.declared.item.Item.{Item}
 use Rattle.vlog_tokens.specs.declared.item.Item.TheVariants.{Token}
 use Rattle.vlog_tokens.specs.declared.item.Spot.{Spot}
@@ -31,7 +32,7 @@ use Rattle.vlog_tokens.specs.declared.start.Start.TheVariants.{Lexeme}
 use Rattle.vlog_tokens.specs.declared.token.VFound.{VFound}
 use Rattle.vlog_tokens.specs.declared.token.VToken.{VToken}
 use Rattle.vlog_tokens.specs.declared.token.VToken.TheVariants.{Name, Number}
-use Rattle.vlog_tokens.specs.Flaws.{Piece, Flaw, ◌>>=◌}
+use Rattle.nl_bytes.specs.Flaws.{Piece, Flaw, ◌>>=◌}
 use Rattle.vlog_tokens.specs.Phases.{next_step, most_of, class_of}
 use Rattle.vlog_tokens.specs.Phases as phases
 use Rattle.vlog_tokens.specs.Scanning as scanning
@@ -40,22 +41,23 @@ use Rattle.vlog_tokens.specs.Items.{item_of, finish, finished, word_item, number
 use Rattle.vlog_tokens.specs.Numbers.{number_of}
 use Rattle.vlog_tokens.specs.Spelling.{item_by, start_of, begins_name, lexeme_spelled}
 use Rattle.vlog_tokens.specs.Parts.{Answers, GivesSpot, Reads, spot_of}
-use Rattle.vlog_tokens.specs.Finding.{ahead_of, Passes, UsesTo, FoundUnseen, Finds}
-use Rattle.vlog_tokens.specs.Language.{stream_from}
+use Rattle.vlog_tokens.specs.Finding.{Passes}
+use Rattle.vlog_tokens.specs.Language.{vlog, stream_from}
 use Rattle.vlog_tokens.specs.Held.{is_near, name_length, word_length, makes_real, number_by, number_length, escaped_by, escaped_length, is_pair, pair_token, number_at}
-use Rattle.vlog_tokens.proofs.Parts.{offset_grows, front_given, unseen_after}
+use Rattle.nl_bytes.proofs.Readers.{unseen_after}
+use Rattle.vlog_tokens.proofs.Parts.{front_given}
 use Rattle.vlog_tokens.proofs.Scanning.{keep_step, scan_stays, front_of}
 use Rattle.vlog_tokens.proofs.Reading.{gives_spot, spot_unseen, spot_used_up}
 use Rattle.vlog_tokens.proofs.Marks.{reads_told}
-use Rattle.vlog_tokens.proofs.Streams.{Uses-unknown, passes_none, finds_token, finds_err}
+use Rattle.vlog_tokens.proofs.Streams.{passes_none, finds_token, finds_err}
 
 -- ---- white space before a token
 
 -- behind white space the same tokens are ahead
-passes_ahead : {a b : Window} {l m : Option (List ℕ)} → Passes a b l m → ahead_of a l ≡ ahead_of b m
+passes_ahead : {a b : Window} {l m : Option (List ℕ)} → Passes a b l m → known_ahead vlog a l ≡ known_ahead vlog b m
 passes_ahead {a} {b} {l} {m} p = go (input a l) refl
   where
-    go : (o : Option (List ℕ)) → input a l ≡ o → option_map (λ bs. stream_from a.place bs) o ≡ ahead_of b m
+    go : (o : Option (List ℕ)) → input a l ≡ o → option_map (λ bs. stream_from a.place bs) o ≡ known_ahead vlog b m
     go None e = ap (λ (o : Option (List ℕ)). option_map (λ bs. stream_from b.place bs) o) (sym (Uses-unknown p.uses e))
     go (Some bs) e =
         let k = Uses-known a b l m p.used bs p.uses e in
@@ -66,17 +68,17 @@ shortens_after (Ok (Some x)) a b c le h = (omega (arith, h.0), h.1)
 shortens_after (Ok None) a b c le h = tt
 shortens_after (Err e) a b c le h = tt
 
-space_unseen : (r : Result (Option VFound) ReadError) (a b c : Window) → TakesWhenUsed a b → IfOk r (λ x. Shortens x b c) → IfOk r (λ x. UsesTo x c) → IfOk r (λ x. FoundUnseen x b c) → IfOk r (λ x. FoundUnseen x a c)
+space_unseen : (r : Result (Option VFound) ReadError) (a b c : Window) → TakesWhenUsed a b → IfOk r (λ x. Shortens x b c) → IfOk r (λ x. UsesTo vlog x c) → IfOk r (λ x. FoundUnseen vlog x b c) → IfOk r (λ x. FoundUnseen vlog x a c)
 space_unseen (Ok (Some x)) a b c lazy shorter to shown = unseen_after a b c x.stop lazy (omega (arith, shorter.0, to)) shown
 space_unseen (Ok None) a b c lazy shorter to shown = tt
 space_unseen (Err e) a b c lazy shorter to shown = tt
 
 -- the next token behind white space is the next
-pub finds_after : {a b c : Window} {l m n : Option (List ℕ)} {r : Result (Option VFound) ReadError} → Passes a b l m → Finds b c m n r → Finds a c l n r
+pub finds_after : {a b c : Window} {l m n : Option (List ℕ)} {r : Result (Option VFound) ReadError} → Passes a b l m → Finds vlog b c m n r → Finds vlog a c l n r
 finds_after {a} {b} {c} {l} {m} {n} {r} p f = record {
   used = p.used ++ f.used;
   uses = Uses-trans a b c l m n p.used f.used p.uses f.uses;
-  told = subst (λ (o : Option (Ahead VFound)). TellsKnown o r c (ahead_of c n)) (sym (passes_ahead p)) f.told;
+  told = subst (λ (o : Option (Ahead VFound)). TellsKnown o r c (known_ahead vlog c n)) (sym (passes_ahead p)) f.told;
   shorter = shortens_after r a b c (omega (arith, offset_grows p.uses)) f.shorter;
   used_to = f.used_to;
   ended = f.ended;
@@ -91,7 +93,7 @@ held_within w e = leb-true (w.place.offset + length w.held) LIMIT e
 
 -- a token that was read is found
 pub token_found : {a b : Window} {l : Option (List ℕ)} {byte : ℕ} (token : VToken) (stop : ℕ) → IsAhead a l (Some byte) → Reads (item_by (start_of byte) byte) a b l l (Ok (record { item = Token token; stop = stop })) → b.place.offset ≤ stop → stop ≤ LIMIT
-    → Finds a b l l (Ok (Some (record { place = a.place; stop = stop; token = token })))
+    → Finds vlog a b l l (Ok (Some (record { place = a.place; stop = stop; token = token })))
 token_found {a} {b} {l} {byte} token stop ahead reads to near =
     let found : Result (Option VFound) ReadError = Ok (Some (record { place = a.place; stop = stop; token = token })) in
     finds_token token (passes_none a l) ahead reads (refl, refl, refl) a.place refl found (rw (le-ltb LIMIT stop near) refl) to
@@ -203,7 +205,7 @@ word_named bs n is some = named NameByte bs n is some
 
 -- a name or a keyword that is held whole is found
 pub word_found : {a b : Window} {byte : ℕ} {n : ℕ} (l : Option (List ℕ)) (tail : List ℕ) → a.held ≡ byte ∷ tail → start_of byte ≡ Lexeme Word → is_near a ≡ true → 0 < n → n ≡ word_length a.held
-    → b.held ≡ drop n a.held → b.place ≡ place_past a.place (take n a.held) → (token : VToken) → Token token ≡ word_item (take n a.held) → (p : Place) → p ≡ a.place → Finds a b l l (Ok (Some (record { place = p; stop = p.offset + n + 1; token = token })))
+    → b.held ≡ drop n a.held → b.place ≡ place_past a.place (take n a.held) → (token : VToken) → Token token ≡ word_item (take n a.held) → (p : Place) → p ≡ a.place → Finds vlog a b l l (Ok (Some (record { place = p; stop = p.offset + n + 1; token = token })))
 word_found {a} {b} {byte} {n} l tail front begins near some whole held place token token-is p p-is =
     let w = word_named a.held n whole some in
     let f = front_used {a = a} {b = b} {n = n} w.more held place in
@@ -212,8 +214,8 @@ word_found {a} {b} {byte} {n} l tail front begins near some whole held place tok
     (rw (begins, token-is) reads) (omega (arith, ap (λ (q : Place). q.offset) place, place_past-offset a.place (take n a.held), f.count)) (omega (arith, held_within a near, w.more)))
 
 -- nothing was used where memory ran out
-pub found_nothing : (w : Window) (l : Option (List ℕ)) → Finds w w l l (Err NoMemory)
-found_nothing w l = record { used = []; uses = Uses-none w l; told = free (ahead_of w l); shorter = tt; used_to = tt; ended = tt; unseen = tt; used_up = λ is. absurd cc }
+pub found_nothing : (w : Window) (l : Option (List ℕ)) → Finds vlog w w l l (Err NoMemory)
+found_nothing w l = record { used = []; uses = Uses-none w l; told = free (known_ahead vlog w l); shorter = tt; used_to = tt; ended = tt; unseen = tt; used_up = λ is. absurd cc }
   where
     free : (o : Option (Ahead VFound)) → TellsKnown o (Err NoMemory) w o
     free None = refl
@@ -265,7 +267,7 @@ number_is text = refl
 
 -- a number that is held whole is found, or it is out of range
 pub number_finds : {a b : Window} {byte : ℕ} {n : ℕ} (l : Option (List ℕ)) (tail : List ℕ) → a.held ≡ byte ∷ tail → start_of byte ≡ Lexeme Whole → is_near a ≡ true → length a.held ≤ 4096 → 0 < n → n ≡ number_length a.held
-    → b.held ≡ drop n a.held → b.place ≡ place_past a.place (take n a.held) → (p : Place) → p ≡ a.place → (digits : List ℕ) → digits ≡ take n a.held → Finds a b l l (number_at p (p.offset + n + 1) (number_of digits))
+    → b.held ≡ drop n a.held → b.place ≡ place_past a.place (take n a.held) → (p : Place) → p ≡ a.place → (digits : List ℕ) → digits ≡ take n a.held → Finds vlog a b l l (number_at p (p.offset + n + 1) (number_of digits))
 number_finds {a} {b} {byte} {n} l tail front begins near small some whole held place p p-is digits digits-is =
     let w = numbered a.held n whole some in
     let f = front_used {a = a} {b = b} {n = n} w.more held place in
@@ -274,7 +276,7 @@ number_finds {a} {b} {byte} {n} l tail front begins near small some whole held p
     rw (p-is, digits-is) (go o (rw begins reads) (omega (arith, ap (λ (q : Place). q.offset) place, place_past-offset a.place (take n a.held), f.count)) (omega (arith, held_within a near, w.more)))
   where
     go : (o : Option ℤ) → Reads (item_by (start_of byte) byte) a b l l (spot_of a.place (a.place.offset + n + 1) (number_item o)) → b.place.offset ≤ a.place.offset + n + 1 → a.place.offset + n + 1 ≤ LIMIT
-        → Finds a b l l (number_at a.place (a.place.offset + n + 1) o)
+        → Finds vlog a b l l (number_at a.place (a.place.offset + n + 1) o)
     go (Some z) reads to in_limit = token_found {a = a} {b = b} {l = l} {byte = byte} (Number z) (a.place.offset + n + 1) (tail, front) reads to in_limit
     go None reads to in_limit = finds_err {b = byte} (passes_none a l) (tail, front) reads
 
@@ -329,7 +331,7 @@ escaped_each held tail n front each = rw (front, one_more n) (refl, each)
 
 -- an escaped name that is held whole is found
 pub escaped_found : {a b : Window} {n : ℕ} (l : Option (List ℕ)) (tail : List ℕ) → a.held ≡ 92 ∷ tail → is_near a ≡ true → 0 < n → n ≡ escaped_length tail
-    → b.held ≡ drop (n + 1) a.held → b.place ≡ place_past a.place (take (n + 1) a.held) → (name : List ℕ) → name ≡ take n tail → (p : Place) → p ≡ a.place → Finds a b l l (Ok (Some (record { place = p; stop = p.offset + n + 2; token = Name name })))
+    → b.held ≡ drop (n + 1) a.held → b.place ≡ place_past a.place (take (n + 1) a.held) → (name : List ℕ) → name ≡ take n tail → (p : Place) → p ≡ a.place → Finds vlog a b l l (Ok (Some (record { place = p; stop = p.offset + n + 2; token = Name name })))
 escaped_found {a} {b} {n} l tail front near some whole held place name name-is p p-is =
     let w = escaped_named tail n whole some in
     let len : length a.held ≡ suc (length tail) = ap (λ (xs : List ℕ). length xs) front in
@@ -373,7 +375,7 @@ paired byte held (c ∷ cs) front pair = go (eqb byte 40) refl (eqb byte 42) ref
 
 -- `(*` or `*)` that is held is found
 pub pair_found : {a b : Window} {byte : ℕ} (l : Option (List ℕ)) (tail : List ℕ) → a.held ≡ byte ∷ tail → is_near a ≡ true → is_pair a.held ≡ true → b.held ≡ drop 2 a.held → b.place ≡ place_past a.place (take 2 a.held)
-    → (p : Place) → p ≡ a.place → (token : VToken) → token ≡ pair_token byte → Finds a b l l (Ok (Some (record { place = p; stop = p.offset + 2; token = token })))
+    → (p : Place) → p ≡ a.place → (token : VToken) → token ≡ pair_token byte → Finds vlog a b l l (Ok (Some (record { place = p; stop = p.offset + 2; token = token })))
 pair_found {a} {b} {byte} l tail front near pair held place p p-is token token-is =
     let w = paired byte a.held tail front pair in
     let taken : take 2 a.held ≡ byte ∷ w.second ∷ [] = ap (take 2) w.front in

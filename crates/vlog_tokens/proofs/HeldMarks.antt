@@ -14,7 +14,7 @@ use Rattle.nl_bytes.specs.Bytes.{Window, Skips, given}
 use Rattle.nl_bytes.proofs.Uses.{Uses-front, Uses-none}
 use Rattle.nl_bytes.proofs.Fronts.{front-all}
 use Rattle.nl_io.specs.Sources.{Supply}
-use Rattle.nl_bytes.specs.Tokens.{ReadsToken}
+use Rattle.nl_bytes.specs.Tokens.{State, ReadsToken, Finds}
 use Rattle.vlog_tokens.specs.declared.item.Item.TheVariants.{Token}
 use Rattle.vlog_tokens.specs.declared.item.Spot.{Spot}
 use Rattle.vlog_tokens.specs.declared.start.Start.TheVariants.{Mark}
@@ -22,13 +22,13 @@ use Rattle.vlog_tokens.specs.declared.token.VFound.{VFound}
 use Rattle.vlog_tokens.specs.declared.token.VToken.TheVariants.{Punct, AttrStart}
 use Rattle.vlog_tokens.specs.Spelling.{item_by, start_of, is_mark}
 use Rattle.vlog_tokens.specs.Parts.{Reads}
-use Rattle.vlog_tokens.specs.Finding.{Passes, Finds}
-use Rattle.vlog_tokens.specs.Language.{vlog, State}
+use Rattle.vlog_tokens.specs.Finding.{Passes}
+use Rattle.vlog_tokens.specs.Language.{vlog}
 use Rattle.vlog_tokens.specs.Held.{is_near, open_mark, front_mark, space_length, held_mark, past, past_space, past_mark}
 use Rattle.vlog_tokens.proofs.Parts.{Steps}
 use Rattle.vlog_tokens.proofs.Marks.{mark_read, pair_other}
 use Rattle.vlog_tokens.proofs.Streams.{passes_space}
-use Rattle.vlog_tokens.proofs.Readers.{reads_found}
+use Rattle.nl_bytes.proofs.Readers.{reads_found}
 use Rattle.vlog_tokens.proofs.Held.{finds_after, token_found, held_within}
 
 pub either : (s t : Bool) {P : Type 0} → (s ≡ true → P) → (t ≡ true → P) → (s || t) ≡ true → P
@@ -148,7 +148,7 @@ past_mark_is w = refl
 pub record MarkFound (w : Window) (mark : ℕ) : Type 0 where
   pub found : VFound
   pub is : found.token ≡ Punct mark
-  pub finds : (l : Option (List ℕ)) → Finds w (past_mark w) l l (Ok (Some found))
+  pub finds : (l : Option (List ℕ)) → Finds vlog w (past_mark w) l l (Ok (Some found))
 
 pub mark_found : (w : Window) (mark : ℕ) → held_mark w ≡ Some mark → MarkFound w mark
 mark_found w mark e =

@@ -4,15 +4,14 @@ use Rattle.std.specs.Prelude.{ℤ, IfSome, IsFalse}
 use Rattle.std.specs.Char.{is_ascii_digit}
 use Rattle.std.proofs.lemmas.Bool.{cases_lt, eqb-false}
 use Rattle.std.proofs.lemmas.Bool.Decides.{nat_tests}
-use Rattle.nl_base.specs.declared.place.Place.{Place}
 use Rattle.nl_base.specs.Place.{place_past}
 use Rattle.nl_base.proofs.Places.{place_past-offset}
 use Rattle.nl_bytes.specs.declared.bytes.TheConstants.{LIMIT}
 use Rattle.nl_bytes.specs.declared.class.Class.TheVariants.{NumberByte, Graphic}
 use Rattle.nl_bytes.specs.Classes.{AreIn, is_number_byte, is_graphic}
-use Rattle.nl_bytes.specs.Bytes.{Window, given}
+use Rattle.nl_bytes.specs.Bytes.{Window}
 use Rattle.nl_io.specs.Sources.{Supply}
-use Rattle.nl_bytes.specs.Tokens.{ReadsToken}
+use Rattle.nl_bytes.specs.Tokens.{State, ReadsToken, Finds}
 use Rattle.vlog_values.specs.Values.{IsCount}
 use Rattle.vlog_tokens.specs.declared.plain.Plain.{Plain}
 use Rattle.vlog_tokens.specs.declared.plain.Plain.TheVariants as plains
@@ -23,11 +22,10 @@ use Rattle.vlog_tokens.specs.declared.token.VToken.TheVariants.{AttrStart, AttrS
 use Rattle.vlog_tokens.specs.Numbers.{number_of}
 use Rattle.vlog_tokens.specs.Proper.{IsProper}
 use Rattle.vlog_tokens.specs.Spelling.{start_of}
-use Rattle.vlog_tokens.specs.Finding.{Finds}
-use Rattle.vlog_tokens.specs.Language.{vlog, State}
+use Rattle.vlog_tokens.specs.Language.{vlog}
 use Rattle.vlog_tokens.specs.Held.{is_near, space_length, past, past_space, number_length, is_pair, pair_token, number_at}
 use Rattle.vlog_tokens.specs.Plains.{plain_token, pair_plain, number_plain, digits_plain, front_plain, plain_length, held_plain, past_plain}
-use Rattle.vlog_tokens.proofs.Readers.{reads_found}
+use Rattle.nl_bytes.proofs.Readers.{reads_found}
 use Rattle.vlog_tokens.proofs.Proper.{number_good}
 use Rattle.vlog_tokens.proofs.Held.{finds_after, held_within, numbered, number_finds, paired, pair_found}
 use Rattle.vlog_tokens.proofs.HeldMarks.{space_passed, space_offset, window_is}
@@ -41,7 +39,7 @@ pub record PlainAt (a : Window) (plain : Plain) (n : ℕ) : Type 0 where
   pub front : a.held ≡ byte ∷ tail
   pub enough : n ≤ length a.held
   pub each : AreIn Graphic (take n a.held)
-  pub finds : is_near a ≡ true → length a.held ≤ 4096 → (l : Option (List ℕ)) → (x : VFound) × (x.token ≡ plain_token plain) × Finds a (past n a) l l (Ok (Some x))
+  pub finds : is_near a ≡ true → length a.held ≤ 4096 → (l : Option (List ℕ)) → (x : VFound) × (x.token ≡ plain_token plain) × Finds vlog a (past n a) l l (Ok (Some x))
 
 digit_starts : (b : ℕ) → is_ascii_digit b ≡ true → start_of b ≡ Lexeme Whole
 digit_starts b e = grind (arith, nat_tests)
@@ -79,7 +77,7 @@ number_plain_at a b bs n front digit whole plain e =
       finds = λ near small l.
           let found = number_finds {a = a} {b = past n a} {byte = b} {n = n} l bs front (digit_starts b digit) near small s.0 whole refl refl a.place refl (take n a.held) refl in
           let stop = a.place.offset + n + 1 in
-          (record { place = a.place; stop = stop; token = plain_token (plains.Number s.1) }, ap plain_token (sym s.3), subst (λ (o : Option ℤ). Finds a (past n a) l l (number_at a.place stop o)) s.2 found);
+          (record { place = a.place; stop = stop; token = plain_token (plains.Number s.1) }, ap plain_token (sym s.3), subst (λ (o : Option ℤ). Finds vlog a (past n a) l l (number_at a.place stop o)) s.2 found);
     }
 
 pair_is : (b : ℕ) → plain_token (pair_plain b) ≡ pair_token b

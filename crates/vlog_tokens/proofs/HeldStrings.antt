@@ -8,21 +8,22 @@ use Rattle.nl_base.specs.Place.{place_past}
 use Rattle.nl_bytes.specs.declared.class.Class.TheVariants.{VerilogStringByte, LineByte}
 use Rattle.nl_bytes.specs.Classes.{AreIn, is_verilog_string_byte, is_line_byte}
 use Rattle.nl_bytes.specs.Bytes.{Window, Uses}
-use Rattle.nl_bytes.proofs.Uses.{Uses-front}
+use Rattle.nl_bytes.proofs.Uses.{Uses-front, offset_grows}
 use Rattle.nl_bytes.proofs.Fronts.{front-all}
 use Rattle.vlog_tokens.specs.declared.item.Item.{Item}
 use Rattle.vlog_tokens.specs.declared.item.Item.TheVariants.{Token}
 use Rattle.vlog_tokens.specs.declared.item.Spot.{Spot}
 use Rattle.vlog_tokens.specs.declared.token.VToken.TheVariants.{Str}
-use Rattle.vlog_tokens.specs.Flaws.{Piece, Flaw, ◌>>=◌}
+use Rattle.nl_bytes.specs.Flaws.{Piece, Flaw, ◌>>=◌}
 use Rattle.vlog_tokens.specs.Spelling.{str_of, string_spelled}
 use Rattle.vlog_tokens.specs.Strings.{Parts, string_at, closed}
-use Rattle.vlog_tokens.specs.Finding.{Finds}
+use Rattle.nl_bytes.specs.Tokens.{Finds}
 use Rattle.vlog_tokens.specs.Held.{is_near, quoted_by, quoted_length}
-use Rattle.vlog_tokens.proofs.Parts.{offset_grows, front_given}
+use Rattle.vlog_tokens.proofs.Parts.{front_given}
 use Rattle.vlog_tokens.proofs.Strings.{plain_run, closing}
 use Rattle.vlog_tokens.proofs.Marks.{reads_told}
 use Rattle.vlog_tokens.proofs.Held.{held_within, token_found}
+use Rattle.vlog_tokens.specs.Language.{vlog}
 
 -- what is known of a string that is held whole, behind its first quote
 pub record Quoted (bs : List ℕ) (n : ℕ) : Type 0 where
@@ -79,7 +80,7 @@ str_is u rest each most =
     ap (λ (r : Result (Piece (List ℕ)) Flaw). r >>= str_of) whole
 
 pub string_found : {a b : Window} {n : ℕ} (l : Option (List ℕ)) (tail : List ℕ) → a.held ≡ 34 ∷ tail → is_near a ≡ true → length a.held ≤ 4096 → quoted_length tail ≡ Some n
-    → b.held ≡ drop (n + 2) a.held → b.place ≡ place_past a.place (take (n + 2) a.held) → (value : List ℕ) → value ≡ take n tail → (p : Place) → p ≡ a.place → Finds a b l l (Ok (Some (record { place = p; stop = p.offset + n + 2; token = Str value })))
+    → b.held ≡ drop (n + 2) a.held → b.place ≡ place_past a.place (take (n + 2) a.held) → (value : List ℕ) → value ≡ take n tail → (p : Place) → p ≡ a.place → Finds vlog a b l l (Ok (Some (record { place = p; stop = p.offset + n + 2; token = Str value })))
 string_found {a} {b} {n} l tail front near small is held place value value-is p p-is =
     let q = quoted tail n is in
     let u = take n tail in

@@ -9,7 +9,7 @@ use Rattle.nl_bytes.specs.declared.class.Class.TheVariants.{NameByte}
 use Rattle.nl_bytes.specs.Classes.{AreIn, is_verilog_space}
 use Rattle.nl_bytes.specs.Bytes.{Window, given}
 use Rattle.nl_io.specs.Sources.{Supply}
-use Rattle.nl_bytes.specs.Tokens.{ReadsToken}
+use Rattle.nl_bytes.specs.Tokens.{State, ReadsToken, Finds}
 use Rattle.vlog_values.specs.Values.{IsName}
 use Rattle.vlog_tokens.specs.declared.item.Item.TheVariants.{Token}
 use Rattle.vlog_tokens.specs.declared.token.VFound.{VFound}
@@ -17,10 +17,9 @@ use Rattle.vlog_tokens.specs.declared.token.VToken.TheVariants.{Name, Keyword}
 use Rattle.vlog_tokens.specs.Items.{word_item, word_token}
 use Rattle.vlog_tokens.specs.Keywords.{is_keyword}
 use Rattle.vlog_tokens.specs.Spelling.{begins_name}
-use Rattle.vlog_tokens.specs.Finding.{Finds}
-use Rattle.vlog_tokens.specs.Language.{vlog, State}
+use Rattle.vlog_tokens.specs.Language.{vlog}
 use Rattle.vlog_tokens.specs.Held.{is_near, space_length, past, past_space, word_length, front_length, front_word, held_word, past_word}
-use Rattle.vlog_tokens.proofs.Readers.{reads_found}
+use Rattle.nl_bytes.proofs.Readers.{reads_found}
 use Rattle.vlog_tokens.proofs.Held.{finds_after, held_within, word_named, word_found, name_begins}
 use Rattle.vlog_tokens.proofs.Lexemes.{name_bounds, name_of_held}
 use Rattle.vlog_tokens.proofs.HeldMarks.{either, space_passed, space_offset, window_is}
@@ -103,7 +102,7 @@ token_item text = go (is_keyword text)
 pub record WordFound (w : Window) : Type 0 where
   pub found : VFound
   pub is : found.token ≡ word_token (held_word w)
-  pub finds : (l : Option (List ℕ)) → Finds w (past_word w) l l (Ok (Some found))
+  pub finds : (l : Option (List ℕ)) → Finds vlog w (past_word w) l l (Ok (Some found))
 
 pub word_is_found : (w : Window) → 0 < length (held_word w) → WordFound w
 word_is_found w some =

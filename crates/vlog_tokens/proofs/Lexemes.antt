@@ -19,7 +19,7 @@ use Rattle.vlog_tokens.specs.declared.phase.Phase.{Phase}
 use Rattle.vlog_tokens.specs.declared.phase.Phase.TheVariants as phases
 use Rattle.vlog_tokens.specs.declared.phase.Step.{Step}
 use Rattle.vlog_tokens.specs.declared.phase.Step.TheVariants.{Keep, Pass, Ends, Bad}
-use Rattle.vlog_tokens.specs.Flaws.{Piece, Flaw, flaw}
+use Rattle.nl_bytes.specs.Flaws.{Piece, Flaw, flaw}
 use Rattle.vlog_tokens.specs.Phases.{next_step, based_step, letter_step, first_digit, base_of, is_digit, is_open, is_mark, is_sign, is_complete, most_of, class_of}
 use Rattle.vlog_tokens.specs.Scanning.{Lexeme, scan_at, stepped, ended}
 use Rattle.vlog_tokens.specs.Items.{is_signed, is_kept, digits_of, has_value}

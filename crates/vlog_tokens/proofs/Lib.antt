@@ -9,8 +9,8 @@ pub mod Reading
 pub mod Strings
 pub mod Marks
 pub mod Within
+pub mod Passing
 pub mod Streams
-pub mod Readers
 pub mod Held
 pub mod HeldMarks
 pub mod HeldStrings

@@ -12,17 +12,17 @@ use Rattle.nl_bytes.specs.declared.bytes.TheConstants.{LIMIT}
 use Rattle.nl_bytes.specs.Halts.{error_of}
 use Rattle.nl_bytes.specs.Classes.{AreIn, is_comment_byte}
 use Rattle.nl_bytes.specs.Bytes.{Window, Uses, Skips, IsAhead, input, first, given}
-use Rattle.nl_bytes.proofs.Uses.{Uses-trans}
+use Rattle.nl_bytes.proofs.Uses.{Uses-trans, offset_grows}
 use Rattle.nl_bytes.proofs.Known.{Uses-known, IsAhead-known}
 use Rattle.vlog_tokens.specs.declared.item.Item.{Item}
 use Rattle.vlog_tokens.specs.declared.item.Item.TheVariants.{Blank, Line, Token}
 use Rattle.vlog_tokens.specs.declared.item.Spot.{Spot}
 use Rattle.vlog_tokens.specs.declared.token.VToken.TheVariants.{Symbol}
-use Rattle.vlog_tokens.specs.Flaws.{Piece, Flaw, flaw}
+use Rattle.nl_bytes.specs.Flaws.{Piece, Flaw, flaw, refusal}
 use Rattle.vlog_tokens.specs.Scanning.{one_if}
 use Rattle.vlog_tokens.specs.Spelling.{alone, pair_by, slash_by, comment_at, is_slash, blank_now}
-use Rattle.vlog_tokens.specs.Parts.{refusal, Reaches, Answers, GivesSpot, Part, Reads}
-use Rattle.vlog_tokens.proofs.Parts.{Steps, steps_use, steps_given, part_used, part_then, part_halted, reaches_late, halted, failed_of, offset_grows, Answers-err, ahead_unseen, last_unseen}
+use Rattle.vlog_tokens.specs.Parts.{Reaches, Answers, GivesSpot, Part, Reads}
+use Rattle.vlog_tokens.proofs.Parts.{Steps, steps_use, steps_given, part_used, part_then, part_halted, reaches_late, halted, failed_of, Answers-err, ahead_unseen, last_unseen}
 use Rattle.vlog_tokens.proofs.Scanning.{none_of, looks, refuses, bad_here, reaches_less}
 
 abbrev pub at_err : Halt → Result (Option ℕ) Halt

@@ -14,13 +14,9 @@ use Rattle.nl_bytes.specs.Halts.{error_of}
 use Rattle.nl_bytes.specs.Bytes.{Window, Uses, TakesWhenUsed, IsAhead, input, first, given}
 use Rattle.nl_bytes.proofs.Uses.{Uses-byte, Uses-none, Uses-trans}
 use Rattle.nl_bytes.proofs.Known.{Uses-known, IsAhead-known}
-use Rattle.vlog_tokens.specs.Flaws.{Piece, Flaw, flaw}
-use Rattle.vlog_tokens.specs.Parts.{refusal, Reaches, Answers, Meaning, Continues, Part}
+use Rattle.nl_bytes.specs.Flaws.{Piece, Flaw, flaw, refusal}
+use Rattle.vlog_tokens.specs.Parts.{Reaches, Answers, Meaning, Continues, Part}
 use Rattle.vlog_tokens.specs.Scanning.{one_if}
-
--- the bytes that are used take the reader on
-pub offset_grows : {old new : Window} {l l' : Option (List ℕ)} {used : List ℕ} → Uses old new l l' used → new.place.offset ≡ old.place.offset + length used
-offset_grows {old} {new} {l} {l'} {used} u = ap (λ (q : Place). q.offset) u.place ∙ place_past-offset old.place used
 
 pub here_at : {old new : Window} {l l' : Option (List ℕ)} {used : List ℕ} → Uses old new l l' used → (p : Place) (front : List ℕ) → old.place ≡ place_past p front → new.place ≡ place_past p (front ++ used)
 here_at {old} {new} {l} {l'} {used} u p front begins = u.place ∙ ap (λ (q : Place). place_past q used) begins ∙ sym (place_past-append p front used)
@@ -158,16 +154,6 @@ ahead_unseen a b left (Some byte) stop (inr used) ahead is le = absurd (omega (a
 pub last_unseen : (a : Window) {b c : Window} {byte : ℕ} (stop : ℕ) → TakesWhenUsed a b → Steps b c byte → b.place.offset < stop → stop ≤ given a → given c ≡ given a
 last_unseen a {b} {c} {byte} stop (inl same) s before le = steps_given s ∙ same
 last_unseen a {b} {c} {byte} stop (inr used) s before le = absurd (omega (arith, used, before, le))
-
--- the stop lies past the place from which the token was read
-pub unseen_after : (a b c : Window) (stop : ℕ) → TakesWhenUsed a b → b.place.offset < stop → (stop ≤ given b → given c ≡ given b) → stop ≤ given a → given c ≡ given a
-unseen_after a b c stop (inl same) before next le = next (omega (arith, same, le)) ∙ same
-unseen_after a b c stop (inr used) before next le = absurd (omega (arith, used, before, le))
-
--- of a fault the stop lies before the last byte that was taken
-pub fault_unseen : (a b : Window) (stop : ℕ) → TakesWhenUsed a b → b.place.offset ≤ stop → stop < given a → given b ≡ given a
-fault_unseen a b stop (inl same) after lt = same
-fault_unseen a b stop (inr used) after lt = absurd (omega (arith, used, after, lt))
 
 -- what was told of the part so far is told of the same meaning
 pub part_to : {A X Y : Type 0} {from : Meaning A} {mid : X → Meaning A} (to : Y → Meaning A) {p : Place} {a b : Window} {l m : Option (List ℕ)} {x : X} (y : Y)

@@ -12,12 +12,14 @@ use Rattle.vlog_tokens.specs.declared.item.Item.{Item}
 use Rattle.vlog_tokens.specs.declared.item.Spot.{Spot}
 use Rattle.vlog_tokens.specs.declared.phase.Phase.{Phase}
 use Rattle.vlog_tokens.specs.declared.scan.Scanned.{Scanned}
-use Rattle.vlog_tokens.specs.Flaws.{Piece, Flaw, ◌>>=◌}
+use Rattle.nl_bytes.specs.Flaws.{Piece, Flaw, ◌>>=◌}
 use Rattle.vlog_tokens.specs.Scanning.{Lexeme, begun, kept, scan_at, scanned, one_if, StopsAt}
 use Rattle.vlog_tokens.specs.Items.{item_of, finish, finished}
 use Rattle.vlog_tokens.specs.Spelling.{lexeme_spelled}
-use Rattle.vlog_tokens.specs.Parts.{Reaches, Answers, GivesSpot, Meaning, UsedUp, Part, TokenUnseen, Reads, spot_of}
-use Rattle.vlog_tokens.proofs.Parts.{Steps, steps_use, part_used, offset_grows, refusal_answers, refusal_reads, ahead_unseen}
+use Rattle.nl_bytes.specs.Tokens.{UsedUp}
+use Rattle.vlog_tokens.specs.Parts.{Reaches, Answers, GivesSpot, Meaning, Part, TokenUnseen, Reads, spot_of}
+use Rattle.nl_bytes.proofs.Uses.{offset_grows}
+use Rattle.vlog_tokens.proofs.Parts.{Steps, steps_use, part_used, refusal_answers, refusal_reads, ahead_unseen}
 
 -- a step that gives an item, or a flaw that is seen as late
 abbrev pub StepsOn : {A : Type 0} → (Piece A → Result (Piece Item) Flaw) → Type 0

@@ -17,11 +17,11 @@ use Rattle.vlog_tokens.specs.declared.phase.Phase.{Phase}
 use Rattle.vlog_tokens.specs.declared.phase.Phase.TheVariants.{Word, Escape, Escaped, Whole, Point, Fraction, Mark, Sign, Exponent, Prefix, Signed, Letter, Digits, Unknown, Grave, Directive}
 use Rattle.vlog_tokens.specs.declared.phase.Step.{Step}
 use Rattle.vlog_tokens.specs.declared.phase.Step.TheVariants.{Keep, Pass, Ends, Bad}
-use Rattle.vlog_tokens.specs.Flaws.{Piece, Flaw, flaw}
+use Rattle.nl_bytes.specs.Flaws.{Piece, Flaw, flaw, refusal}
 use Rattle.vlog_tokens.specs.Phases.{next_step, is_complete, most_of, class_of}
 use Rattle.vlog_tokens.specs.Scanning.{Lexeme, scan_at, stepped, ended, Stays, after_byte, scanned}
 use Rattle.vlog_tokens.specs.declared.scan.Scanned.{Scanned}
-use Rattle.vlog_tokens.specs.Parts.{Reaches, refusal, Meaning, Part}
+use Rattle.vlog_tokens.specs.Parts.{Reaches, Meaning, Part}
 use Rattle.vlog_tokens.proofs.Parts.{Refused, part_none, part_used, part_refused, part_then, part_to, part_halted, Steps, steps_use, offset_at}
 
 -- the bytes of the class keep the token in its phase

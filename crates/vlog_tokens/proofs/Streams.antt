@@ -1,143 +1,60 @@
 -- The stream of tokens, one item after another.
-use Rattle.std.proofs.Common.{◌≡◌, ℕ, zero, suc, ◌+◌, ◌-◌, ◌<◌, ◌≤◌, Bool, true, false, cond, ltb, List, [], ◌∷◌, ◌++◌, length, drop, Option, Some, None, Result, Ok, Err, refl, sym, ap, ◌∙◌, subst, arith, length-append, length-drop, append_assoc}
-use Rattle.std.specs.Prelude.{option_map, IfOk, IfSome}
+use Rattle.std.proofs.Common.{◌≡◌, ℕ, suc, ◌+◌, ◌-◌, ◌<◌, ◌≤◌, Bool, true, false, cond, ltb, List, [], ◌∷◌, ◌++◌, length, drop, Option, Some, None, Result, Ok, Err, refl, sym, ap, ◌∙◌, subst, arith, length-append, append_assoc}
+use Rattle.std.specs.Prelude.{IfOk, IfSome}
 use Rattle.std.specs.List.{prefix_len}
-use Rattle.std.proofs.lemmas.Bool.{lt-ltb, le-ltb, ltb-true, ltb-false}
+use Rattle.std.proofs.lemmas.Bool.{ltb-true, ltb-false}
 use Rattle.std.proofs.lemmas.List.{drop_at}
-use Rattle.std.proofs.lemmas.List.Sums.{prefix_len-le-length}
-use Rattle.grammar.specs.Whole.{Over}
+use Rattle.grammar.specs.Whole.{Bad, Over}
 use Rattle.nl_base.specs.declared.place.Place.{Place}
 use Rattle.nl_base.specs.Place.{place_after, place_past}
+use Rattle.nl_base.specs.declared.fault.TextFault.{TextFault}
 use Rattle.nl_base.specs.declared.fault.ReadError.{ReadError}
 use Rattle.nl_base.specs.declared.fault.ReadError.TheVariants.{Text, ReadFault, TooLong, NoMemory, Spent}
 use Rattle.nl_base.proofs.Places.{place_past-append}
 use Rattle.nl_bytes.specs.declared.class.Class.TheVariants.{VerilogSpace, LineByte}
 use Rattle.nl_bytes.specs.declared.halt.Halt.{Halt}
-use Rattle.nl_bytes.specs.declared.halt.Halt.TheVariants as halts
 use Rattle.nl_bytes.specs.declared.bytes.TheConstants.{LIMIT}
 use Rattle.nl_bytes.specs.Halts.{error_of}
-use Rattle.nl_bytes.specs.Classes.{AreIn, is_verilog_space, is_line_byte}
+use Rattle.nl_bytes.specs.Classes.{AreIn, is_line_byte}
 use Rattle.nl_bytes.specs.Bytes.{Window, Uses, Skips, IsAhead, input, first, given}
-use Rattle.nl_io.specs.Sources.{left_past}
-use Rattle.nl_bytes.proofs.Uses.{Uses-trans, Uses-none}
+use Rattle.nl_bytes.proofs.Uses.{Uses-trans, Uses-none, offset_grows}
 use Rattle.nl_bytes.proofs.Known.{Uses-known, IsAhead-known}
-use Rattle.nl_bytes.specs.Tokens.{Ahead, follow, only_end, no_token, Tells, TellsKnown, Shortens}
+use Rattle.nl_bytes.proofs.Limited.{token_late, token_near, fault_late, fault_near, end_near, told_by, halt_told}
+use Rattle.nl_bytes.specs.Tokens.{Ahead, follow, only_end, no_token, limited, Tells, TellsKnown, Shortens, UsedUp, known_ahead, FoundUnseen, Finds, UsesTo, EndsAt}
 use Rattle.vlog_tokens.specs.declared.item.Item.{Item}
 use Rattle.vlog_tokens.specs.declared.item.Item.TheVariants.{Blank, Line, Token}
 use Rattle.vlog_tokens.specs.declared.item.Spot.{Spot}
 use Rattle.vlog_tokens.specs.declared.token.VFound.{VFound}
 use Rattle.vlog_tokens.specs.declared.token.VToken.{VToken}
-use Rattle.vlog_tokens.specs.Flaws.{Piece, Flaw}
+use Rattle.nl_bytes.specs.Flaws.{Piece, Flaw, fault_at, refusal}
 use Rattle.vlog_tokens.specs.Spelling.{item_at, item_by, start_of}
-use Rattle.vlog_tokens.specs.Language.{tokens_from, then_items, then_tokens, with_line, limited, stream_from}
-use Rattle.vlog_tokens.specs.Parts.{Answers, GivesSpot, UsedUp, Reads, refusal}
-use Rattle.vlog_tokens.specs.Finding.{ahead_of, Passed, Passes, FoundUnseen, Finds, found_or_late, UsesTo, EndsAt}
+use Rattle.vlog_tokens.specs.Language.{tokens_from, then_items, then_tokens, with_line, stop_of, stream_from, vlog}
+use Rattle.vlog_tokens.specs.Parts.{Answers, GivesSpot, Reads}
+use Rattle.vlog_tokens.specs.Finding.{Passed, Passes, found_or_late}
 use Rattle.nl_base.specs.declared.fault.Reason.TheVariants.{BadByte}
 use Rattle.vlog_tokens.specs.declared.start.Start.{Start}
 use Rattle.vlog_tokens.specs.declared.start.Start.TheVariants.{Other}
-use Rattle.vlog_tokens.proofs.Parts.{offset_grows, refusal_answers, refusal_reads, failed_of, unseen_after}
+use Rattle.nl_bytes.proofs.Readers.{unseen_after}
+use Rattle.vlog_tokens.proofs.Parts.{refusal_answers, refusal_reads, failed_of}
 use Rattle.vlog_tokens.proofs.Scanning.{front_of, none_of}
 use Rattle.vlog_tokens.proofs.Within.{IsWithin, item_within}
-
--- ---- bytes are passed over
-
-tokens_skip : (p : Place) (used rest : List ℕ) → tokens_from (length used) p (used ++ rest) ≡ tokens_from 0 (place_past p used) rest
-unfolding tokens_from
-tokens_skip p [] rest = refl
-tokens_skip p (b ∷ bs) rest = tokens_skip (place_after p b) bs rest
-
-space_step : (p : Place) (b : ℕ) (bs : List ℕ) → is_verilog_space b ≡ true → tokens_from 0 p (b ∷ bs) ≡ tokens_from 0 (place_after p b) bs
-unfolding tokens_from item_at
-space_step p b bs e = rw e refl
-
-tokens_space : (p : Place) (used rest : List ℕ) → AreIn VerilogSpace used → tokens_from 0 p (used ++ rest) ≡ tokens_from 0 (place_past p used) rest
-tokens_space p [] rest all = refl
-tokens_space p (b ∷ bs) rest all = space_step p b (bs ++ rest) all.0 ∙ tokens_space (place_after p b) bs rest all.1
-
-tokens_item : (p : Place) (b : ℕ) (bs : List ℕ) → tokens_from 0 p (b ∷ bs) ≡ then_items p (b ∷ bs) (item_at b bs) (λ count. tokens_from (count - 1) (place_after p b) bs)
-unfolding tokens_from
-tokens_item p b bs = refl
-
-tokens_end : (p : Place) → tokens_from 0 p [] ≡ only_end VFound p
-unfolding tokens_from
-tokens_end p = refl
-
-after_bytes : (p q : Place) (b : ℕ) (tail used rest : List ℕ) → 0 < length used → b ∷ tail ≡ used ++ rest → q ≡ place_past p used
-    → tokens_from 0 q rest ≡ tokens_from (length used - 1) (place_after p b) tail
-after_bytes p q b tail [] rest some e at = absurd (omega arith)
-after_bytes p q b tail (c ∷ u) rest some e at =
-    let head : b ≡ c = cc in
-    let same : tail ≡ u ++ rest = cc in
-    let less : suc (length u) - 1 ≡ length u = omega arith in
-    ap (λ (r : Place). tokens_from 0 r rest) (at ∙ ap (λ (x : ℕ). place_past (place_after p x) u) (sym head)) ∙ sym (tokens_skip (place_after p b) u rest)
-    ∙ ap (λ (xs : List ℕ). tokens_from (length u) (place_after p b) xs) (sym same) ∙ ap (λ (n : ℕ). tokens_from n (place_after p b) tail) (sym less)
-
--- ---- past the limit nothing has its stop within it
-
-limited_late : (x : VFound) (s : Ahead VFound) → LIMIT < x.stop → limited (follow x s) ≡ no_token VFound Over
-unfolding limited
-limited_late x s late = rw (lt-ltb LIMIT x.stop late) refl
-
-limited_near : (x : VFound) (s : Ahead VFound) → x.stop ≤ LIMIT → limited (follow x s) ≡ follow x (limited s)
-unfolding limited
-limited_near x s near = rw (le-ltb LIMIT x.stop near) refl
-
-late_item : (item : Item) (p : Place) (bs : List ℕ) (count seen : ℕ) (after : ℕ → Ahead VFound) → LIMIT < p.offset → ((n : ℕ) → limited (after n) ≡ no_token VFound Over) → limited (then_tokens item p bs count seen after) ≡ no_token VFound Over
-late_item Blank p bs count seen after late h = h count
-late_item Line p bs count seen after late h = h (with_line count bs)
-late_item (Token token) p bs count seen after late h = limited_late (record { place = p; stop = p.offset + seen; token = token }) (after count) (omega arith)
-
-late_items : (p : Place) (bs : List ℕ) (x : Result (Piece Item) Flaw) (after : ℕ → Ahead VFound) → LIMIT < p.offset → ((n : ℕ) → limited (after n) ≡ no_token VFound Over) → limited (then_items p bs x after) ≡ no_token VFound Over
-unfolding limited
-late_items p bs (Ok piece) after late h = late_item piece.value p bs piece.count piece.seen after late h
-late_items p bs (Err f) after late h = let k : LIMIT < p.offset + f.seen = omega arith in rw (lt-ltb LIMIT (p.offset + f.seen) k) refl
-
-late_from : (skipped : ℕ) (p : Place) (bs : List ℕ) → LIMIT < p.offset → limited (tokens_from skipped p bs) ≡ no_token VFound Over
-unfolding limited tokens_from
-late_from zero p [] late = rw (lt-ltb LIMIT p.offset late) refl
-late_from (suc skipped) p [] late = rw (lt-ltb LIMIT p.offset late) refl
-late_from (suc skipped) p (b ∷ bs) late = late_from skipped (place_after p b) bs (omega arith)
-late_from zero p (b ∷ bs) late = late_items p (b ∷ bs) (item_at b bs) (λ count. tokens_from (count - 1) (place_after p b) bs) late (λ n. late_from (n - 1) (place_after p b) bs (omega arith))
-
-late_skip : (skipped : ℕ) (p : Place) (bs : List ℕ) → skipped ≤ length bs → LIMIT < p.offset + skipped → limited (tokens_from skipped p bs) ≡ no_token VFound Over
-unfolding tokens_from
-late_skip zero p bs le late = late_from zero p bs (omega arith)
-late_skip (suc skipped) p [] le late = absurd (omega arith)
-late_skip (suc skipped) p (b ∷ bs) le late = late_skip skipped (place_after p b) bs (omega arith) (omega arith)
-
-late_after : (p : Place) (b : ℕ) (tail : List ℕ) (count : ℕ) → count ≤ suc (length tail) → LIMIT + 1 ≤ p.offset + count → limited (tokens_from (count - 1) (place_after p b) tail) ≡ no_token VFound Over
-late_after p b tail count le late = late_skip (count - 1) (place_after p b) tail (omega arith) (omega arith)
-
-line_within : (count : ℕ) (bs : List ℕ) → count ≤ length bs → (with_line count bs ≤ length bs) × (count ≤ with_line count bs)
-line_within count bs le = (omega (arith, prefix_len-le-length is_line_byte (drop count bs), length-drop count bs), omega arith)
+use Rattle.vlog_tokens.proofs.Passing.{tokens_space, tokens_item, tokens_end, after_bytes, late_from, late_after, line_within}
 
 -- ---- what is told
 
-unknown : (old new : Window) (l l' : Option (List ℕ)) (n : ℕ) → l' ≡ left_past n l → input old l ≡ None → input new l' ≡ None
-unknown old new None l' n suffix e = ap (λ (o : Option (List ℕ)). input new o) suffix
-unknown old new (Some bs) l' n suffix e = absurd cc
-
-pub Uses-unknown : {old new : Window} {l l' : Option (List ℕ)} {used : List ℕ} → Uses old new l l' used → input old l ≡ None → input new l' ≡ None
-Uses-unknown {old} {new} {l} {l'} u e = unknown old new l l' (given new - given old) u.suffix e
-
 -- what was told of the tokens ahead
 abbrev Told : Window → Window → Option (List ℕ) → Option (List ℕ) → Result (Option VFound) ReadError → Type 0
-Told old new l l' r = TellsKnown (ahead_of old l) r new (ahead_of new l')
+Told old new l l' r = TellsKnown (known_ahead vlog old l) r new (known_ahead vlog new l')
 
-told_by : {old new : Window} {l l' : Option (List ℕ)} {used : List ℕ} → Uses old new l l' used → (r : Result (Option VFound) ReadError)
+-- what is told where the source tells its bytes
+told_of : {old new : Window} {l l' : Option (List ℕ)} {used : List ℕ} → Uses old new l l' used → (r : Result (Option VFound) ReadError)
     → ((bs rest : List ℕ) → input old l ≡ Some bs → input new l' ≡ Some rest → bs ≡ used ++ rest → Tells (stream_from old.place bs) r new (stream_from new.place rest)) → Told old new l l' r
-told_by {old} {new} {l} {l'} {used} u r h = go (input old l) refl
-  where
-    go : (o : Option (List ℕ)) → input old l ≡ o → TellsKnown (option_map (λ bs. stream_from old.place bs) o) r new (ahead_of new l')
-    go None e = ap (λ (o : Option (List ℕ)). option_map (λ bs. stream_from new.place bs) o) (Uses-unknown u e)
-    go (Some bs) e =
-        let k = Uses-known old new l l' used bs u e in
-        subst (λ (o : Option (List ℕ)). TellsKnown (Some (stream_from old.place bs)) r new (option_map (λ xs. stream_from new.place xs) o)) (sym k.1) (h bs k.0 e k.1 k.2)
+told_of {old} {new} u r h = told_by (stream_from old.place) (stream_from new.place) r u h
 
 -- after white space the same is told
 told_after : (r : Result (Option VFound) ReadError) {old mid new : Window} {l m l' : Option (List ℕ)} {used : List ℕ} → (t : Passes old mid l m) → (u : Uses mid new m l' used)
     → ((bs rest : List ℕ) → input mid m ≡ Some bs → input new l' ≡ Some rest → bs ≡ used ++ rest → Tells (stream_from mid.place bs) r new (stream_from new.place rest)) → Told old new l l' r
-told_after r {old} {mid} {new} {l} {m} {l'} {used} t u h = told_by (Uses-trans old mid new l m l' t.used used t.uses u) r (λ bs rest known new_known parts.
+told_after r {old} {mid} {new} {l} {m} {l'} {used} t u h = told_of (Uses-trans old mid new l m l' t.used used t.uses u) r (λ bs rest known new_known parts.
     let k = Uses-known old mid l m t.used bs t.uses known in
     let j = Uses-known mid new m l' used k.0 u k.1 in
     let same : j.0 ≡ rest = some_is j.0 rest (sym j.1 ∙ new_known) in
@@ -176,16 +93,16 @@ passes_by {a} {b} {l} {m} {used} u h = record {
 
 pub passes_space : {a b : Window} {l m : Option (List ℕ)} {r : Result (Option ℕ) Halt} → Skips VerilogSpace a b l m r → Passes a b l m
 unfolding stream_from
-passes_space {a} {b} {l} {m} {r} s = passes_by s.uses (λ rest known. ap limited (tokens_space a.place s.used rest s.each ∙ ap (λ (q : Place). tokens_from 0 q rest) (sym s.uses.place)))
+passes_space {a} {b} {l} {m} {r} s = passes_by s.uses (λ rest known. ap (limited stop_of) (tokens_space a.place s.used rest s.each ∙ ap (λ (q : Place). tokens_from 0 q rest) (sym s.uses.place)))
 
 -- ---- items
 
 abbrev After : Place → ℕ → List ℕ → ℕ → Ahead VFound
 After p b tail count = tokens_from (count - 1) (place_after p b) tail
 
-stream_item : (p : Place) (b : ℕ) (tail : List ℕ) → stream_from p (b ∷ tail) ≡ limited (then_items p (b ∷ tail) (item_at b tail) (After p b tail))
+stream_item : (p : Place) (b : ℕ) (tail : List ℕ) → stream_from p (b ∷ tail) ≡ limited stop_of (then_items p (b ∷ tail) (item_at b tail) (After p b tail))
 unfolding stream_from
-stream_item p b tail = ap limited (tokens_item p b tail)
+stream_item p b tail = ap (limited stop_of) (tokens_item p b tail)
 
 -- an item was read, where b is the byte ahead
 spelled_at : (p : Place) {bs : List ℕ} (used : List ℕ) (r : Result Spot ReadError) (b : ℕ) (tail : List ℕ) → bs ≡ b ∷ tail → Answers p bs (GivesSpot p used) (item_by (start_of b) b bs) r → Answers p (b ∷ tail) (GivesSpot p used) (item_at b tail) r
@@ -193,24 +110,24 @@ unfolding item_at
 spelled_at p {bs} used r b tail e h = subst (λ (xs : List ℕ). Answers p xs (GivesSpot p used) (item_by (start_of b) b xs) r) e h
 
 told_late : (item : Item) (p : Place) (b : ℕ) (tail : List ℕ) (count seen : ℕ) → count ≤ suc (length tail) → LIMIT + 1 ≤ p.offset + count → LIMIT + 1 ≤ p.offset + seen
-    → limited (then_tokens item p (b ∷ tail) count seen (After p b tail)) ≡ no_token VFound Over
+    → limited stop_of (then_tokens item p (b ∷ tail) count seen (After p b tail)) ≡ no_token VFound Over
 told_late Blank p b tail count seen le late far = late_after p b tail count le late
 told_late Line p b tail count seen le late far = let w = line_within count (b ∷ tail) le in late_after p b tail (with_line count (b ∷ tail)) w.0 (omega (arith, w.1))
-told_late (Token token) p b tail count seen le late far = limited_late (record { place = p; stop = p.offset + seen; token = token }) (After p b tail count) (omega arith)
+told_late (Token token) p b tail count seen le late far =
+    let k : LIMIT < p.offset + seen = omega (arith, far) in token_late stop_of (record { place = p; stop = p.offset + seen; token = token }) (After p b tail count) k
 
 item_error : (p : Place) (b : ℕ) (tail used : List ℕ) (x : Result (Piece Item) Flaw) (e : ReadError) (now : Window) (t : Ahead VFound) → IsWithin (suc (length tail)) x → Answers {B = Spot} p (b ∷ tail) (GivesSpot p used) x (Err e)
-    → Tells (limited (then_items p (b ∷ tail) x (After p b tail))) (Err e) now t
-unfolding limited
+    → Tells (limited stop_of (then_items p (b ∷ tail) x (After p b tail))) (Err e) now t
 item_error p b tail used (Ok piece) (Text f) now t within h = absurd h
-item_error p b tail used (Err f) (Text fault) now t within h = rw (le-ltb LIMIT (p.offset + f.seen) h.1, h.0) refl
+item_error p b tail used (Err f) (Text fault) now t within h = fault_near stop_of (fault_at p (b ∷ tail) f) h.1 ∙ ap (λ (z : TextFault). no_token VFound (Bad z)) (sym h.0)
 item_error p b tail used (Ok piece) TooLong now t within h = told_late piece.value p b tail piece.count piece.seen within.0 h.0 h.1
-item_error p b tail used (Err f) TooLong now t within h = let k : LIMIT < p.offset + f.seen = omega (arith, h) in rw (lt-ltb LIMIT (p.offset + f.seen) k) refl
+item_error p b tail used (Err f) TooLong now t within h = let k : LIMIT < p.offset + f.seen = omega (arith, h) in fault_late stop_of (fault_at p (b ∷ tail) f) k
 item_error p b tail used x ReadFault now t within h = tt
 item_error p b tail used x NoMemory now t within h = tt
 item_error p b tail used (Ok piece) Spent now t within h = absurd h
 item_error p b tail used (Err f) Spent now t within h = absurd h
 
-pub finds_err : {old mid new : Window} {l m l' : Option (List ℕ)} {b : ℕ} {e : ReadError} → Passes old mid l m → IsAhead mid m (Some b) → Reads (item_by (start_of b) b) mid new m l' (Err e) → Finds old new l l' (Err e)
+pub finds_err : {old mid new : Window} {l m l' : Option (List ℕ)} {b : ℕ} {e : ReadError} → Passes old mid l m → IsAhead mid m (Some b) → Reads (item_by (start_of b) b) mid new m l' (Err e) → Finds vlog old new l l' (Err e)
 finds_err {old} {mid} {new} {l} {m} {l'} {b} {e} p ahead t = record {
   used = p.used ++ t.used;
   uses = Uses-trans old mid new l m l' p.used t.used p.uses t.uses;
@@ -255,35 +172,37 @@ stands {mid} {new} {m} {l'} {b} {x} ahead t bs rest known parts =
     }
 
 -- the stream at an item that was given
-stream_given : {p : Place} {b : ℕ} {tail used : List ℕ} {x : Spot} (k : Given p b tail used x) (item : Item) → x.item ≡ item → stream_from p (b ∷ tail) ≡ limited (then_tokens item p (b ∷ tail) (length used) k.piece.seen (After p b tail))
+stream_given : {p : Place} {b : ℕ} {tail used : List ℕ} {x : Spot} (k : Given p b tail used x) (item : Item) → x.item ≡ item → stream_from p (b ∷ tail) ≡ limited stop_of (then_tokens item p (b ∷ tail) (length used) k.piece.seen (After p b tail))
 stream_given {p} {b} {tail} {used} {x} k item is =
     let value : k.piece.value ≡ item = sym (ap (λ (y : Spot). y.item) k.spot) ∙ is in
-    stream_item p b tail ∙ ap (λ (r : Result (Piece Item) Flaw). limited (then_items p (b ∷ tail) r (After p b tail))) k.is
-    ∙ ap (λ (y : Item). limited (then_tokens y p (b ∷ tail) k.piece.count k.piece.seen (After p b tail))) value ∙ ap (λ (n : ℕ). limited (then_tokens item p (b ∷ tail) n k.piece.seen (After p b tail))) k.count
+    stream_item p b tail ∙ ap (λ (r : Result (Piece Item) Flaw). limited stop_of (then_items p (b ∷ tail) r (After p b tail))) k.is
+    ∙ ap (λ (y : Item). limited stop_of (then_tokens y p (b ∷ tail) k.piece.count k.piece.seen (After p b tail))) value ∙ ap (λ (n : ℕ). limited stop_of (then_tokens item p (b ∷ tail) n k.piece.seen (After p b tail))) k.count
 
 token_passed : (item : Item) (token : VToken) (c d : Window) (n o : Option (List ℕ)) → Passed item c d n o (Ok (Some token)) → (item ≡ Token token) × (d ≡ c) × (o ≡ n)
 token_passed Blank token c d n o h = absurd cc
 token_passed Line token c d n o h = absurd cc
 token_passed (Token t) token c d n o h = let same : t ≡ token = cc in (ap Token same, h.0, h.1)
 
-token_told : (p : Place) (stop seen : ℕ) (token : VToken) (s t : Ahead VFound) (r : Result (Option VFound) ReadError) (now : Window) → r ≡ found_or_late p stop token → stop ≡ p.offset + seen → t ≡ limited s
-    → Tells (limited (follow (record { place = p; stop = p.offset + seen; token = token }) s)) r now t
-token_told p stop seen token s t r now r-is at t-is = subst (λ (z : Result (Option VFound) ReadError). Tells (limited (follow (found (p.offset + seen)) s)) z now t) (sym r-is) (go (ltb LIMIT stop) refl)
+token_told : (p : Place) (stop seen : ℕ) (token : VToken) (s t : Ahead VFound) (r : Result (Option VFound) ReadError) (now : Window) → r ≡ found_or_late p stop token → stop ≡ p.offset + seen → t ≡ limited stop_of s
+    → Tells (limited stop_of (follow (record { place = p; stop = p.offset + seen; token = token }) s)) r now t
+token_told p stop seen token s t r now r-is at t-is = subst (λ (z : Result (Option VFound) ReadError). Tells (limited stop_of (follow (found (p.offset + seen)) s)) z now t) (sym r-is) (go (ltb LIMIT stop) refl)
   where
     found : ℕ → VFound
     found n = record { place = p; stop = n; token = token }
 
-    go : (b : Bool) → ltb LIMIT stop ≡ b → Tells (limited (follow (found (p.offset + seen)) s)) (cond b (Err TooLong) (Ok (Some (found stop)))) now t
-    go true e = limited_late (found (p.offset + seen)) s (omega (arith, ltb-true LIMIT stop e, at))
-    go false e = limited_near (found (p.offset + seen)) s (omega (arith, ltb-false LIMIT stop e, at)) ∙ ap (λ (n : ℕ). follow (found n) (limited s)) (sym at) ∙ ap (follow (found stop)) (sym t-is)
+    go : (b : Bool) → ltb LIMIT stop ≡ b → Tells (limited stop_of (follow (found (p.offset + seen)) s)) (cond b (Err TooLong) (Ok (Some (found stop)))) now t
+    go true e = let late : LIMIT < p.offset + seen = omega (arith, ltb-true LIMIT stop e, at) in token_late stop_of (found (p.offset + seen)) s late
+    go false e =
+        let near : p.offset + seen ≤ LIMIT = omega (arith, ltb-false LIMIT stop e, at) in
+        token_near stop_of (found (p.offset + seen)) s near ∙ ap (λ (n : ℕ). follow (found n) (limited stop_of s)) (sym at) ∙ ap (follow (found stop)) (sym t-is)
 
-stream_is : (q : Place) (rest : List ℕ) → stream_from q rest ≡ limited (tokens_from 0 q rest)
+stream_is : (q : Place) (rest : List ℕ) → stream_from q rest ≡ limited stop_of (tokens_from 0 q rest)
 unfolding stream_from
 stream_is q rest = refl
 
 -- what holds of a token that was found
 abbrev Facts : Result (Option VFound) ReadError → Window → Window → Option (List ℕ) → Type 0
-Facts r old new l' = IfOk r (λ x. Shortens x old new) × IfOk r (λ x. UsesTo x new) × IfOk r (λ x. EndsAt x l') × IfOk r (λ x. FoundUnseen x old new) × UsedUp r new
+Facts r old new l' = IfOk r (λ x. Shortens x old new) × IfOk r (λ x. UsesTo vlog x new) × IfOk r (λ x. EndsAt x l') × IfOk r (λ x. FoundUnseen vlog x old new) × UsedUp r new
 
 found_facts : (p : Place) (stop : ℕ) (token : VToken) (r : Result (Option VFound) ReadError) (old new : Window) (l' : Option (List ℕ)) → r ≡ found_or_late p stop token → old.place.offset < new.place.offset → new.place.offset ≤ stop
     → (stop ≤ given old → given new ≡ given old) → Facts r old new l'
@@ -294,28 +213,28 @@ found_facts p stop token r old new l' r-is moved to shown = subst (λ (z : Resul
     go false e = ((moved, omega (arith, ltb-false LIMIT stop e, to)), to, tt, shown, tt)
 
 pub finds_token : (token : VToken) {old mid new d : Window} {l m n o : Option (List ℕ)} {b : ℕ} {x : Spot} → Passes old mid l m → IsAhead mid m (Some b) → Reads (item_by (start_of b) b) mid new m n (Ok x) → Passed x.item new d n o (Ok (Some token))
-    → (p : Place) → p ≡ mid.place → (r : Result (Option VFound) ReadError) → r ≡ found_or_late p x.stop token → new.place.offset ≤ x.stop → Finds old d l o r
+    → (p : Place) → p ≡ mid.place → (r : Result (Option VFound) ReadError) → r ≡ found_or_late p x.stop token → new.place.offset ≤ x.stop → Finds vlog old d l o r
 finds_token token {old} {mid} {new} {d} {l} {m} {n} {o} {b} {x} passes ahead t passed p p-is r r-is to =
     let same = token_passed x.item token new d n o passed in
     let r-mid : r ≡ found_or_late mid.place x.stop token = r-is ∙ ap (λ (q : Place). found_or_late q x.stop token) p-is in
     let moved : old.place.offset < new.place.offset = omega (arith, offset_grows passes.uses, offset_grows t.uses, t.some) in
     let shown = unseen_after old mid new x.stop passes.uses.lazy (omega (arith, offset_grows t.uses, t.some, to)) (t.unseen token same.0) in
     let facts = found_facts mid.place x.stop token r old new n r-mid moved to shown in
-    let finds : Finds old new l n r = record {
+    let finds : Finds vlog old new l n r = record {
       used = passes.used ++ t.used;
       uses = Uses-trans old mid new l m n passes.used t.used passes.uses t.uses;
       told = told_after r passes t.uses (λ bs rest known new_known parts.
           let s = stands ahead t bs rest known parts in
           let stop : x.stop ≡ mid.place.offset + s.given.piece.seen = ap (λ (y : Spot). y.stop) s.given.spot in
           subst (λ (z : Ahead VFound). Tells z r new (stream_from new.place rest)) (sym (ap (stream_from mid.place) s.front ∙ stream_given s.given (Token token) same.0))
-          (token_told mid.place x.stop s.given.piece.seen token (After mid.place b s.tail (length t.used)) (stream_from new.place rest) r new r-mid stop (stream_is new.place rest ∙ ap limited s.next)));
+          (token_told mid.place x.stop s.given.piece.seen token (After mid.place b s.tail (length t.used)) (stream_from new.place rest) r new r-mid stop (stream_is new.place rest ∙ ap (limited stop_of) s.next)));
       shorter = facts.0;
       used_to = facts.1;
       ended = facts.2;
       unseen = facts.3;
       used_up = facts.4;
     } in
-    subst (λ (q : Option (List ℕ)). Finds old d l q r) (sym same.2) (subst (λ (w : Window). Finds old w l n r) (sym same.1) finds)
+    subst (λ (q : Option (List ℕ)). Finds vlog old d l q r) (sym same.2) (subst (λ (w : Window). Finds vlog old w l n r) (sym same.1) finds)
 
 -- ---- white space among the items
 
@@ -347,7 +266,7 @@ blank_same {mid} {new} {d} {m} {n} {o} {b} {x} Blank is passed ahead t =
       uses = t.uses;
       same = λ bs rest known new_known.
           let s = behind ahead t (Uses-none new n) bs rest known new_known in
-          ap (stream_from mid.place) s.front ∙ stream_given s.given Blank is ∙ ap limited (sym s.next) ∙ sym (stream_is new.place rest);
+          ap (stream_from mid.place) s.front ∙ stream_given s.given Blank is ∙ ap (limited stop_of) (sym s.next) ∙ sym (stream_is new.place rest);
     } in
     subst (λ (q : Option (List ℕ)). Passes mid d m q) (sym passed.1) (subst (λ (w : Window). Passes mid w m n) (sym passed.0) here)
 blank_same {mid} {new} {d} {m} {n} {o} {b} {x} Line is passed ahead t =
@@ -367,7 +286,7 @@ blank_same {mid} {new} {d} {m} {n} {o} {b} {x} Line is passed ahead t =
           let count : with_line (length t.used) (b ∷ s.tail) ≡ length (t.used ++ skips.used) = omega (arith, run, ap (prefix_len is_line_byte) left, length-append t.used skips.used) in
           let whole = after_bytes mid.place d.place b s.tail (t.used ++ skips.used) rest (omega (arith, t.some, length-append t.used skips.used)) (all ∙ sym (append_assoc t.used skips.used rest))
           (skips.uses.place ∙ ap (λ (q : Place). place_past q skips.used) t.uses.place ∙ sym (place_past-append mid.place t.used skips.used)) in
-          ap (stream_from mid.place) s.front ∙ stream_given s.given Line is ∙ ap (λ (i : ℕ). limited (After mid.place b s.tail i)) count ∙ ap limited (sym whole) ∙ sym (stream_is d.place rest);
+          ap (stream_from mid.place) s.front ∙ stream_given s.given Line is ∙ ap (λ (i : ℕ). limited stop_of (After mid.place b s.tail i)) count ∙ ap (limited stop_of) (sym whole) ∙ sym (stream_is d.place rest);
     }
   where
     some_is : (y z : List ℕ) → Some y ≡ Some z → y ≡ z
@@ -381,18 +300,13 @@ passes_blank {mid} {new} {d} {m} {n} {o} {b} {x} ahead t passed = blank_same x.i
 abbrev pub at_err : Halt → Result (Option ℕ) Halt
 at_err h = Err h
 
-halt_told : (h : Halt) (s : Ahead VFound) (now : Window) (t : Ahead VFound) → (h ≡ halts.TooLong → s ≡ no_token VFound Over) → Tells s (Err (error_of h)) now t
-halt_told halts.Failed s now t over = tt
-halt_told halts.TooLong s now t over = over refl
-halt_told halts.NoMemory s now t over = tt
-
-pub finds_halted : {old mid new : Window} {l m n : Option (List ℕ)} {h : Halt} → Passes old mid l m → Skips VerilogSpace mid new m n (Err h) → Finds old new l n (Err (error_of h))
+pub finds_halted : {old mid new : Window} {l m n : Option (List ℕ)} {h : Halt} → Passes old mid l m → Skips VerilogSpace mid new m n (Err h) → Finds vlog old new l n (Err (error_of h))
 finds_halted {old} {mid} {new} {l} {m} {n} {h} p s =
     let all = passes_then p (passes_space s) in
     record {
       used = all.used;
       uses = all.uses;
-      told = told_by all.uses (Err (error_of h)) (λ bs rest known new_known parts. halt_told h (stream_from old.place bs) new (stream_from new.place rest)
+      told = told_of all.uses (Err (error_of h)) (λ bs rest known new_known parts. halt_told h (stream_from old.place bs) new (stream_from new.place rest)
           (λ is. all.same bs rest known new_known ∙ stream_is new.place rest ∙ late_from 0 new.place rest (s.too_long (ap at_err is))));
       shorter = tt;
       used_to = tt;
@@ -407,7 +321,7 @@ line_halted (Token token) new d n o h passed = absurd cc
 line_halted Line new d n o h passed = (refl, passed)
 
 pub finds_line_halted : (h : Halt) {old mid new d : Window} {l m n o : Option (List ℕ)} {b : ℕ} {x : Spot} → Passes old mid l m → IsAhead mid m (Some b) → Reads (item_by (start_of b) b) mid new m n (Ok x) → Passed x.item new d n o (Err h)
-    → Finds old d l o (Err (error_of h))
+    → Finds vlog old d l o (Err (error_of h))
 finds_line_halted h {old} {mid} {new} {d} {l} {m} {n} {o} {b} {x} p ahead t passed =
     let line = line_halted x.item new d n o h passed in
     let skips = line.1 in
@@ -432,19 +346,15 @@ finds_line_halted h {old} {mid} {new} {d} {l} {m} {n} {o} {b} {x} p ahead t pass
       used_up = λ is. skips.used_up (ap at_err (failed_of h is));
     }
 
-limited_end : (p : Place) → p.offset ≤ LIMIT → limited (only_end VFound p) ≡ only_end VFound p
-unfolding limited
-limited_end p le = rw (le-ltb LIMIT p.offset le) refl
-
-pub finds_end : {old mid new : Window} {l m n : Option (List ℕ)} → Passes old mid l m → Skips VerilogSpace mid new m n (Ok None) → Finds old new l n (Ok None)
+pub finds_end : {old mid new : Window} {l m n : Option (List ℕ)} → Passes old mid l m → Skips VerilogSpace mid new m n (Ok None) → Finds vlog old new l n (Ok None)
 finds_end {old} {mid} {new} {l} {m} {n} p s =
     let all = passes_then p (passes_space s) in
     record {
       used = all.used;
       uses = all.uses;
-      told = told_by all.uses (Ok None) (λ bs rest known new_known parts.
+      told = told_of all.uses (Ok None) (λ bs rest known new_known parts.
           let e = none_of rest (IsAhead-known new n None rest s.ahead new_known) in
-          let end_of : stream_from new.place rest ≡ only_end VFound new.place = stream_is new.place rest ∙ ap (λ (xs : List ℕ). limited (tokens_from 0 new.place xs)) e ∙ ap limited (tokens_end new.place) ∙ limited_end new.place s.within in
+          let end_of : stream_from new.place rest ≡ only_end VFound new.place = stream_is new.place rest ∙ ap (λ (xs : List ℕ). limited stop_of (tokens_from 0 new.place xs)) e ∙ ap (limited stop_of) (tokens_end new.place) ∙ end_near stop_of new.place s.within in
           let same = all.same bs rest known new_known in
           (same ∙ end_of, sym same));
       shorter = tt;

@@ -14,18 +14,18 @@ use Rattle.nl_bytes.specs.declared.halt.Halt.{Halt}
 use Rattle.nl_bytes.specs.Halts.{error_of}
 use Rattle.nl_bytes.specs.Classes.{AreIn, is_verilog_string_byte}
 use Rattle.nl_bytes.specs.Bytes.{Window, Uses, Runs, IsAhead, input}
-use Rattle.nl_bytes.proofs.Uses.{Uses-trans}
+use Rattle.nl_bytes.proofs.Uses.{Uses-trans, offset_grows}
 use Rattle.nl_bytes.proofs.Known.{IsAhead-known}
 use Rattle.vlog_tokens.specs.declared.item.Item.TheVariants.{Token}
 use Rattle.vlog_tokens.specs.declared.item.Spot.{Spot}
 use Rattle.vlog_tokens.specs.declared.token.VToken.TheVariants.{Str}
 use Rattle.vlog_tokens.specs.declared.string.Escaped.{Escaped}
 use Rattle.vlog_tokens.specs.declared.string.Escaped.TheVariants.{Stands, Octal, NoEscape, NoByte}
-use Rattle.vlog_tokens.specs.Flaws.{Piece, Flaw, flaw}
+use Rattle.nl_bytes.specs.Flaws.{Piece, Flaw, flaw, refusal}
 use Rattle.vlog_tokens.specs.Spelling.{str_of, string_spelled}
 use Rattle.vlog_tokens.specs.Strings.{Within, Parts, Escape, Code, is_octal, escaped_by, is_full, part_by, escape_by, with_code, string_at, Closes, Codes, quoted, closed}
-use Rattle.vlog_tokens.specs.Parts.{refusal, Reaches, Answers, GivesSpot, Meaning, Part, Reads}
-use Rattle.vlog_tokens.proofs.Parts.{Refused, Steps, steps_use, part_used, part_then, part_halted, refusal_answers, refusal_reads, here_at, offset_at, offset_grows, last_unseen}
+use Rattle.vlog_tokens.specs.Parts.{Reaches, Answers, GivesSpot, Meaning, Part, Reads}
+use Rattle.vlog_tokens.proofs.Parts.{Refused, Steps, steps_use, part_used, part_then, part_halted, refusal_answers, refusal_reads, here_at, offset_at, last_unseen}
 use Rattle.vlog_tokens.proofs.Scanning.{front_of, none_of, refuses, bad_here, bad_first, reaches_less}
 use Rattle.vlog_tokens.proofs.Reading.{StepsOn, reads_err, reads_ok}
 

@@ -14,7 +14,7 @@ use Rattle.vlog_tokens.specs.declared.start.Start.TheVariants as starts
 use Rattle.vlog_tokens.specs.declared.mark.PairStart.TheVariants as pair_starts
 use Rattle.vlog_tokens.specs.declared.string.Escaped.{Escaped}
 use Rattle.vlog_tokens.specs.declared.string.Escaped.TheVariants.{Stands, Octal, NoEscape, NoByte}
-use Rattle.vlog_tokens.specs.Flaws.{Piece, Flaw, flaw, ◌>>=◌}
+use Rattle.nl_bytes.specs.Flaws.{Piece, Flaw, flaw, ◌>>=◌}
 use Rattle.vlog_tokens.specs.Phases.{next_step, is_complete, most_of}
 use Rattle.vlog_tokens.specs.Scanning.{Lexeme, scan_at, stepped, ended, kept}
 use Rattle.vlog_tokens.specs.Items.{finish, finished, item_of}

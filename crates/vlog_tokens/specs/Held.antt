@@ -12,7 +12,7 @@ use Rattle.vlog_tokens.specs.declared.token.VFound.{VFound}
 use Rattle.vlog_tokens.specs.declared.token.VToken.{VToken}
 use Rattle.vlog_tokens.specs.declared.token.VToken.TheVariants.{Number, AttrStart, AttrStop}
 use Rattle.vlog_tokens.specs.Numbers.{number_of}
-use Rattle.vlog_tokens.specs.Parts.{refusal}
+use Rattle.nl_bytes.specs.Flaws.{refusal}
 use Rattle.vlog_tokens.specs.Phases.{is_mark}
 use Rattle.vlog_tokens.specs.Spelling as marks
 

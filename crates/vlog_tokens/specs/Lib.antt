@@ -1,4 +1,3 @@
-pub mod Flaws
 pub mod Phases
 pub mod Keywords
 pub mod Numbers

@@ -1,28 +1,18 @@
 -- What the parts of a reader answer.
-use Rattle.std.specs.Prelude.{◌≡◌, ℕ, ◌+◌, ◌<◌, ◌≤◌, ◌++◌, nat_lt, if◌then◌else◌, List, [], length, IfOk, IfErr, OnOk, Option, Some, None, Result, Ok, Err, ⊤}
+use Rattle.std.specs.Prelude.{◌≡◌, ℕ, ◌+◌, ◌<◌, ◌≤◌, ◌++◌, List, length, IfOk, OnOk, Option, Some, None, Result, Ok, Err, ⊤}
 use Rattle.nl_base.specs.declared.place.Place.{Place}
-use Rattle.nl_base.specs.declared.fault.TextFault.{TextFault}
-use Rattle.nl_base.specs.declared.fault.Reason.{Reason}
 use Rattle.nl_base.specs.declared.fault.Reason.TheVariants.{NumberRange}
 use Rattle.nl_base.specs.declared.fault.ReadError.{ReadError}
 use Rattle.nl_base.specs.declared.fault.ReadError.TheVariants.{Text, ReadFault, TooLong, NoMemory, Spent}
 use Rattle.nl_base.specs.Place.{place_past}
-use Rattle.std.specs.Prelude.{take}
 use Rattle.nl_bytes.specs.declared.bytes.TheConstants.{LIMIT}
 use Rattle.nl_bytes.specs.Bytes.{Window, Uses, input, given}
 use Rattle.vlog_tokens.specs.declared.item.Item.{Item}
 use Rattle.vlog_tokens.specs.declared.item.Item.TheVariants.{Token}
 use Rattle.vlog_tokens.specs.declared.item.Spot.{Spot}
 use Rattle.vlog_tokens.specs.declared.token.VToken.{VToken}
-use Rattle.vlog_tokens.specs.Flaws.{Piece, Flaw}
-
--- a fault of a token that begins at a place, where `bs` are the bytes from there on
-abbrev pub fault_at : Place → List ℕ → Flaw → TextFault
-fault_at p bs f = record { place = place_past p (take f.before bs); stop = p.offset + f.seen; reason = f.reason }
-
--- a fault, or that the input is too long where the fault's stop is past the limit
-abbrev pub refusal : Place → ℕ → Reason → ReadError
-refusal p stop reason = if nat_lt LIMIT stop then TooLong else Text (record { place = p; stop = stop; reason = reason })
+use Rattle.nl_bytes.specs.Flaws.{Piece, Flaw, fault_at, refusal}
+use Rattle.nl_bytes.specs.Tokens.{UsedUp}
 
 -- so many bytes, `offset` bytes before it among them, have to be read until it is known what is spelled
 abbrev pub Reaches : {A : Type 0} → ℕ → ℕ → Result (Piece A) Flaw → Type 0
@@ -49,10 +39,6 @@ Meaning A = ℕ → List ℕ → Result (Piece A) Flaw
 abbrev pub Continues : {A X : Type 0} → Place → List ℕ → Result (Piece A) Flaw → Result X ReadError → (X → Result (Piece A) Flaw) → Type 0
 Continues p whole meant (Ok x) next = meant ≡ next x
 Continues {A = A} p whole meant (Err e) next = Answers {A = A} {B = ℕ} p whole (λ _ _. ⊥) meant (Err e)
-
--- a read that fails was asked for with no byte at hand
-abbrev pub UsedUp : {X : Type 0} → Result X ReadError → Window → Type 0
-UsedUp r w = IfErr r (λ e. e ≡ ReadFault → w.held ≡ [])
 
 -- A part of the token that begins at p was read: before it the bytes mean `from`, and behind it the rest means `to`.
 pub record Part {A X : Type 0} (from : Meaning A) (to : X → Meaning A) (p : Place) (old new : Window) (left left' : Option (List ℕ)) (result : Result X ReadError) : Type 0 where

@@ -10,7 +10,7 @@ use Rattle.vlog_tokens.specs.declared.scan.Scanned.{Scanned}
 use Rattle.vlog_tokens.specs.declared.phase.Phase.TheVariants.{Word, Escape, Escaped, Whole, Point, Fraction, Mark, Sign, Exponent, Prefix, Signed, Letter, Digits, Unknown, Grave, Directive}
 use Rattle.vlog_tokens.specs.declared.phase.Step.{Step}
 use Rattle.vlog_tokens.specs.declared.phase.Step.TheVariants.{Keep, Pass, Ends, Bad}
-use Rattle.vlog_tokens.specs.Flaws.{Piece, Flaw, flaw}
+use Rattle.nl_bytes.specs.Flaws.{Piece, Flaw, flaw}
 use Rattle.vlog_tokens.specs.Phases.{next_step, is_complete, most_of}
 
 -- the bytes of a token that are kept, and what they are

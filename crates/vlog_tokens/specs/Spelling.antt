@@ -14,7 +14,7 @@ use Rattle.vlog_tokens.specs.declared.start.Start.{Start}
 use Rattle.vlog_tokens.specs.declared.start.Start.TheVariants.{White, Lexeme, Quote, Open, Star, Slash, Mark, Sign, Other}
 use Rattle.vlog_tokens.specs.declared.mark.PairStart.{PairStart}
 use Rattle.vlog_tokens.specs.declared.mark.PairStart.TheVariants as pair_starts
-use Rattle.vlog_tokens.specs.Flaws.{Piece, Flaw, ◌>>=◌, flaw}
+use Rattle.nl_bytes.specs.Flaws.{Piece, Flaw, ◌>>=◌, flaw}
 use Rattle.vlog_tokens.specs.Scanning.{begun}
 use Rattle.vlog_tokens.specs.Items.{finish}
 use Rattle.vlog_tokens.specs.Strings.{Parts, string_at}

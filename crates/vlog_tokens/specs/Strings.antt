@@ -8,7 +8,7 @@ use Rattle.nl_bytes.specs.declared.bytes.TheConstants.{LIMIT}
 use Rattle.nl_bytes.specs.Classes.{is_verilog_string_byte}
 use Rattle.vlog_tokens.specs.declared.string.Escaped.{Escaped}
 use Rattle.vlog_tokens.specs.declared.string.Escaped.TheVariants.{Stands, Octal, NoEscape, NoByte}
-use Rattle.vlog_tokens.specs.Flaws.{Piece, Flaw, flaw}
+use Rattle.nl_bytes.specs.Flaws.{Piece, Flaw, flaw}
 use Rattle.vlog_tokens.specs.Phases.{is_within}
 
 -- an octal digit

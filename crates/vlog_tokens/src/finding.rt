@@ -4,8 +4,11 @@ ghost use Rattle.nl_base.specs.Faults.{OnText};
 ghost use Rattle.vlog_tokens.specs.Parts.{Reads};
 ghost use Rattle.vlog_tokens.specs.Proper.{IsProper, IsProperItem};
 ghost use Rattle.vlog_tokens.specs.Spelling.{item_by, start_of};
-ghost use Rattle.vlog_tokens.specs.Finding.{Finds, Passed, found_or_late};
+ghost use Rattle.nl_bytes.specs.Tokens.{Finds};
+ghost use Rattle.vlog_tokens.specs.Finding.{Passed, found_or_late};
+ghost use Rattle.vlog_tokens.specs.Language.{vlog};
 
+use crate::ahead::is_near;
 use crate::item::{Item, Spot};
 use crate::lexeme::lexeme;
 use crate::mark::{PairStart, mark, pair, slash};
@@ -14,7 +17,7 @@ use crate::start::{Start, begins_name, start_of};
 use crate::string::string;
 use crate::token::{VFound, VToken};
 use crate::whole::{
-    escaped_length, held_escaped, held_number, held_pair, held_string, held_word, is_near, is_pair,
+    escaped_length, held_escaped, held_number, held_pair, held_string, held_word, is_pair,
     number_length, quoted_length, word_length,
 };
 use nl_base::{Place, ReadError, Reason};
@@ -93,7 +96,7 @@ fn pieced<S: Source>(
     alloc: Global,
     source: &mut S,
 ) -> Result<Option<VFound>, ReadError>
-    ensures finds { Finds bytes.old bytes.new (S.supply source.old).left (S.supply source.new).left result }
+    ensures finds { Finds vlog bytes.old bytes.new (S.supply source.old).left (S.supply source.new).left result }
     ensures proper { IfOk result (λ x. IfSome x (λ x. IsProper x.token)) }
     ensures never_spent { IsErrOf result ReadError.Spent → ⊥ }
     ensures bounded { OnText result (λ t. bytes.new.place.offset ≤ t.stop) }
@@ -124,7 +127,7 @@ pub fn found<S: Source>(
     alloc: Global,
     source: &mut S,
 ) -> Result<Option<VFound>, ReadError>
-    ensures finds { Finds bytes.old bytes.new (S.supply source.old).left (S.supply source.new).left result }
+    ensures finds { Finds vlog bytes.old bytes.new (S.supply source.old).left (S.supply source.new).left result }
     ensures proper { IfOk result (λ x. IfSome x (λ x. IsProper x.token)) }
     ensures never_spent { IsErrOf result ReadError.Spent → ⊥ }
     ensures bounded { OnText result (λ t. bytes.new.place.offset ≤ t.stop) }

@@ -12,6 +12,7 @@
 // real, based digits or string is within its limits.
 #![tactic(auto)]
 
+pub mod ahead;
 pub mod finding;
 pub mod item;
 pub mod keyword;

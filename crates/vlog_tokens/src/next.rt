@@ -2,8 +2,9 @@
 ghost use Rattle.std.specs.Prelude.{◌≡◌, ◌<◌, ℕ, length};
 ghost use Rattle.vlog_tokens.specs.Held.{front_length, held_word, past_word};
 
+use crate::ahead::{is_near, pass_space};
 use crate::start::begins_name;
-use crate::whole::{is_near, pass_space, word_length};
+use crate::whole::word_length;
 use nl_bytes::{Bytes, Class};
 
 /// How many bytes a simple name or a keyword has at the front, where its end is there; 0 where not.

@@ -2,8 +2,9 @@
 ghost use Rattle.std.specs.Prelude.{◌≡◌, ◌≤◌, length, Some};
 ghost use Rattle.vlog_tokens.specs.Plains.{pair_plain, digits_plain, front_plain, plain_length, held_plain, past_plain};
 
+use crate::ahead::{is_near, pass_space};
 use crate::number::number_of;
-use crate::whole::{is_near, is_pair, number_length, pass_space};
+use crate::whole::{is_pair, number_length};
 use nl_base::Int;
 use nl_bytes::{Bytes, Class};
 

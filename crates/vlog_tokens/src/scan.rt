@@ -2,7 +2,8 @@ ghost use Rattle.std.specs.Prelude.{IsNone, IfSome, ◌≡◌, ◌+◌, ◌<◌,
 ghost use Rattle.nl_io.specs.Causes.{Rose};
 ghost use Rattle.nl_base.specs.Faults.{OnText};
 ghost use Rattle.nl_bytes.specs.Bytes.{Uses, IsAhead};
-ghost use Rattle.vlog_tokens.specs.Parts.{refusal, Part};
+ghost use Rattle.nl_bytes.specs.Flaws.{refusal};
+ghost use Rattle.vlog_tokens.specs.Parts.{Part};
 ghost use Rattle.vlog_tokens.specs.Scanning.{Stays, scan_at, after_byte, scanned, begun, kept, StopsAt};
 ghost use Rattle.vlog_tokens.specs.SoFar.{IsSoFar, IsThen};
 

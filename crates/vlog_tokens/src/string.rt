@@ -1,7 +1,8 @@
 ghost use Rattle.std.specs.Prelude.{All, ◌≡◌, ◌⊎◌, ◌+◌, ◌<◌, ◌≤◌, ◌∷◌, ◌++◌, [], ℕ, List, length, Option, IfOk, IfErr, OnOk, IsErrOf};
 ghost use Rattle.nl_io.specs.Causes.{Rose};
 ghost use Rattle.nl_base.specs.Faults.{OnText};
-ghost use Rattle.vlog_tokens.specs.Parts.{Part, Reads, refusal};
+ghost use Rattle.nl_bytes.specs.Flaws.{refusal};
+ghost use Rattle.vlog_tokens.specs.Parts.{Part, Reads};
 ghost use Rattle.vlog_tokens.specs.Proper.{IsProper, IsProperItem};
 ghost use Rattle.vlog_tokens.specs.Spelling.{string_spelled};
 ghost use Rattle.vlog_tokens.specs.Strings.{Codes, Parts, escaped_by, is_octal, string_at};

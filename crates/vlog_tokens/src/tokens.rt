@@ -1,11 +1,11 @@
 ghost use Rattle.std.specs.Prelude.{◌≡◌, ◌+◌, ◌<◌, ◌≤◌, ℕ, Some, length, IfOk, IfSome, IsFalse};
 ghost use Rattle.nl_bytes.specs.declared.bytes.TheConstants.{LIMIT};
 
+use crate::ahead::{held_mark, pass_mark};
 use crate::finding::found;
 use crate::next::{held_word, pass_word};
 use crate::plain::{Plain, held_plain, pass_plain};
 use crate::token::VFound;
-use crate::whole::{held_mark, pass_mark};
 use nl_base::{NoMemory, Place, ReadError};
 use nl_bytes::Bytes;
 use nl_io::Source;
@@ -23,7 +23,7 @@ pub struct VTokens {
 }
 
 impl Model for VTokens {
-    ghost use Rattle.vlog_tokens.specs.Language.{State};
+    ghost use Rattle.nl_bytes.specs.Tokens.{State};
 
     ghost Value = { State };
 
@@ -32,9 +32,9 @@ impl Model for VTokens {
 
 impl VTokens {
     ghost use Rattle.nl_io.specs.Sources.{Supply};
-    ghost use Rattle.nl_bytes.specs.Tokens.{ReadsToken};
+    ghost use Rattle.nl_bytes.specs.Tokens.{ReadsToken, fresh};
     ghost use Rattle.vlog_tokens.specs.declared.token.VToken.TheVariants.{Punct};
-    ghost use Rattle.vlog_tokens.specs.Language.{vlog, fresh};
+    ghost use Rattle.vlog_tokens.specs.Language.{vlog};
     ghost use Rattle.vlog_tokens.specs.Held.{held_mark, past_mark, held_word, past_word};
     ghost use Rattle.vlog_tokens.specs.Plains.{held_plain, past_plain, plain_token};
     ghost use Rattle.vlog_tokens.specs.Items.{word_token};

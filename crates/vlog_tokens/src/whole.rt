@@ -2,101 +2,24 @@
 ghost use Rattle.std.specs.Prelude.{◌≡◌, ◌+◌, ◌<◌, ◌≤◌, ◌∷◌, ℕ, true, List, length, drop, Some, Option, IfOk, IfErr, IfSome, IsErrOf, IsTrue};
 ghost use Rattle.nl_base.specs.Faults.{OnText};
 ghost use Rattle.nl_bytes.specs.Bytes.{given};
-ghost use Rattle.vlog_tokens.specs.Finding.{Finds};
-ghost use Rattle.vlog_tokens.specs.Held.{is_near, open_mark, front_mark, held_mark, past_space, past_mark, word_length, number_length, escaped_length, quoted_length, is_pair, pair_token, number_found};
+ghost use Rattle.nl_bytes.specs.Tokens.{Finds};
+ghost use Rattle.vlog_tokens.specs.Held.{is_near, word_length, number_length, escaped_length, quoted_length, is_pair, pair_token, number_found};
 ghost use Rattle.vlog_tokens.specs.Items.{word_item};
 ghost use Rattle.vlog_tokens.specs.Proper.{IsProper};
 ghost use Rattle.vlog_tokens.specs.Spelling.{start_of};
 ghost use Rattle.vlog_tokens.specs.declared.start.Start.TheVariants.{Lexeme};
 ghost use Rattle.vlog_tokens.specs.declared.phase.Phase.TheVariants.{Word, Whole, Escape};
+ghost use Rattle.vlog_tokens.specs.Language.{vlog};
 
 use crate::item::word_token;
 use crate::number::number_of;
 use crate::phase::is_mark as is_exponent_mark;
 use crate::scan::refuse;
-use crate::start::is_mark;
 use crate::string::str_token;
 use crate::token::{VFound, VToken};
 use nl_base::{Place, ReadError, Reason, Text};
-use nl_bytes::bytes::LIMIT;
 use nl_bytes::{Bytes, Class};
 use std::alloc::Global;
-
-/// Whether all bytes that are held lie within the limit of an input.
-#[inline(always)]
-pub fn is_near(bytes: &Bytes) -> bool
-    ensures { result ≡ is_near bytes.now }
-{
-    bytes.place().offset + bytes.held().len() as u64 <= LIMIT
-}
-
-/// A `(`, where another byte than the `*` of `(*` is behind it.
-#[inline(always)]
-fn open_mark(behind: &[u8]) -> Option<u8>
-    ensures { result ≡ open_mark behind.now }
-{
-    match behind {
-        [b'*', ..] => None,
-        [_, ..] => Some(b'('),
-        [] => None,
-    }
-}
-
-/// The punctuation mark at the front of some bytes, where they show that it is one.
-#[inline(always)]
-fn front_mark(bytes: &[u8]) -> Option<u8>
-    ensures { result ≡ front_mark bytes.now }
-{
-    match bytes {
-        [first, rest @ ..] => {
-            if *first == b'(' {
-                return open_mark(rest);
-            }
-            if is_mark(*first) {
-                return Some(*first);
-            }
-            None
-        }
-        [] => None,
-    }
-}
-
-/// The punctuation mark that is next, where that is held.
-#[inline(always)]
-#[tactic(auto, unfolding(crate::specs::Held::held_mark))]
-pub fn held_mark(bytes: &Bytes) -> Option<u8>
-    ensures { result ≡ held_mark bytes.now }
-{
-    if !is_near(bytes) {
-        return None;
-    }
-    let held = bytes.held();
-    let (_, front) = held.split_at(Class::VerilogSpace.front(held));
-    front_mark(front)
-}
-
-/// Uses the white space that is held.
-#[inline(always)]
-pub fn pass_space(bytes: &mut Bytes)
-    requires near { is_near bytes.old ≡ true }
-    ensures { bytes.new ≡ past_space bytes.old }
-{
-    let count = Class::VerilogSpace.front(bytes.held());
-    if count == 0 {
-        return;
-    }
-    bytes.pass(Class::VerilogSpace, count);
-}
-
-/// Uses the mark that is next.
-#[inline(always)]
-pub fn pass_mark(bytes: &mut Bytes)
-    requires { (mark : ℕ) × (held_mark bytes.old ≡ Some mark) }
-    ensures { bytes.new ≡ past_mark bytes.old }
-{
-    pass_space(bytes);
-    bytes.advance();
-}
 
 /// How many bytes a name or a keyword at the front has, where its end is there; 0 where not.
 #[inline(always)]
@@ -189,7 +112,7 @@ pub fn held_word(
     requires near { is_near bytes.old ≡ true }
     requires some { 0 < count }
     requires whole { count ≡ word_length bytes.old.held }
-    ensures finds { (left : Option (List ℕ)) → Finds bytes.old bytes.new left left result }
+    ensures finds { (left : Option (List ℕ)) → Finds vlog bytes.old bytes.new left left result }
     ensures proper { IfOk result (λ x. IfSome x (λ x. IsProper x.token)) }
     ensures error { IfErr result (λ e. e ≡ ReadError.NoMemory) }
 {
@@ -227,7 +150,7 @@ pub fn held_number(bytes: &mut Bytes, byte: u8, count: usize) -> Result<Option<V
     requires near { is_near bytes.old ≡ true }
     requires some { 0 < count }
     requires whole { count ≡ number_length bytes.old.held }
-    ensures finds { (left : Option (List ℕ)) → Finds bytes.old bytes.new left left result }
+    ensures finds { (left : Option (List ℕ)) → Finds vlog bytes.old bytes.new left left result }
     ensures proper { IfOk result (λ x. IfSome x (λ x. IsProper x.token)) }
     ensures never_fails { IsErrOf result ReadError.ReadFault → ⊥ }
     ensures never_spent { IsErrOf result ReadError.Spent → ⊥ }
@@ -251,7 +174,7 @@ pub fn held_escaped(
     requires near { is_near bytes.old ≡ true }
     requires some { 0 < count }
     requires whole { count ≡ escaped_length (drop 1 bytes.old.held) }
-    ensures finds { (left : Option (List ℕ)) → Finds bytes.old bytes.new left left result }
+    ensures finds { (left : Option (List ℕ)) → Finds vlog bytes.old bytes.new left left result }
     ensures proper { IfOk result (λ x. IfSome x (λ x. IsProper x.token)) }
     ensures error { IfErr result (λ e. e ≡ ReadError.NoMemory) }
 {
@@ -277,7 +200,7 @@ pub fn held_string(
     requires ahead { (rest : List ℕ) × (bytes.old.held ≡ 34 ∷ rest) }
     requires near { is_near bytes.old ≡ true }
     requires whole { quoted_length (drop 1 bytes.old.held) ≡ Some count }
-    ensures finds { (left : Option (List ℕ)) → Finds bytes.old bytes.new left left result }
+    ensures finds { (left : Option (List ℕ)) → Finds vlog bytes.old bytes.new left left result }
     ensures proper { IfOk result (λ x. IfSome x (λ x. IsProper x.token)) }
     ensures error { IfErr result (λ e. e ≡ ReadError.NoMemory) }
 {
@@ -309,7 +232,7 @@ pub fn held_pair(bytes: &mut Bytes, byte: u8) -> Result<Option<VFound>, ReadErro
     requires ahead { (rest : List ℕ) × (bytes.old.held ≡ byte ∷ rest) }
     requires near { is_near bytes.old ≡ true }
     requires pair { is_pair bytes.old.held ≡ true }
-    ensures finds { (left : Option (List ℕ)) → Finds bytes.old bytes.new left left result }
+    ensures finds { (left : Option (List ℕ)) → Finds vlog bytes.old bytes.new left left result }
     ensures proper { IfOk result (λ x. IfSome x (λ x. IsProper x.token)) }
     ensures error { IfErr result (λ e. ⊥) }
 {

@@ -6,7 +6,7 @@ use Rattle.std.proofs.lemmas.Result.{err_from_is_err_and}
 use Rattle.edif_tokens.specs.Strings.{Escape, Parts}
 use Rattle.edif_tokens.proofs.Spans.{at_err}
 use Rattle.edif_tokens.proofs.Strings.{part_byte, part_space, part_ends, escape_end, escape_digit, escape_closes, escape_refused, part_trans, part_err, part_halted}
-use Rattle.edif_tokens.proofs.Spans.{offset_grows}
+use Rattle.nl_bytes.proofs.Uses.{offset_grows}
 use Rattle.edif_tokens.proofs.string.escape.Goals as goal
 use Rattle.edif_tokens.proofs.string.escape.Goals.{else-coded-via-then-coded+else-b-eq37, else-coded-via-else-coded}
 

@@ -5,7 +5,7 @@ use Rattle.nl_base.specs.declared.place.Place.{Place}
 use Rattle.nl_bytes.specs.Classes.{is_string_byte}
 use Rattle.edif_tokens.proofs.Spans.{at_err}
 use Rattle.edif_tokens.proofs.Strings.{plain_part, parts_end, parts_full, parts_bad, parts_escape, part_ends, part_trans, part_halted}
-use Rattle.edif_tokens.proofs.Spans.{offset_grows}
+use Rattle.nl_bytes.proofs.Uses.{offset_grows}
 use Rattle.edif_tokens.proofs.string.parts.Goals as goal
 
 pub returns-in_err-next-clause-reads : goal.returns-in_err-next-clause-reads

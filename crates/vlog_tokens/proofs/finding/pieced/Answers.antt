@@ -1,6 +1,6 @@
 use Rattle.std.proofs.Common.{arith}
 use Rattle.std.proofs.lemmas.Result.{err_from_is_err_and}
-use Rattle.vlog_tokens.proofs.Parts.{offset_grows}
+use Rattle.nl_bytes.proofs.Uses.{offset_grows}
 use Rattle.vlog_tokens.proofs.Streams.{passes_none, passes_then, passes_space, passes_blank, blank_moves, finds_err, finds_end, finds_halted, finds_line_halted, finds_token}
 use Rattle.vlog_tokens.proofs.Proper.{passed_proper, found_proper}
 use Rattle.vlog_tokens.proofs.finding.pieced.Goals as goal

@@ -3,7 +3,8 @@ use Rattle.std.proofs.lemmas.Result.{err_from_is_err_and}
 use Rattle.nl_base.specs.declared.place.Place.{Place}
 use Rattle.vlog_tokens.specs.Scanning.{kept}
 use Rattle.vlog_tokens.specs.SoFar.{IsSoFar}
-use Rattle.vlog_tokens.proofs.Parts.{part_then, part_err, offset_grows}
+use Rattle.nl_bytes.proofs.Uses.{offset_grows}
+use Rattle.vlog_tokens.proofs.Parts.{part_then, part_err}
 use Rattle.vlog_tokens.proofs.Reading.{begun_part}
 use Rattle.vlog_tokens.proofs.lexeme.scan.Goals as goal
 

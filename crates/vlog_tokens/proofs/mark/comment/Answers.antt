@@ -1,7 +1,8 @@
 use Rattle.std.proofs.Common.{ap, sym, ◌∙◌, arith}
 use Rattle.std.proofs.lemmas.Result.{err_from_is_err_and}
 use Rattle.nl_base.specs.declared.place.Place.{Place}
-use Rattle.vlog_tokens.proofs.Parts.{steps, part_then, offset_grows}
+use Rattle.nl_bytes.proofs.Uses.{offset_grows}
+use Rattle.vlog_tokens.proofs.Parts.{steps, part_then}
 use Rattle.vlog_tokens.proofs.Marks.{comment_part, comment_halted, comment_end, comment_closed, comment_on, star_part, star_halted, slash_ahead, at_err}
 use Rattle.vlog_tokens.proofs.mark.comment.Goals as goal
 

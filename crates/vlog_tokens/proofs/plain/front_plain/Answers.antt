@@ -1,4 +1,4 @@
-use Rattle.std.proofs.Common.{◌∙◌, arith}
+use Rattle.std.proofs.Common.{arith}
 use Rattle.vlog_tokens.proofs.HeldPlains.{number_enough}
 use Rattle.vlog_tokens.proofs.plain.front_plain.Goals as goal
 

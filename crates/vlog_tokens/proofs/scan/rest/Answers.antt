@@ -1,6 +1,7 @@
 use Rattle.std.proofs.Common.{refl, arith}
 use Rattle.std.proofs.lemmas.Result.{err_from_is_err_and}
-use Rattle.vlog_tokens.proofs.Parts.{part_then, part_err, offset_grows}
+use Rattle.nl_bytes.proofs.Uses.{offset_grows}
+use Rattle.vlog_tokens.proofs.Parts.{part_then, part_err}
 use Rattle.vlog_tokens.proofs.Scanning.{stays_part, stays_halted, part_goes_on, part_ended}
 use Rattle.vlog_tokens.proofs.scan.rest.Goals as goal
 

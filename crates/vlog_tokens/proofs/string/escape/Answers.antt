@@ -1,7 +1,8 @@
 use Rattle.std.proofs.Common.{arith, ap, sym, ◌∙◌}
 use Rattle.std.proofs.lemmas.Result.{err_from_is_err_and}
 use Rattle.nl_base.specs.declared.place.Place.{Place}
-use Rattle.vlog_tokens.proofs.Parts.{steps, part_halted, part_no_memory, offset_grows}
+use Rattle.nl_bytes.proofs.Uses.{offset_grows}
+use Rattle.vlog_tokens.proofs.Parts.{steps, part_halted, part_no_memory}
 use Rattle.vlog_tokens.proofs.Strings.{backslash_part, escape_ends, escape_no_byte, escape_full, escape_bad, escape_stands, coded, coded_halted, coded_over, coded_full, coded_added, coded_part, refused_add, string_seen, at_err}
 use Rattle.vlog_tokens.specs.Strings.{Escape}
 use Rattle.vlog_tokens.proofs.string.escape.Goals as goal

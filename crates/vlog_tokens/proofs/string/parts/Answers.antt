@@ -2,7 +2,8 @@ use Rattle.std.proofs.Common.{◌≡◌, ℕ, ◌∷◌, true, false, arith, rul
 use Rattle.std.proofs.lemmas.Bool.{ne_eqb}
 use Rattle.std.proofs.lemmas.Result.{err_from_is_err_and}
 use Rattle.nl_bytes.specs.Classes.{is_verilog_string_byte}
-use Rattle.vlog_tokens.proofs.Parts.{part_then, part_halted, offset_grows}
+use Rattle.nl_bytes.proofs.Uses.{offset_grows}
+use Rattle.vlog_tokens.proofs.Parts.{part_then, part_halted}
 use Rattle.vlog_tokens.proofs.Strings.{plain_part, parts_end, parts_full, parts_bad, string_seen, at_err}
 use Rattle.vlog_tokens.specs.Strings.{Parts}
 use Rattle.vlog_tokens.proofs.string.parts.Goals as goal

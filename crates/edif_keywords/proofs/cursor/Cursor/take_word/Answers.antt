@@ -1,5 +1,5 @@
 use Rattle.std.proofs.Common.{sym, ap, ◌∙◌}
-use Rattle.edif_tokens.specs.Streams.{State}
+use Rattle.nl_bytes.specs.Tokens.{State}
 use Rattle.edif_keywords.proofs.HeldTokens.{inside_word}
 use Rattle.edif_keywords.proofs.cursor.Cursor.take_word.Goals as goal
 

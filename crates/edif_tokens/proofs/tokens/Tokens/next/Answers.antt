@@ -1,6 +1,6 @@
 use Rattle.std.proofs.Common.{◌≡◌, sym, ap, ◌∙◌, false, true, Bool}
 use Rattle.std.proofs.lemmas.Result.{err_from_is_err_and}
-use Rattle.edif_tokens.proofs.Readers.{reads_found, reads_spent, state}
+use Rattle.nl_bytes.proofs.Readers.{reads_found, reads_spent, state}
 use Rattle.edif_tokens.proofs.tokens.Tokens.next.Goals as goal
 
 pub returns-then-self-clause-reads : goal.returns-then-self-clause-reads
@@ -16,7 +16,7 @@ returns-clause-reads g c =
     rw old (rw c.in_ok-found.was at all)
 
 pub returns-clause-limit : goal.returns-clause-limit
-returns-clause-limit g c = rw c.in_ok-found.was at c.found-result.ensures.finds.limit
+returns-clause-limit g c = rw c.in_ok-found.was at c.found-result.ensures.limit
 
 pub returns-in_err-found-clause-reads : goal.returns-in_err-found-clause-reads
 returns-in_err-found-clause-reads g c =

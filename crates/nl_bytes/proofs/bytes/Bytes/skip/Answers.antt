@@ -1,4 +1,4 @@
-use Rattle.std.proofs.Common.{◌≡◌, ℕ, [], ◌∷◌, ◌++◌, Some, true, IsTrue, arith, rules}
+use Rattle.std.proofs.Common.{ℕ, [], ◌∷◌, ◌++◌, Some, IsTrue, arith, rules}
 use Rattle.nl_bytes.specs.Bytes.{IsAhead}
 use Rattle.nl_bytes.specs.Classes.{in_class}
 use Rattle.nl_bytes.proofs.Uses.{Uses-next, AllByRecursion-push}

@@ -1,5 +1,5 @@
 use Rattle.std.proofs.Common.{sym, ap, ◌∙◌}
-use Rattle.vlog_tokens.specs.Language.{State}
+use Rattle.nl_bytes.specs.Tokens.{State}
 use Rattle.vlog_exprs.proofs.HeldPlains.{inside_plain}
 use Rattle.vlog_exprs.proofs.cursor.VCursor.take_plain.Goals as goal
 

@@ -1,6 +1,6 @@
 use Rattle.std.proofs.Common.{◌≡◌, sym, ap, ◌∙◌, false, true, Bool}
 use Rattle.std.proofs.lemmas.Result.{err_from_is_err_and}
-use Rattle.vlog_tokens.proofs.Readers.{reads_found, reads_spent, state}
+use Rattle.nl_bytes.proofs.Readers.{reads_found, reads_spent, state}
 use Rattle.vlog_tokens.proofs.tokens.VTokens.next.Goals as goal
 
 pub returns-then-self-clause-reads : goal.returns-then-self-clause-reads

@@ -1,5 +1,5 @@
 use Rattle.vlog_tokens.proofs.HeldMarks.{mark_next, mark_past, mark_room}
-use Rattle.vlog_tokens.proofs.whole.pass_mark.Goals as goal
+use Rattle.vlog_tokens.proofs.ahead.pass_mark.Goals as goal
 
 pub pass_space-requires : goal.pass_space-requires
 pass_space-requires c = record { near = (mark_next _ _ c.requires.1).near }

@@ -4,7 +4,7 @@ use Rattle.std.specs.List.{prefix_len}
 use Rattle.nl_bytes.proofs.Fronts.{front-all}
 use Rattle.nl_bytes.specs.Classes.{is_verilog_space}
 use Rattle.vlog_tokens.proofs.Held.{held_within}
-use Rattle.vlog_tokens.proofs.whole.pass_space.Goals as goal
+use Rattle.vlog_tokens.proofs.ahead.pass_space.Goals as goal
 
 pub pass-requires-clause-held : goal.pass-requires-clause-held
 pass-requires-clause-held c = omega (arith, c.front-count.ensures ∙ ap (prefix_len is_verilog_space) c.held.ensures, prefix_len-le-length is_verilog_space c.args.bytes.now.held)
