@@ -47,7 +47,8 @@ fn cell_joins(
     requires numbers { All (λ signal. HasNumbers signal.slot) (signals scope.now.module.now) }
     ensures { IfOk result (λ made. made ≡ module_joins (modules_in scopes.now) scope.now.module.now) }
 {
-    let joins = joins_of(alloc, names, scopes, scope)?;
+    let mut joins = joins_of(alloc, names, scopes, scope)?;
+    joins.shrink_to_fit();
     Ok(Seq::of(joins))
 }
 

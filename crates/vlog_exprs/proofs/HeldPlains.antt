@@ -6,7 +6,7 @@ use Rattle.nl_base.specs.declared.fault.Reason.{Reason}
 use Rattle.nl_bytes.specs.Bytes.{Window}
 use Rattle.nl_io.specs.Sources.{Supply}
 use Rattle.readers.specs.Parts.{any, one, pick}
-use Rattle.readers.specs.Readers.{Reader, Reads, TakesNext, same, stream, on}
+use Rattle.readers.specs.Readers.{Reader, Reads, TakesNext, LooksFor, same, stream, on}
 use Rattle.readers.proofs.Choices.{took, reading_if}
 use Rattle.readers.proofs.Moving.{still}
 use Rattle.readers.proofs.Reading.{on_left}
@@ -26,7 +26,7 @@ use Rattle.vlog_exprs.specs.Grammar.{bound, bound_number, after}
 use Rattle.vlog_exprs.specs.Reasons.{at_mark, is_bound, bound_of}
 use Rattle.vlog_exprs.proofs.OneToken.{one_says}
 use Rattle.vlog_exprs.proofs.HeldMarks.{left_next}
-use Rattle.vlog_exprs.proofs.HeldWords.{HeldTaken}
+use Rattle.vlog_exprs.proofs.HeldWords.{HeldTaken, next_fits}
 
 -- a reader of which such a token is held is not spent, and has looked at no token
 plain_live : (a : Reader NoContext VFound) (p : Plain) → held_plain a ≡ Some p → (a.spent ≡ false) × (a.ahead ≡ None) × (plains.held_plain a.window ≡ Some p)
@@ -60,6 +60,21 @@ module _ (a b : Reader NoContext VFound) (p : Plain) (e : held_plain a ≡ Some 
   plain_says f v t b-is =
       let m = plain_taken in
       rw b-is (one_says (λ _ x. f x.token) a (past_plain a) i i m.token m.reads m.near (Ok (Ok v)) (Ok v) (past_plain a) (sym (ap f m.is ∙ t)) refl refl)
+
+  -- the token is looked at
+  pub plain_looked : (f : VFound → Bool) (t : Bool) → ((x : VFound) → x.token ≡ plain_token p → t ≡ f x) → LooksFor vlog f (Ok t) a a i i
+  plain_looked f t fits =
+      let m = plain_taken in
+      record {
+        value = (next_fits vlog f a.context m.token t (stream vlog a i) (stream vlog (past_plain a) i) m.reads.value.0 (fits m.token m.is), (refl, refl, omega arith));
+        error = tt;
+        moves = still a.window i;
+        unspent = m.reads.unspent;
+        spent = tt;
+        spends = m.reads.unspent;
+        cause = tt;
+        near = tt;
+      }
 
   module _ {V C : Type 0} (view : V → Option C) (f : VToken → Glance C Reason) (y : V) where
     -- the token is taken

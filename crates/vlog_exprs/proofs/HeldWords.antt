@@ -28,7 +28,7 @@ use Rattle.vlog_values.specs.Values.{IsName}
 use Rattle.vlog_tokens.proofs.HeldWords.{word_reads, held_word_name}
 use Rattle.vlog_exprs.specs.Language.{NoContext, Vlog}
 use Rattle.vlog_exprs.specs.Calls.{held_word, past_word, TakesHeld}
-use Rattle.vlog_exprs.specs.Reasons.{at_mark, at_group, at_name, at_choice, meant_by, glance_of}
+use Rattle.vlog_exprs.specs.Reasons.{at_mark, at_group, at_name, at_choice, choice_of, choice_by, meant_by, glance_of}
 use Rattle.vlog_exprs.proofs.OneToken.{one_says}
 use Rattle.vlog_exprs.proofs.HeldMarks.{left_next}
 
@@ -138,6 +138,16 @@ module _ {V C : Type 0} (view : V → Option C) (f : VToken → Glance C Reason)
         near = tt;
       }
 
+-- ---- calls that have to take it
+
+-- the word says what is answered
+pub word_says : {V : Type 0} (f : VToken → Result V Reason) (a b : Reader NoContext VFound) (v : V) → 0 < length (held_word a) → length a.window.held ≤ 4096 → (i : Supply) → f (word_token (held_word a)) ≡ Ok v → b ≡ past_word a → Reads vlog same (one (λ _ x. f x.token)) (Ok v) a b i i
+word_says f a b v some small i e b-is =
+    let m = word_taken a some small i in
+    rw b-is (one_says (λ _ x. f x.token) a (past_word a) i i m.token m.reads m.near (Ok (Ok v)) (Ok v) (past_word a) (sym (ap f m.is ∙ e)) refl refl)
+
+-- ---- what a word says
+
 -- a word is no mark
 pub mark_leaves_word : (due : ℕ) (w : List ℕ) → at_mark due (word_token w) ≡ leaves
 mark_leaves_word due w = by (is_keyword w)
@@ -180,10 +190,14 @@ choice_leaves_name words w v is k = let plain : is_keyword w ≡ false = ap is_k
 pub choice_takes_word : {A : Type 0} (words : List (List ℕ × A)) (w v : List ℕ) (x : A) → v ≡ w → is_keyword v ≡ true → Some x ≡ meant_by words v → at_choice words (word_token w) ≡ takes x
 choice_takes_word words w v x is k e = let word : is_keyword w ≡ true = ap is_keyword (sym is) ∙ k in rw word (ap glance_of (ap (meant_by words) (sym is) ∙ sym e))
 
+-- one of some keywords says its value
+pub choice_says_word : {A : Type 0} (words : List (List ℕ × A)) (w v : List ℕ) (x : A) → v ≡ w → is_keyword v ≡ true → Some x ≡ meant_by words v → choice_of words (word_token w) ≡ Ok x
+choice_says_word words w v x is k e = let word : is_keyword w ≡ true = ap is_keyword (sym is) ∙ k in rw word (ap (choice_by w) (ap (meant_by words) (sym is) ∙ sym e))
+
 -- ---- a look at the next token
 
 -- the token that is read next fits as it does
-next_fits : {K X : Type 0} (L : Language X) (f : X → Bool) (k : K) (x : X) (b : Bool) (s t : Option (Ahead X)) → reading L any k s ≡ then_left x t → b ≡ f x → IsNext f b s
+pub next_fits : {K X : Type 0} (L : Language X) (f : X → Bool) (k : K) (x : X) (b : Bool) (s t : Option (Ahead X)) → reading L any k s ≡ then_left x t → b ≡ f x → IsNext f b s
 unfolding reading any then_left IsNext
 next_fits L f k x b None t h e = tt
 next_fits L f k x b (Some s) None h e = absurd cc
@@ -214,9 +228,7 @@ word_looked f a some small i b fits =
 module _ (a b : Reader NoContext VFound) (i : Supply) where
   -- a name says what is answered
   pub name_says : {V : Type 0} (f : VToken → Result V Reason) (name : List ℕ) (v : V) → TakesHeld (Ok (Some name)) a b → f (Name name) ≡ Ok v → Reads vlog same (one (λ _ x. f x.token)) (Ok v) a b i i
-  name_says f name v h e =
-      let m = word_taken a h.1 h.2 i in
-      rw h.3 (one_says (λ _ x. f x.token) a (past_word a) i i m.token m.reads m.near (Ok (Ok v)) (Ok v) (past_word a) (sym (ap f (m.is ∙ h.0) ∙ e)) refl refl)
+  name_says f name v h e = word_says f a b v h.1 h.2 i (ap f h.0 ∙ e) h.3
 
   -- the same of a name that need not stand
   pub name_some : {C : Type 0} (f : VToken → Glance C Reason) (name : List ℕ) (c : C) → TakesHeld (Ok (Some name)) a b → f (Name name) ≡ takes c → TakesNext vlog same (λ _ x. f x.token) (Ok (Some c)) a b i i

@@ -47,6 +47,7 @@ fn read_signed_bound<S: Source>(
 }
 
 /// Reads a bound, whose absolute value is at most 2^31-1.
+#[inline(always)]
 pub fn read_bound<S: Source>(
     alloc: Global,
     cursor: &mut VCursor,

@@ -153,7 +153,7 @@ impl VCursor {
     /// end.
     #[inline(always)]
     #[tactic(auto, unfolding(crate::specs::Calls::held_plain))]
-    pub(crate) fn held_plain(&self) -> Option<Plain>
+    pub fn held_plain(&self) -> Option<Plain>
         ensures plain { result ≡ held_plain self.now }
         ensures held { length self.now.window.held ≤ 4096 }
         ensures proper { IfSome result (λ plain. IsProper (plain_token plain)) }

@@ -12,12 +12,16 @@ use crate::bound::read_select;
 use crate::constant::takes_digits;
 use crate::cursor::VCursor;
 use crate::reasons::{at_expr, expr_start};
+use crate::seq::seq_with_room;
 use crate::start::ExprStart;
 use nl_base::{Int, ReadError, Seq};
 use nl_io::Source;
 use std::alloc::Global;
 use vlog_tokens::VFound;
 use vlog_values::Expr;
+
+/// For how many expressions a concatenation has room from the first.
+const USUAL: usize = 2;
 
 /// Takes the first token of an expression, where `levels` braces may be opened, one in another.
 fn take_expr_start<S: Source>(
@@ -185,7 +189,7 @@ fn read_list<S: Source>(
     ensures value { IfOk result (AreSome (IsGood left levels)) }
     ensures size { IfOk result (λ es. list_size expr_size es + room cursor.new ≤ expr_size first + room cursor.old) }
 {
-    let mut exprs = Seq::empty(alloc);
+    let mut exprs = seq_with_room(alloc, USUAL);
     cursor.add(&mut exprs, first)?;
     while cursor.takes(alloc, b',', source)? {
         let expr = read_expr_in(alloc, cursor, left, levels, source)?;

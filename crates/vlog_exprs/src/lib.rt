@@ -17,6 +17,7 @@ pub mod expr;
 pub mod glance;
 pub mod laws;
 pub mod reasons;
+pub mod seq;
 pub mod start;
 pub mod steps;
 
@@ -26,4 +27,5 @@ pub use constant::read_const;
 pub use cursor::VCursor;
 pub use expr::{read_expr, read_expr_if_any};
 pub use glance::Glance;
+pub use seq::{fitted, seq_with_room};
 pub use start::{ConstStart, ExprStart};

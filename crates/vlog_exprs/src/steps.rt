@@ -51,6 +51,7 @@ impl VCursor {
     }
 
     /// Takes a token: this punctuation mark.
+    #[inline(always)]
     pub fn mark<S: Source>(
         &mut self,
         alloc: Global,
@@ -106,12 +107,36 @@ impl VCursor {
     ) -> Result<T, ReadError>
         ensures { Reads vlog same (choice (say.rows words.now)) result self.old self.new (S.supply source.old) (S.supply source.new) }
     {
+        let held = self.held_word();
+        let count = held.len();
+        if count > 0 {
+            if let Some(value) = meant_by(words, held) {
+                if is_keyword(held) {
+                    self.take_word(count);
+                    return Ok(value);
+                }
+            }
+        }
+        self.choose_token(alloc, words, source)
+    }
+
+    /// Takes any token, which has to be one of some keywords, and answers its value.
+    #[inline(never)]
+    fn choose_token<T: Copy, S: Source>(
+        &mut self,
+        alloc: Global,
+        words: &[(&[u8], T)],
+        source: &mut S,
+    ) -> Result<T, ReadError>
+        ensures { Reads vlog same (choice (say.rows words.now)) result self.old self.new (S.supply source.old) (S.supply source.new) }
+    {
         let VFound { place, stop, token } = self.take(alloc, source)?;
         let said = choice_of(alloc, words, token);
         self.judged(place, stop, said)
     }
 
     /// Takes this punctuation mark, where it is next, and answers whether it was.
+    #[inline(always)]
     pub fn takes<S: Source>(
         &mut self,
         alloc: Global,
@@ -127,6 +152,19 @@ impl VCursor {
             self.take_mark();
             return Ok(true);
         }
+        self.takes_unmarked(alloc, mark, source)
+    }
+
+    /// Takes this punctuation mark, where it is next. The bytes that are held may show another token.
+    #[inline(never)]
+    fn takes_unmarked<S: Source>(
+        &mut self,
+        alloc: Global,
+        mark: u8,
+        source: &mut S,
+    ) -> Result<bool, ReadError>
+        ensures { TakesNext vlog stands (λ _ x. say.at_mark mark x.token) result self.old self.new (S.supply source.old) (S.supply source.new) }
+    {
         let held = self.held_word();
         let count = held.len();
         if count > 0 {
@@ -165,6 +203,9 @@ impl VCursor {
         ensures reads { TakesNext vlog same (λ _ x. say.at_name x.token) result self.old self.new (S.supply source.old) (S.supply source.new) }
         ensures value { IfOk result (λ name. IfSome name IsName) }
     {
+        if self.at_held_keyword() {
+            return Ok(None);
+        }
         let held = self.held_name(alloc)?;
         if let Some(text) = held {
             return Ok(Some(text));
@@ -182,9 +223,6 @@ impl VCursor {
         ensures reads { TakesNext vlog same (λ _ x. say.at_name x.token) result self.old self.new (S.supply source.old) (S.supply source.new) }
         ensures value { IfOk result (λ name. IfSome name IsName) }
     {
-        if self.at_held_keyword() {
-            return Ok(None);
-        }
         if let Some(_mark) = self.held_mark() {
             return Ok(None);
         }

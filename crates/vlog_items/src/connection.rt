@@ -10,8 +10,11 @@ ghost use Rattle.vlog_items.specs.Grammar.{named_rest, named, order_of, named_co
 use nl_base::{ReadError, Seq};
 use nl_io::Source;
 use std::alloc::Global;
-use vlog_exprs::{VCursor, read_expr_if_any};
+use vlog_exprs::{VCursor, fitted, read_expr_if_any, seq_with_room};
 use vlog_values::{Conns, Expr, NamedConn};
+
+/// For how many connections by name an instance has room from the first: those of a gate of two inputs.
+const USUAL: usize = 3;
 
 /// Reads on behind the point of a connection by name.
 #[tactic(auto, using(readers::proofs::Reading::sequences), unfolding(crate::specs::Grammar::named_rest))]
@@ -80,10 +83,10 @@ fn read_named_conns<S: Source>(
     ensures size { IfOk result (λ conns. conns_size conns + room cursor.new ≤ room cursor.old) }
 {
     let first = read_named_rest(alloc, cursor, source)?;
-    let mut conns = Seq::empty(alloc);
+    let mut conns = seq_with_room(alloc, USUAL);
     cursor.add(&mut conns, first)?;
     let conns = read_more_named(alloc, cursor, conns, source)?;
-    Ok(Conns::Named(conns))
+    Ok(Conns::Named(fitted(conns)))
 }
 
 /// Reads expressions that may be left out, up to the `)`.

@@ -1,8 +1,8 @@
--- Whether an item begins with a word is told by its spelling.
-use Rattle.std.proofs.Common.{◌≡◌, ◌∙◌, ap, refl, ℕ, Bool, true, false, cond, List, Option, Some, None, is_some}
+-- Whether an item begins with a word is told by its spelling, and attributes begin with `(*`.
+use Rattle.std.proofs.Common.{◌≡◌, ◌∙◌, sym, ap, refl, ℕ, Bool, true, false, cond, List, Option, Some, None, is_some}
 use Rattle.vlog_tokens.specs.declared.token.VFound.{VFound}
 use Rattle.vlog_tokens.specs.declared.token.VToken.{VToken}
-use Rattle.vlog_tokens.specs.declared.token.VToken.TheVariants.{Name, Keyword}
+use Rattle.vlog_tokens.specs.declared.token.VToken.TheVariants.{Name, Keyword, AttrStart}
 use Rattle.vlog_tokens.specs.Items.{word_token}
 use Rattle.vlog_tokens.specs.Keywords.{is_keyword}
 use Rattle.vlog_exprs.specs.Reasons.{meant_by}
@@ -22,3 +22,7 @@ word_begins x w e = ap (λ (t : VToken). is_taken (at_item t)) e ∙ by (is_keyw
     by : (t : Bool) → is_taken (at_item (cond t (Keyword w) (Name w))) ≡ cond t (is_some (meant_by item_words w)) true
     by true = starts (meant_by item_words w)
     by false = refl
+
+pub group_begins : (x : VFound) → x.token ≡ AttrStart → true ≡ begins_item x
+unfolding begins_item
+group_begins x e = sym (ap (λ (t : VToken). is_taken (at_item t)) e)

@@ -17,9 +17,9 @@ use crate::parameter::read_params;
 use nl_base::{ReadError, Seq};
 use nl_io::Source;
 use std::alloc::Global;
-use vlog_exprs::VCursor;
+use vlog_exprs::{VCursor, fitted};
 use vlog_items::read_item;
-use vlog_tokens::{VFound, VToken, is_keyword};
+use vlog_tokens::{Plain, VFound, VToken, is_keyword};
 use vlog_values::{Attr, ItemV, Module};
 
 /// Whether a word is one of some.
@@ -90,6 +90,11 @@ fn at_item<S: Source>(
     if count > 0 {
         return Ok(begins_by(held));
     }
+    if let Some(plain) = cursor.held_plain() {
+        if let Plain::AttrStart = plain {
+            return Ok(true);
+        }
+    }
     at_item_token(alloc, cursor, source)
 }
 
@@ -155,7 +160,7 @@ fn read_module_rest<S: Source>(
         implicit,
         params,
         header,
-        items,
+        items: fitted(items),
     })
 }
 

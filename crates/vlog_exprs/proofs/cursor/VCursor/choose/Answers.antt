@@ -1,9 +1,12 @@
-use Rattle.vlog_exprs.specs.Reasons.{choice_of, rows}
-use Rattle.vlog_exprs.proofs.OneToken.{one_says, one_fails}
+use Rattle.std.proofs.Common.{rules, ◌≡◌, Some, sym, ap, ◌∙◌, ◌<◌, List, ℕ, length, arith}
+use Rattle.vlog_exprs.specs.Reasons.{choice_of, meant_by, rows}
+use Rattle.vlog_exprs.specs.Calls.{held_word}
+use Rattle.vlog_exprs.proofs.HeldWords.{word_says, choice_says_word}
 use Rattle.vlog_exprs.proofs.cursor.VCursor.choose.Goals as goal
 
-pub returns-in_err-place : goal.returns-in_err-place
-returns-in_err-place g c = one_fails (λ _ x. choice_of (rows c.args.words.now) x.token) _ _ _ _ _ _ c.in_err-place.ensures.reads c.from_residual.ensures.1
-
-pub returns : goal.returns
-returns g c = one_says (λ _ x. choice_of (rows c.args.words.now) x.token) _ _ _ _ _ c.in_ok-place.ensures.reads c.in_ok-place.ensures.near _ _ _ c.choice_of-said.ensures c.judged.ensures.answer c.judged.ensures.left
+pub returns-then-is_keyword : goal.returns-then-is_keyword
+returns-then-is_keyword g c =
+    let some : 0 < length (held_word c.args.self.now) = omega (arith, ap (λ (w : List ℕ). length w) c.held_word-held.ensures.word, c.if-count-gt0.true) in
+    let value : Some c.in-Some.value ≡ meant_by (rows c.args.words.now) c.held_word-held.result.now = search (rules, c.meant_by.ensures, c.in-Some) in
+    word_says (choice_of (rows c.args.words.now)) c.args.self.now c.take_word.new.self c.in-Some.value some c.held_word-held.ensures.held _
+    (choice_says_word (rows c.args.words.now) _ _ c.in-Some.value c.held_word-held.ensures.word (sym c.is_keyword.ensures ∙ c.if-is_keyword.true) value) c.take_word.ensures

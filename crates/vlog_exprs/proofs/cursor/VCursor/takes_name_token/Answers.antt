@@ -1,11 +1,8 @@
-use Rattle.std.proofs.Common.{◌≡◌, ◌∙◌, true, None, refl, sym}
+use Rattle.std.proofs.Common.{None, refl, sym}
 use Rattle.readers.specs.Readers.{same}
 use Rattle.vlog_exprs.specs.Reasons.{at_name}
 use Rattle.vlog_exprs.proofs.Glances.{seen_says, seen_none, seen_fails}
 use Rattle.vlog_exprs.proofs.HeldMarks.{mark_none}
-use Rattle.vlog_tokens.specs.Keywords.{is_keyword}
-use Rattle.vlog_exprs.specs.Calls.{held_word}
-use Rattle.vlog_exprs.proofs.HeldWords.{word_none, keyword_some, name_leaves_keyword}
 use Rattle.vlog_exprs.proofs.Known.{value_seen, leaves_proper, taken_name_is}
 use Rattle.vlog_exprs.proofs.cursor.VCursor.takes_name_token.Goals as goal
 
@@ -20,11 +17,6 @@ returns-clause-reads g c = seen_says (λ _ x. at_name x.token) _ _ _ _ _ (rw c.i
 
 pub returns-in-Some-clause-reads : goal.returns-in-Some-clause-reads
 returns-in-Some-clause-reads g c = mark_none same at_name c.args.self.now c.args.self.now c.in-Some._mark (sym c.in-Some.ensures.mark) c.held_mark.ensures.held _ None refl refl
-
-pub returns-then-at_held_keyword-clause-reads : goal.returns-then-at_held_keyword-clause-reads
-returns-then-at_held_keyword-clause-reads g c =
-    let word : is_keyword (held_word c.args.self.now) ≡ true = sym c.at_held_keyword.ensures.keyword ∙ c.if-at_held_keyword.true in
-    word_none same at_name c.args.self.now c.args.self.now (keyword_some _ word) c.at_held_keyword.ensures.held _ None refl (name_leaves_keyword _ word)
 
 pub settled-requires-clause-proper : goal.settled-requires-clause-proper
 settled-requires-clause-proper g c = leaves_proper _ _ _ c.at_name.ensures (rw c.in-Some-next.is at c.in_ok-next.ensures.proper)
