@@ -1,16 +1,16 @@
-// Files.
+// Files, and the directives and modules that are their pieces.
 ghost use Rattle.std.specs.Prelude.{◌≡◌, ◌+◌, ◌-◌, ◌<◌, ◌≤◌, IfOk, IsFalse};
 ghost use Rattle.readers.specs.Readers.{same, room, Reads, ReadsMaybe, ReadsWhole, LooksFor, TakesNext};
 ghost use Rattle.readers.specs.Texts.{ReadsText};
 ghost use Rattle.nl_bytes.specs.declared.bytes.TheConstants.{LIMIT};
-ghost use Rattle.vlog_values.specs.Values.{IsVlogValue};
-ghost use Rattle.vlog_values.specs.Sizes.{vlog_size};
+ghost use Rattle.vlog_values.specs.Values.{IsModule, IsVlogValue};
+ghost use Rattle.vlog_values.specs.Sizes.{module_size, vlog_size};
 ghost use Rattle.vlog_tokens.specs.Language.{vlog};
 ghost use Rattle.vlog_exprs.specs.Calls.{kept};
 ghost use Rattle.vlog_exprs.specs.Reasons.{trailing};
-ghost use Rattle.vlog_modules.specs.States.{AreModules, modules_size};
-ghost use Rattle.vlog_modules.specs.Starts.{begins_piece, one_module, piece};
-ghost use Rattle.vlog_modules.specs.Grammar.{net_type, net_type_of, directive_of, at_directive, directive, file};
+ghost use Rattle.vlog_modules.specs.States.{IsPiece, piece_size, AddsPiece};
+ghost use Rattle.vlog_modules.specs.Starts.{begins_piece, said_by, one_module, piece};
+ghost use Rattle.vlog_modules.specs.Grammar.{net_type, net_type_of, directive_of, at_directive, file};
 
 use crate::module::read_module;
 use nl_base::{ReadError, Reason, Seq};
@@ -28,9 +28,18 @@ pub(crate) enum Directive {
     Reset,
 }
 
+/// A piece of a file: what a directive says, or a module.
+#[derive(Drop)]
+pub enum Piece {
+    /// From here on names that are used without a declaration are nets, or not.
+    Implicit(bool),
+    /// A module with its attributes.
+    Module(Module),
+}
+
 /// The modules so far, and whether names are nets without a declaration from here on.
 #[derive(Drop)]
-pub(crate) struct SoFar {
+pub struct SoFar {
     pub(crate) modules: Seq<Module>,
     pub(crate) implicit: bool,
 }
@@ -67,22 +76,44 @@ fn read_file<S: Source>(
     ensures value { IfOk result IsVlogValue }
     ensures size { IfOk result (λ file. vlog_size file ≤ room cursor.old - 1) }
 {
-    let implicit = true;
     let mut so_far = SoFar {
         modules: Seq::empty(alloc),
-        implicit,
+        implicit: true,
     };
     while at_piece(alloc, cursor, source)? {
-        so_far = read_piece(alloc, cursor, so_far, source)?;
+        let piece = read_piece(alloc, cursor, so_far.implicit, source)?;
+        so_far = with_piece(cursor, so_far, piece)?;
     }
     Ok(VlogFile {
         modules: so_far.modules,
     })
 }
 
+/// Adds a piece to the modules so far. Where memory runs out the cursor is spent from then on.
+#[tactic(auto, unfolding(crate::specs::Starts::with_piece))]
+fn with_piece(cursor: &mut VCursor, so_far: SoFar, piece: Piece) -> Result<SoFar, ReadError>
+    requires { IsFalse cursor.old.spent }
+    ensures { AddsPiece so_far piece result cursor.old cursor.new }
+{
+    let SoFar {
+        mut modules,
+        implicit,
+    } = so_far;
+    match piece {
+        Piece::Implicit(implicit) => Ok(SoFar { modules, implicit }),
+        Piece::Module(module) => {
+            cursor.add(&mut modules, module)?;
+            Ok(SoFar { modules, implicit })
+        }
+    }
+}
+
 /// Looks whether a directive or a module is next. It takes nothing.
+///
+/// # Errors
+/// As `read_piece`, where the next token is no token of Verilog or is not to be had.
 #[tactic(auto, using(readers::proofs::Looking::looks_for))]
-fn at_piece<S: Source>(
+pub fn at_piece<S: Source>(
     alloc: Global,
     cursor: &mut VCursor,
     source: &mut S,
@@ -122,27 +153,31 @@ fn directive_of(word: &[u8]) -> Option<Directive>
     None
 }
 
-/// Reads a directive or a module.
+/// Reads a directive or a module, where one is next. `implicit` says whether names are nets without a declaration in the module.
+/// Whether or not the source tells its bytes, a module is one that can be written.
+///
+/// # Errors
+/// `Text`: the first fault, with its place. `TooLong`: more bytes are needed than are looked at. `ReadFault`: the source failed.
+/// `NoMemory`: memory ran out. `Spent`: an earlier call with this cursor has failed.
 #[tactic(auto, using(readers::proofs::Choices::choices), unfolding(crate::specs::Starts::piece))]
-fn read_piece<S: Source>(
+pub fn read_piece<S: Source>(
     alloc: Global,
     cursor: &mut VCursor,
-    so_far: SoFar,
+    implicit: bool,
     source: &mut S,
-) -> Result<SoFar, ReadError>
-    requires { AreModules so_far }
-    ensures reads { Reads vlog same (piece so_far) result cursor.old cursor.new (S.supply source.old) (S.supply source.new) }
-    ensures value { IfOk result AreModules }
-    ensures size { IfOk result (λ s. modules_size s + room cursor.new < room cursor.old + modules_size so_far) }
+) -> Result<Piece, ReadError>
+    ensures reads { Reads vlog same (piece implicit) result cursor.old cursor.new (S.supply source.old) (S.supply source.new) }
+    ensures value { IfOk result IsPiece }
+    ensures size { IfOk result (λ p. piece_size p + room cursor.new < room cursor.old) }
 {
     match takes_directive(alloc, cursor, source)? {
         Some(word) => {
-            let so_far = read_directive(alloc, cursor, so_far, word, source)?;
-            Ok(so_far)
+            let implicit = read_directive(alloc, cursor, word, source)?;
+            Ok(Piece::Implicit(implicit))
         }
         None => {
-            let so_far = read_one_module(alloc, cursor, so_far, source)?;
-            Ok(so_far)
+            let module = read_one_module(alloc, cursor, implicit, source)?;
+            Ok(Piece::Module(module))
         }
     }
 }
@@ -175,31 +210,23 @@ fn at_directive(token: VToken) -> Glance<Directive>
     }
 }
 
-/// Reads on behind a directive.
-#[tactic(auto, using(readers::proofs::Reading::sequences), unfolding(crate::specs::Grammar::directive))]
+/// Reads on behind a directive, and answers whether names are nets without a declaration from here on.
+#[tactic(auto, using(readers::proofs::Reading::sequences), unfolding(crate::specs::Starts::said_by))]
 fn read_directive<S: Source>(
     alloc: Global,
     cursor: &mut VCursor,
-    so_far: SoFar,
     word: Directive,
     source: &mut S,
-) -> Result<SoFar, ReadError>
-    requires unspent { IsFalse cursor.old.spent }
-    requires modules { AreModules so_far }
-    ensures reads { ReadsMaybe vlog same (directive so_far word) result cursor.old cursor.new (S.supply source.old) (S.supply source.new) }
-    ensures value { IfOk result AreModules }
-    ensures size { IfOk result (λ s. modules_size s + room cursor.new ≤ room cursor.old + modules_size so_far) }
+) -> Result<bool, ReadError>
+    requires { IsFalse cursor.old.spent }
+    ensures { ReadsMaybe vlog same (said_by word) result cursor.old cursor.new (S.supply source.old) (S.supply source.new) }
 {
-    let SoFar { modules, .. } = so_far;
     match word {
         Directive::Nettype => {
             let implicit = read_net_type(alloc, cursor, source)?;
-            Ok(SoFar { modules, implicit })
+            Ok(implicit)
         }
-        Directive::Reset => Ok(SoFar {
-            modules,
-            implicit: true,
-        }),
+        Directive::Reset => Ok(true),
     }
 }
 
@@ -245,20 +272,14 @@ fn net_type_of(alloc: Global, token: VToken) -> Said<bool>
 fn read_one_module<S: Source>(
     alloc: Global,
     cursor: &mut VCursor,
-    so_far: SoFar,
+    implicit: bool,
     source: &mut S,
-) -> Result<SoFar, ReadError>
-    requires { AreModules so_far }
-    ensures reads { Reads vlog same (one_module so_far) result cursor.old cursor.new (S.supply source.old) (S.supply source.new) }
-    ensures value { IfOk result AreModules }
-    ensures size { IfOk result (λ s. modules_size s + room cursor.new < room cursor.old + modules_size so_far) }
+) -> Result<Module, ReadError>
+    ensures reads { Reads vlog same (one_module implicit) result cursor.old cursor.new (S.supply source.old) (S.supply source.new) }
+    ensures value { IfOk result IsModule }
+    ensures size { IfOk result (λ m. module_size m + 1 + room cursor.new < room cursor.old) }
 {
     let attrs = read_attrs(alloc, cursor, source)?;
-    let SoFar {
-        mut modules,
-        implicit,
-    } = so_far;
     let module = read_module(alloc, cursor, implicit, attrs, source)?;
-    cursor.add(&mut modules, module)?;
-    Ok(SoFar { modules, implicit })
+    Ok(module)
 }

@@ -1,9 +1,10 @@
-use Rattle.std.proofs.Common.{refl, arith}
+use Rattle.std.proofs.Common.{refl, ap, arith}
+use Rattle.readers.specs.Readers.{room}
 use Rattle.vlog_values.specs.Values.{IsModule}
 use Rattle.vlog_values.specs.Sizes.{module_size, vlog_size}
 use Rattle.vlog_items.proofs.Lists.{none_are, none_size, collects}
 use Rattle.vlog_modules.specs.Grammar.{file}
-use Rattle.vlog_modules.proofs.Pieces.{piece_loops}
+use Rattle.vlog_modules.proofs.Pieces.{piece_is, piece_sized, piece_loops}
 use Rattle.vlog_modules.proofs.Sizes.{none_below, none_before}
 use Rattle.vlog_modules.proofs.file.read_file.Goals as goal
 
@@ -16,8 +17,12 @@ loop-so_far-init g c =
 pub loop-so_far-preserved : goal.loop-so_far-preserved
 unfolding file
 loop-so_far-preserved g c =
-    collects (grind (arith, piece_loops)) (c.in_ok-so_far.ensures.value, omega (arith, c.in_ok-at_piece.ensures.value.1, c.in_ok-so_far.ensures.size))
-    (omega (arith, c.in_ok-at_piece.ensures.value.1, c.in_ok-so_far.ensures.size))
+    let added = c.in_ok-so_far.ensures.added in
+    let size = piece_sized c.loop-so_far.so_far c.in_ok-so_far.so_far c.in_ok-piece.piece added.0 in
+    let kept = ap room added.1 in
+    collects (grind (arith, piece_loops))
+    (piece_is c.loop-so_far.so_far c.in_ok-so_far.so_far c.in_ok-piece.piece added.0 c.loop-so_far.invariant.good.0 c.in_ok-piece.ensures.value, omega (arith, size, kept, c.in_ok-at_piece.ensures.value.1, c.in_ok-piece.ensures.size))
+    (omega (arith, size, kept, c.in_ok-at_piece.ensures.value.1, c.in_ok-piece.ensures.size))
 
 pub returns-clause-size : goal.returns-clause-size
 unfolding vlog_size
