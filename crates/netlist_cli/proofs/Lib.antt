@@ -9,5 +9,6 @@ pub mod FlatSaid
 pub mod Results
 pub mod Halting
 pub mod Reading
+pub mod Formatted
 pub mod OverDesigns
 pub mod Ends

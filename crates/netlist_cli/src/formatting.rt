@@ -5,10 +5,9 @@ ghost use Rattle.netlist_cli.specs.Runs.{Does, TakesFrom};
 use crate::failure::{Failure, after_writing};
 use edif_library::read_edif;
 use edif_writer::write_edif;
-use nl_io::{Sink, Source};
+use nl_io::{Sink, Source, put_all};
 use std::alloc::Global;
-use vlog_modules::read_vlog;
-use vlog_writer::write_vlog;
+use vlog_format::format_vlog;
 
 /// Reads an EDIF file and writes its text.
 pub fn format<S: Source, O: Sink>(
@@ -31,7 +30,7 @@ pub fn format<S: Source, O: Sink>(
     }
 }
 
-/// Reads a Verilog file and writes its text.
+/// Reads a Verilog file and writes its text, which is made as its modules are read, so that no more than one of them is kept.
 pub fn vformat<S: Source, O: Sink>(
     alloc: Global,
     input: &mut S,
@@ -43,9 +42,9 @@ pub fn vformat<S: Source, O: Sink>(
     ensures taken { TakesFrom
         (S.supply input.old) (S.supply input.new) }
 {
-    match read_vlog(alloc, input) {
-        Ok(file) => {
-            let written = write_vlog(&file, output);
+    match format_vlog(alloc, input) {
+        Ok(text) => {
+            let written = put_all(output, text.as_slice());
             after_writing(written)
         }
         Err(error) => Err(Failure::of_read_error(error)),

@@ -1,6 +1,6 @@
 ghost use Rattle.std.specs.Prelude.{◌∷◌, ◌++◌, codes, true};
 ghost use Rattle.vlog_writer.specs.Forms.{attr_form, attribute_lines, decl_lines, file_lines, group_form, hashed, header_lines, module_lines, names_form, nettype_line, nettype_lines, round, vlog_text};
-ghost use Rattle.vlog_writer.specs.Layout.{Mark, Name, Row, Word, both, each, inline, laid, part, ◌▸◌};
+ghost use Rattle.vlog_writer.specs.Layout.{Mark, Name, Row, Word, both, each, inline, laid, part, ◌below◌, ◌▸◌};
 ghost use Rattle.vlog_writer.specs.Pending.{break_where, end_where};
 ghost use Rattle.nl_output.specs.Writing.{state, Puts, Writes};
 
@@ -128,14 +128,22 @@ fn lay_nettype<O: Sink>(before: bool, implicit: bool, output: &mut Output, sink:
     }
 }
 
+/// A module behind others, and before it the line that says whether names may stand without a declaration, where the module changes what was
+/// so before.
+pub fn lay_next_module<O: Sink>(before: bool, module: &Module, output: &mut Output, sink: &mut O)
+    ensures { Puts (laid (nettype_lines before «module».now.implicit below module_lines «module».now)) (state O.receipt sink.old output.old) (state O.receipt sink.new output.new) }
+{
+    lay_nettype(before, module.implicit, output, sink);
+    lay_module(module, output, sink);
+}
+
 /// Modules, of which the first stands behind no other.
 fn lay_modules<O: Sink>(modules: &[Module], output: &mut Output, sink: &mut O)
     ensures { Puts (laid (file_lines true modules.now)) (state O.receipt sink.old output.old) (state O.receipt sink.new output.new) }
 {
     let mut before = true;
     for module in modules {
-        lay_nettype(before, module.implicit, output, sink);
-        lay_module(module, output, sink);
+        lay_next_module(before, module, output, sink);
         before = module.implicit;
     }
 }

@@ -6,6 +6,9 @@
 // A based literal has its normal spelling. A string has the bytes 32 to 126 other than `"` and `\` as themselves, and escapes for all others. A line
 // with `default_nettype` stands before each module at which it changes whether nets may stand without a declaration.
 //
+// `lay_next_module` puts the lines of one module of such a text, for a text that is made module by module: the lines of the modules, one behind
+// another from `true` on, are the text of their file.
+//
 // It answers `Ok` exactly where the sink took the whole text; else a put of the sink failed, and the sink took a front of the text. It takes no
 // memory.
 #![tactic(auto)]
@@ -20,4 +23,4 @@ pub mod name;
 pub mod statement;
 pub mod string;
 
-pub use file::write_vlog;
+pub use file::{lay_next_module, write_vlog};
