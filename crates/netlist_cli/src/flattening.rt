@@ -16,6 +16,7 @@ use net_hier::{Constants, Hier};
 use nl_base::{NoMemory, Seq, Text};
 use nl_io::{Sink, Source};
 use std::alloc::Global;
+use std::mem::forget;
 use to_edif::to_edif;
 use vlog_values::VlogFile;
 use vlog_writer::write_vlog;
@@ -85,6 +86,7 @@ fn put_flat_edif<O: Sink>(
     match flat_file(alloc, hier, constants) {
         Ok(file) => {
             let written = write_edif(&file, output);
+            forget(file);
             after_writing(written)
         }
         Err(failure) => Err(failure),
@@ -124,6 +126,7 @@ fn put_flat_verilog<O: Sink>(
     match flat_modules(alloc, hier, constants) {
         Ok(modules) => {
             let written = write_vlog(&modules, output);
+            forget(modules);
             after_writing(written)
         }
         Err(failure) => Err(failure),
@@ -147,6 +150,7 @@ fn flatten_edif<S: Source, O: Sink>(
     match read_edif_design(alloc, input) {
         Ok(design) => {
             let done = put_flat_edif(alloc, &design, constants, output);
+            forget(design);
             done
         }
         Err(failure) => Err(failure),
@@ -171,6 +175,7 @@ fn flatten_verilog<S: Source, O: Sink>(
     match read_design_under(alloc, top, input) {
         Ok(design) => {
             let done = put_flat_verilog(alloc, &design, constants, output);
+            forget(design);
             done
         }
         Err(failure) => Err(failure),

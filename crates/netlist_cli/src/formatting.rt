@@ -7,6 +7,7 @@ use edif_library::read_edif;
 use edif_writer::write_edif;
 use nl_io::{Sink, Source, put_all};
 use std::alloc::Global;
+use std::mem::forget;
 use vlog_format::format_vlog;
 
 /// Reads an EDIF file and writes its text.
@@ -24,6 +25,7 @@ pub fn format<S: Source, O: Sink>(
     match read_edif(alloc, input) {
         Ok(file) => {
             let written = write_edif(&file, output);
+            forget(file);
             after_writing(written)
         }
         Err(error) => Err(Failure::of_read_error(error)),

@@ -22,8 +22,9 @@
 // line of the file that is generated of these numbers (crates `vectors` and `vectors_line`): the file's own text is read again, and the design
 // that it says is translated.
 //
-// `run` does what the words ask for: it reads the input to its end or to its first fault, and writes nothing before all is known. Its contract
-// says for each status when it comes and what was written then:
+// `run` does what the words ask for: it reads the input to its end or to its first fault, and writes nothing before all is known. The design
+// of the input and a file that was written are never dropped, since a process ends after its run and gives back all memory at once. The
+// contract of `run` says for each status when it comes and what was written then:
 //
 // 0 done: what the command makes of the input was put. 1 text fault: the input has this first fault, and the line `fault LINE:COLUMN REASON`
 // tells it. 2 refused: the file breaks a rule, of its language or of what is asked for, and the line `refused RULE CELL` with further names

@@ -11,6 +11,7 @@ use net_lint::{LintError, lint};
 use nl_base::Text;
 use nl_io::{Sink, Source};
 use std::alloc::Global;
+use std::mem::forget;
 
 /// Writes what is odd about the connections of a design, where these cells stand for the constants.
 fn put_findings<O: Sink>(
@@ -55,6 +56,7 @@ pub fn write_findings<S: Source, O: Sink>(
     match read_design(alloc, top, input) {
         Ok(design) => {
             let done = put_findings(alloc, &design, constants, output);
+            forget(design);
             done
         }
         Err(failure) => Err(failure),

@@ -11,6 +11,7 @@ use net_hier::{Constants, Hier};
 use nl_base::Text;
 use nl_io::{Sink, Source};
 use std::alloc::Global;
+use std::mem::forget;
 
 /// Writes the report of a design, where these cells stand for the constants.
 fn put_report<O: Sink>(
@@ -55,6 +56,7 @@ pub fn write_report<S: Source, O: Sink>(
     match read_design(alloc, top, input) {
         Ok(design) => {
             let done = put_report(alloc, &design, constants, output);
+            forget(design);
             done
         }
         Err(failure) => Err(failure),

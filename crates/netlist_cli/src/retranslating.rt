@@ -11,6 +11,7 @@ use net_hier::{Constants, Hier};
 use nl_base::{NoMemory, Text};
 use nl_io::{Sink, Source};
 use std::alloc::Global;
+use std::mem::forget;
 use to_edif::to_edif;
 
 /// Writes a design in EDIF, where these cells stand for the constants.
@@ -27,6 +28,7 @@ fn put_edif<O: Sink>(
     match to_edif(alloc, hier, constants) {
         Ok(file) => {
             let written = write_edif(&file, output);
+            forget(file);
             after_writing(written)
         }
         Err(NoMemory) => Err(Failure::NoMemory),
@@ -54,6 +56,7 @@ pub fn translate_back<S: Source, O: Sink>(
     match read_design_under(alloc, top, input) {
         Ok(design) => {
             let done = put_edif(alloc, &design, constants, output);
+            forget(design);
             done
         }
         Err(failure) => Err(failure),

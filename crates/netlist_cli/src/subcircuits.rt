@@ -11,6 +11,7 @@ use nl_base::Text;
 use nl_io::{Sink, Source};
 use spice_text::write_spice;
 use std::alloc::Global;
+use std::mem::forget;
 use to_spice::{SpiceError, to_spice};
 
 /// Writes a design as SPICE subcircuits.
@@ -21,6 +22,7 @@ fn put_subcircuits<O: Sink>(alloc: Global, hier: &Hier, output: &mut O) -> Resul
     match to_spice(alloc, hier) {
         Ok(file) => {
             let written = write_spice(&file, output);
+            forget(file);
             after_writing(written)
         }
         Err(error) => match error {
@@ -54,6 +56,7 @@ pub fn write_subcircuits<S: Source, O: Sink>(
     match read_design(alloc, top, input) {
         Ok(design) => {
             let done = put_subcircuits(alloc, &design, output);
+            forget(design);
             done
         }
         Err(failure) => Err(failure),

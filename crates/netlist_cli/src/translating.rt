@@ -12,6 +12,7 @@ use net_hier::Hier;
 use nl_base::{NoMemory, Seq, Text};
 use nl_io::{Sink, Source};
 use std::alloc::Global;
+use std::mem::forget;
 use to_verilog::{TargetError, to_verilog};
 use vlog_values::VlogFile;
 use vlog_writer::write_vlog;
@@ -76,6 +77,7 @@ fn put_verilog<O: Sink>(
     match modules_under(alloc, hier, names) {
         Ok(modules) => {
             let written = write_vlog(&modules, output);
+            forget(modules);
             after_writing(written)
         }
         Err(failure) => Err(failure),
@@ -102,6 +104,7 @@ pub fn translate<S: Source, O: Sink>(
     match read_edif_design(alloc, input) {
         Ok(design) => {
             let done = put_verilog(alloc, &design, names, output);
+            forget(design);
             done
         }
         Err(failure) => Err(failure),

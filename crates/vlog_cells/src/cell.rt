@@ -28,7 +28,8 @@ fn cell_instances(
 ) -> Result<Seq<HInst>, NoMemory>
     requires named { names.now ≡ map (λ m. m.name) (modules_in scopes.now) }
     requires few { length (modules_in scopes.now) < 2 ^ 32 }
-    ensures { IfOk result (λ made. made ≡ module_instances (modules_in scopes.now) scope.now.module.now) }
+    ensures { IfOk result (λ made. made
+        ≡ module_instances (modules_in scopes.now) scope.now.module.now) }
 {
     let made = instances_made(alloc, names, scope.module)?;
     Ok(made)
@@ -45,7 +46,8 @@ fn cell_joins(
     requires small { module_size scope.now.module.now ≤ 268435456 }
     requires valid { IsModule scope.now.module.now }
     requires numbers { All (λ signal. HasNumbers signal.slot) (signals scope.now.module.now) }
-    ensures { IfOk result (λ made. made ≡ module_joins (modules_in scopes.now) scope.now.module.now) }
+    ensures { IfOk result (λ made. made
+        ≡ module_joins (modules_in scopes.now) scope.now.module.now) }
 {
     let mut joins = joins_of(alloc, names, scopes, scope)?;
     joins.shrink_to_fit();
@@ -66,7 +68,8 @@ pub fn cell_of(
     requires valid { IsModule scope.now.module.now }
     requires once { declared_twice scope.now.module.now ≡ [] }
     requires numbers { All (λ signal. HasNumbers signal.slot) (signals scope.now.module.now) }
-    ensures { IfOk result (λ made. made ≡ module_cell (modules_in scopes.now) scope.now.module.now) }
+    ensures { IfOk result (λ made. made
+        ≡ module_cell (modules_in scopes.now) scope.now.module.now) }
 {
     let m = scope.module;
     let joins = cell_joins(alloc, names, scopes, scope)?;

@@ -50,7 +50,9 @@ impl<'a, T> Groups<'a, T> {
 impl<'a, T: Drop> Groups<'a, T> {
     /// Adds the value under the name.
     pub fn add(&mut self, alloc: Global, name: &'a [u8], value: T) -> Result<(), NoMemory>
-        ensures added { OnOk result ((key : List ℕ) → under self.new key ≡ under self.old key ++ (if bytes_eq key name.now then value ∷ [] else [])) }
+        ensures added { OnOk result ((key : List ℕ)
+            → under self.new key ≡ under self.old key
+            ++ (if bytes_eq key name.now then value ∷ [] else [])) }
     {
         if let Some(place) = self.lists.get_index_of(name) {
             self.lists[place].push(value)?;

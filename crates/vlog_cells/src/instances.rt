@@ -7,7 +7,7 @@ ghost use Rattle.vlog_values.specs.declared.module.Module.{Module};
 ghost use Rattle.vlog_cells.specs.Instances.{instance_by, instances_by, props_by, sets_for, sets_of, sets_under};
 
 use crate::groups::Groups;
-use crate::properties::{add_attrs, add_params, add_sets, room_for};
+use crate::properties::{add_attrs, add_params, add_sets};
 use net_hier::{HInst, HProp};
 use nl_base::{NoMemory, Seq, Text};
 use std::alloc::Global;
@@ -20,7 +20,8 @@ fn note_sets<'a>(
     sets: &'a [DefSet],
     found: &mut Groups<'a, &'a DefSet>,
 ) -> Result<(), NoMemory>
-    ensures added { OnOk result ((key : List ℕ) → sets_under found.new key ≡ sets_under found.old key ++ sets_for key sets.now) }
+    ensures added { OnOk result ((key : List ℕ)
+        → sets_under found.new key ≡ sets_under found.old key ++ sets_for key sets.now) }
 {
     for set in sets {
         found.add(alloc, set.instance.bytes(), set)?;
@@ -34,7 +35,9 @@ fn note_item<'a>(
     item: &'a ItemV,
     found: &mut Groups<'a, &'a DefSet>,
 ) -> Result<(), NoMemory>
-    ensures added { OnOk result ((key : List ℕ) → sets_under found.new key ≡ sets_under found.old key ++ sets_for key (flat_map (λ statement. statement.sets) (defparam_statement item.now))) }
+    ensures added { OnOk result ((key : List ℕ)
+        → sets_under found.new key ≡ sets_under found.old key
+        ++ sets_for key (flat_map (λ statement. statement.sets) (defparam_statement item.now))) }
 {
     match item {
         ItemV::Defparam(statement) => {
@@ -51,7 +54,8 @@ fn note_item<'a>(
 
 /// The values by `defparam` of a module under the names of their instances, in the order of the text.
 fn sets_in<'a>(alloc: Global, m: &'a Module) -> Result<Groups<'a, &'a DefSet>, NoMemory>
-    ensures { IfOk result (λ found. (key : List ℕ) → sets_under found key ≡ sets_for key (def_sets m.now)) }
+    ensures { IfOk result (λ found. (key : List ℕ)
+        → sets_under found key ≡ sets_for key (def_sets m.now)) }
 {
     let mut found = Groups::empty(alloc);
     for item in m.items.items() {
@@ -71,20 +75,22 @@ fn number_of(names: &NameSet, name: &[u8]) -> u32
     }
 }
 
-/// The properties of an instance: the attributes and parameters of its statement, and then the values by `defparam`.
+/// The properties of an instance: the attributes and parameters of its statement, and then the values by `defparam`. Literals are spelled in
+/// `spelling`, whatever stands there.
 fn instance_props(
     alloc: Global,
     statement: &Instances,
     sets: &[&DefSet],
+    spelling: &mut Vec<u8>,
 ) -> Result<Seq<HProp>, NoMemory>
     ensures { IfOk result (λ made. made ≡ props_by statement.now (sets_of sets.now)) }
 {
     let count = statement.attrs.len().saturating_add(statement.params.len());
-    let mut props = room_for(alloc, count.saturating_add(sets.len()))?;
-    add_attrs(alloc, &mut props, statement.attrs.items())?;
-    add_params(alloc, &mut props, statement.params.items())?;
-    add_sets(alloc, &mut props, sets)?;
-    Ok(props)
+    let mut props = Vec::with_capacity(alloc, count.saturating_add(sets.len()))?;
+    add_attrs(alloc, &mut props, statement.attrs.items(), spelling)?;
+    add_params(alloc, &mut props, statement.params.items(), spelling)?;
+    add_sets(alloc, &mut props, sets, spelling)?;
+    Ok(Seq::of(props))
 }
 
 /// The instance, of the cell of this number.
@@ -95,10 +101,12 @@ fn instance_of(
     statement: &Instances,
     found: &Groups<'_, &DefSet>,
     instance: &VInst,
+    spelling: &mut Vec<u8>,
 ) -> Result<HInst, NoMemory>
     ensures { IfOk result (λ made. made ≡ instance_by cell statement.now found.now instance.now) }
 {
-    let props = instance_props(alloc, statement, found.of(instance.name.bytes()))?;
+    let sets = found.of(instance.name.bytes());
+    let props = instance_props(alloc, statement, sets, spelling)?;
     let name = Text::copy(alloc, instance.name.bytes())?;
     Ok(HInst { name, cell, props })
 }
@@ -110,11 +118,13 @@ fn add_statement(
     statement: &Instances,
     found: &Groups<'_, &DefSet>,
     made: &mut Seq<HInst>,
+    spelling: &mut Vec<u8>,
 ) -> Result<(), NoMemory>
-    ensures added { OnOk result (made.new ≡ made.old ++ map (instance_by cell statement.now found.now) statement.now.insts) }
+    ensures added { OnOk result (made.new
+        ≡ made.old ++ map (instance_by cell statement.now found.now) statement.now.insts) }
 {
     for instance in statement.insts.items() {
-        let value = instance_of(alloc, cell, statement, found, instance)?;
+        let value = instance_of(alloc, cell, statement, found, instance, spelling)?;
         made.push(value)?;
     }
     Ok(())
@@ -127,14 +137,16 @@ fn add_item(
     found: &Groups<'_, &DefSet>,
     item: &ItemV,
     made: &mut Seq<HInst>,
+    spelling: &mut Vec<u8>,
 ) -> Result<(), NoMemory>
     requires { length names.now < 2 ^ 32 }
-    ensures added { OnOk result (made.new ≡ made.old ++ flat_map (instances_by names.now found.now) (instance_statement item.now)) }
+    ensures added { OnOk result (made.new
+        ≡ made.old ++ flat_map (instances_by names.now found.now) (instance_statement item.now)) }
 {
     match item {
         ItemV::Instances(statement) => {
             let cell = number_of(names, statement.module.bytes());
-            add_statement(alloc, cell, statement, found, made)?;
+            add_statement(alloc, cell, statement, found, made, spelling)?;
             Ok(())
         }
         ItemV::Port(_) => Ok(()),
@@ -152,12 +164,15 @@ fn add_items(
     found: &Groups<'_, &DefSet>,
     items: &[ItemV],
     made: &mut Seq<HInst>,
+    spelling: &mut Vec<u8>,
 ) -> Result<(), NoMemory>
     requires { length names.now < 2 ^ 32 }
-    ensures added { OnOk result (made.new ≡ made.old ++ flat_map (instances_by names.now found.now) (flat_map instance_statement items.now)) }
+    ensures added { OnOk result (made.new
+        ≡ made.old ++ flat_map (instances_by names.now found.now)
+        (flat_map instance_statement items.now)) }
 {
     for item in items {
-        add_item(alloc, names, found, item, made)?;
+        add_item(alloc, names, found, item, made, spelling)?;
     }
     Ok(())
 }
@@ -194,10 +209,19 @@ fn instance_room(alloc: Global, count: usize) -> Result<Seq<HInst>, NoMemory>
 /// The instances of a module. The names are those of the modules of the design.
 pub fn instances_made(alloc: Global, names: &NameSet, m: &Module) -> Result<Seq<HInst>, NoMemory>
     requires few { length names.now < 2 ^ 32 }
-    ensures { IfOk result (λ made. (modules : List Module) → names.now ≡ map (λ m. m.name) modules → made ≡ module_instances modules m.now) }
+    ensures { IfOk result (λ made. (modules : List Module) → names.now ≡ map (λ m. m.name) modules
+        → made ≡ module_instances modules m.now) }
 {
     let found = sets_in(alloc, m)?;
     let mut made = instance_room(alloc, instance_count(m.items.items()))?;
-    add_items(alloc, names, &found, m.items.items(), &mut made)?;
+    let mut spelling = Vec::new(alloc);
+    add_items(
+        alloc,
+        names,
+        &found,
+        m.items.items(),
+        &mut made,
+        &mut spelling,
+    )?;
     Ok(made)
 }

@@ -24,7 +24,9 @@ fn mention_names<'a>(
     names: &'a [Text],
     found: &mut Groups<'a, Mention<'a>>,
 ) -> Result<(), NoMemory>
-    ensures added { OnOk result ((key : List ℕ) → said_of found.new key ≡ said_of found.old key ++ said_in_names (said mention.entry) names.now key) }
+    ensures added { OnOk result ((key : List ℕ)
+        → said_of found.new key ≡ said_of found.old key
+        ++ said_in_names (said mention.entry) names.now key) }
 {
     for name in names {
         found.add(alloc, name.bytes(), mention)?;
@@ -38,7 +40,8 @@ fn mention_port<'a>(
     decl: &'a PortDecl,
     found: &mut Groups<'a, Mention<'a>>,
 ) -> Result<(), NoMemory>
-    ensures added { OnOk result ((key : List ℕ) → said_of found.new key ≡ said_of found.old key ++ said_by_port decl.now key) }
+    ensures added { OnOk result ((key : List ℕ)
+        → said_of found.new key ≡ said_of found.old key ++ said_by_port decl.now key) }
 {
     let mention = Mention {
         dir: Some(decl.dir),
@@ -54,7 +57,8 @@ fn mention_ports<'a>(
     decls: &'a [PortDecl],
     found: &mut Groups<'a, Mention<'a>>,
 ) -> Result<(), NoMemory>
-    ensures added { OnOk result ((key : List ℕ) → said_of found.new key ≡ said_of found.old key ++ flat_map (port_said key) decls.now) }
+    ensures added { OnOk result ((key : List ℕ)
+        → said_of found.new key ≡ said_of found.old key ++ flat_map (port_said key) decls.now) }
 {
     for decl in decls {
         mention_port(alloc, decl, found)?;
@@ -68,7 +72,8 @@ fn mention_header<'a>(
     header: &'a Header,
     found: &mut Groups<'a, Mention<'a>>,
 ) -> Result<(), NoMemory>
-    ensures added { OnOk result ((key : List ℕ) → said_of found.new key ≡ said_of found.old key ++ said_in_header key header.now) }
+    ensures added { OnOk result ((key : List ℕ)
+        → said_of found.new key ≡ said_of found.old key ++ said_in_header key header.now) }
 {
     match header {
         Header::Names(_) => Ok(()),
@@ -88,7 +93,9 @@ fn mention_port_net<'a>(
     name: &'a [u8],
     found: &mut Groups<'a, Mention<'a>>,
 ) -> Result<(), NoMemory>
-    ensures added { OnOk result ((key : List ℕ) → said_of found.new key ≡ said_of found.old key ++ said_in_names (said mention.entry) (filter (names_port table.now) (name.now ∷ [])) key) }
+    ensures added { OnOk result ((key : List ℕ)
+        → said_of found.new key ≡ said_of found.old key
+        ++ said_in_names (said mention.entry) (filter (names_port table.now) (name.now ∷ [])) key) }
 {
     if !names_port(table, place, name) {
         return Ok(());
@@ -105,7 +112,8 @@ fn mention_net<'a>(
     decl: &'a NetDecl,
     found: &mut Groups<'a, Mention<'a>>,
 ) -> Result<(), NoMemory>
-    ensures added { OnOk result ((key : List ℕ) → said_of found.new key ≡ said_of found.old key ++ said_by_net table.now decl.now key) }
+    ensures added { OnOk result ((key : List ℕ)
+        → said_of found.new key ≡ said_of found.old key ++ said_by_net table.now decl.now key) }
 {
     let mention = Mention {
         dir: None,
@@ -127,7 +135,8 @@ fn mention_item<'a>(
     item: &'a ItemV,
     found: &mut Groups<'a, Mention<'a>>,
 ) -> Result<(), NoMemory>
-    ensures added { OnOk result ((key : List ℕ) → said_of found.new key ≡ said_of found.old key ++ said_in_item table.now key item.now) }
+    ensures added { OnOk result ((key : List ℕ)
+        → said_of found.new key ≡ said_of found.old key ++ said_in_item table.now key item.now) }
 {
     match item {
         ItemV::Port(decl) => {
@@ -152,7 +161,9 @@ fn mention_items<'a>(
     items: &'a [ItemV],
     found: &mut Groups<'a, Mention<'a>>,
 ) -> Result<(), NoMemory>
-    ensures added { OnOk result ((key : List ℕ) → said_of found.new key ≡ said_of found.old key ++ flat_map (said_in_item table.now key) items.now) }
+    ensures added { OnOk result ((key : List ℕ)
+        → said_of found.new key ≡ said_of found.old key
+        ++ flat_map (said_in_item table.now key) items.now) }
 {
     let mut place = first_net(table);
     for item in items {
@@ -168,7 +179,8 @@ pub fn mentions_in<'a>(
     m: &'a Module,
     table: &Table,
 ) -> Result<Groups<'a, Mention<'a>>, NoMemory>
-    ensures { IfOk result (λ found. (key : List ℕ) → said_of found key ≡ said_in_module table.now key m.now) }
+    ensures { IfOk result (λ found. (key : List ℕ)
+        → said_of found key ≡ said_in_module table.now key m.now) }
 {
     let mut found = Groups::empty(alloc);
     mention_header(alloc, &m.header, &mut found)?;

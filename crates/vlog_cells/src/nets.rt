@@ -27,7 +27,8 @@ pub struct WireOf<'a> {
 /// The name of a bit: the front, which is the name and a bracket, and then the index and a bracket.
 fn bit_name(alloc: Global, range: Range, bit: u32, front: &mut Vec<u8>) -> Result<Text, NoMemory>
     requires { bit < range_bits range }
-    ensures name { IfOk result (λ text. text ≡ front.old.items ++ signed_decimal (index_at range bit) ++ 93 ∷ []) }
+    ensures name { IfOk result (λ text. text
+        ≡ front.old.items ++ signed_decimal (index_at range bit) ++ 93 ∷ []) }
     ensures kept { OnOk result (front.new.items ≡ front.old.items) }
 {
     let mut buffer = Buffer::new();
@@ -41,7 +42,8 @@ fn bit_name(alloc: Global, range: Range, bit: u32, front: &mut Vec<u8>) -> Resul
 
 /// Adds the net of this name with these attributes.
 fn push_net(alloc: Global, name: Text, attrs: &[Attr], made: &mut Vec<HNet>) -> Result<(), NoMemory>
-    ensures added { OnOk result (made.new.items ≡ made.old.items ++ record { name = name; props = attr_props attrs.now } ∷ []) }
+    ensures added { OnOk result (made.new.items
+        ≡ made.old.items ++ record { name = name; props = attr_props attrs.now } ∷ []) }
 {
     let props = attrs_made(alloc, attrs)?;
     made.push(HNet { name, props })?;
@@ -56,7 +58,8 @@ fn add_bits(
     front: &mut Vec<u8>,
     made: &mut Vec<HNet>,
 ) -> Result<(), NoMemory>
-    ensures added { OnOk result (made.new.items ≡ made.old.items ++ bit_nets wire.now range (range_bits range)) }
+    ensures added { OnOk result (made.new.items
+        ≡ made.old.items ++ bit_nets wire.now range (range_bits range)) }
 {
     front.clear();
     front.extend_from_slice(wire.name)?;
@@ -70,7 +73,11 @@ fn add_bits(
 
 /// Adds the net of a wire without a range.
 fn add_scalar(alloc: Global, wire: &WireOf, made: &mut Vec<HNet>) -> Result<(), NoMemory>
-    ensures added { OnOk result (made.new.items ≡ made.old.items ++ record { name = wire.now.name.now; props = attr_props wire.now.attrs.now } ∷ []) }
+    ensures added { OnOk result (made.new.items
+        ≡ made.old.items ++ record {
+          name = wire.now.name.now;
+          props = attr_props wire.now.attrs.now;
+        } ∷ []) }
 {
     let name = Text::copy(alloc, wire.name)?;
     push_net(alloc, name, wire.attrs, made)
@@ -144,7 +151,8 @@ fn add_decl(
     front: &mut Vec<u8>,
     made: &mut Vec<HNet>,
 ) -> Result<(), NoMemory>
-    ensures added { OnOk result (made.new.items ≡ made.old.items ++ flat_map wire_nets (wires_by table.now decl.now)) }
+    ensures added { OnOk result (made.new.items
+        ≡ made.old.items ++ flat_map wire_nets (wires_by table.now decl.now)) }
 {
     let mut at = place;
     for name in decl.names.items() {
@@ -171,7 +179,8 @@ fn add_item(
     front: &mut Vec<u8>,
     made: &mut Vec<HNet>,
 ) -> Result<(), NoMemory>
-    ensures added { OnOk result (made.new.items ≡ made.old.items ++ flat_map wire_nets (wires_in table.now (net_decl item.now))) }
+    ensures added { OnOk result (made.new.items
+        ≡ made.old.items ++ flat_map wire_nets (wires_in table.now (net_decl item.now))) }
 {
     match item {
         ItemV::Net(decl) => {
@@ -194,7 +203,8 @@ fn add_items(
     front: &mut Vec<u8>,
     made: &mut Vec<HNet>,
 ) -> Result<(), NoMemory>
-    ensures added { OnOk result (made.new.items ≡ made.old.items ++ flat_map wire_nets (wires_in table.now (flat_map net_decl items.now))) }
+    ensures added { OnOk result (made.new.items
+        ≡ made.old.items ++ flat_map wire_nets (wires_in table.now (flat_map net_decl items.now))) }
 {
     let mut place = first_net(table);
     for item in items {
@@ -222,7 +232,8 @@ fn add_late(
     number: usize,
     made: &mut Vec<HNet>,
 ) -> Result<(), NoMemory>
-    ensures added { OnOk result (made.new.items ≡ made.old.items ++ late_nets from (option_to_list (slice_get table.now number))) }
+    ensures added { OnOk result (made.new.items
+        ≡ made.old.items ++ late_nets from (option_to_list (slice_get table.now number))) }
 {
     let Some((name, slot)) = table.entry(number) else {
         return Ok(());

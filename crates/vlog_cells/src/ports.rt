@@ -30,11 +30,12 @@ fn first_dir(mentions: &[Mention]) -> Dir
 fn props_said(alloc: Global, mentions: &[Mention]) -> Result<Seq<HProp>, NoMemory>
     ensures { IfOk result (λ made. made ≡ attr_props (attrs_said (map said mentions.now))) }
 {
-    let mut made = Seq::empty(alloc);
+    let mut made = Vec::new(alloc);
+    let mut spelling = Vec::new(alloc);
     for mention in mentions {
-        add_attrs(alloc, &mut made, mention.attrs)?;
+        add_attrs(alloc, &mut made, mention.attrs, &mut spelling)?;
     }
-    Ok(made)
+    Ok(Seq::of(made))
 }
 
 /// The range of the port or net of this name.
@@ -78,7 +79,8 @@ fn add_ports(
     names: &[Text],
     made: &mut Seq<HPort>,
 ) -> Result<(), NoMemory>
-    ensures added { OnOk result (made.new ≡ made.old ++ map (port_by table.now found.now) names.now) }
+    ensures added { OnOk result (made.new
+        ≡ made.old ++ map (port_by table.now found.now) names.now) }
 {
     for name in names {
         let port = port_of(alloc, table, found, name.bytes())?;
@@ -95,7 +97,8 @@ fn add_declared(
     decls: &[PortDecl],
     made: &mut Seq<HPort>,
 ) -> Result<(), NoMemory>
-    ensures added { OnOk result (made.new ≡ made.old ++ map (port_by table.now found.now) (flat_map (λ decl. decl.names) decls.now)) }
+    ensures added { OnOk result (made.new
+        ≡ made.old ++ map (port_by table.now found.now) (flat_map (λ decl. decl.names) decls.now)) }
 {
     for decl in decls {
         add_ports(alloc, table, found, decl.names.items(), made)?;
@@ -112,7 +115,8 @@ fn add_header(
     header: &Header,
     made: &mut Seq<HPort>,
 ) -> Result<(), NoMemory>
-    ensures added { OnOk result (made.new ≡ made.old ++ map (port_by table.now found.now) (header_names header.now)) }
+    ensures added { OnOk result (made.new
+        ≡ made.old ++ map (port_by table.now found.now) (header_names header.now)) }
 {
     match header {
         Header::Names(names) => {

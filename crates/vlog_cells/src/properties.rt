@@ -1,5 +1,5 @@
 // Attributes and parameters as properties.
-ghost use Rattle.std.specs.Prelude.{◌≡◌, ◌++◌, [], map, IfOk, OnOk};
+ghost use Rattle.std.specs.Prelude.{◌≡◌, ◌++◌, map, IfOk, OnOk};
 ghost use Rattle.vlog_design.specs.Design.{attr_props, attr_value, param_props, param_value};
 ghost use Rattle.vlog_values.specs.Spelling.{base_letter, based_spelling, literal_spelling};
 ghost use Rattle.vlog_values.specs.declared.expression.Const.TheVariants.{Lit};
@@ -10,9 +10,6 @@ use net_hier::HProp;
 use nl_base::{NoMemory, PropValue, Seq, Text};
 use std::alloc::Global;
 use vlog_values::{Attr, Base, Based, Const, DefSet, Literal, ParamSet};
-
-/// The most bytes of a literal before its digits.
-const HEAD_ROOM: usize = 13;
 
 /// The small letter of a base.
 fn base_letter(base: Base) -> u8
@@ -40,33 +37,32 @@ fn add_based(based: &Based, out: &mut Vec<u8>) -> Result<(), NoMemory>
     Ok(())
 }
 
-/// The normal spelling of a literal without a size.
-fn based_text(alloc: Global, based: &Based) -> Result<Text, NoMemory>
+/// The normal spelling of a literal without a size. It is made in `spelling`, whatever stands there.
+fn based_text(alloc: Global, based: &Based, spelling: &mut Vec<u8>) -> Result<Text, NoMemory>
     ensures { IfOk result (λ text. text ≡ based_spelling based.now) }
 {
-    let mut bytes = Vec::new(alloc);
-    add_based(based, &mut bytes)?;
-    let text = Text::of(alloc, bytes)?;
+    spelling.clear();
+    add_based(based, spelling)?;
+    let text = Text::copy(alloc, spelling.as_slice())?;
     Ok(text)
 }
 
-/// The normal spelling of a literal.
+/// The normal spelling of a literal. It is made in `spelling`, whatever stands there.
 #[tactic(auto, unfolding(vlog_values::specs::Spelling::literal_spelling))]
-fn literal_text(alloc: Global, literal: &Literal) -> Result<Text, NoMemory>
+fn literal_text(alloc: Global, literal: &Literal, spelling: &mut Vec<u8>) -> Result<Text, NoMemory>
     ensures { IfOk result (λ text. text ≡ literal_spelling literal.now) }
 {
     let mut buffer = Buffer::new();
-    let room = literal.based.digits.len().saturating_add(HEAD_ROOM);
-    let mut bytes = Vec::with_capacity(alloc, room)?;
-    bytes.extend_from_slice(buffer.format(literal.size).as_bytes())?;
-    add_based(&literal.based, &mut bytes)?;
-    let text = Text::of(alloc, bytes)?;
+    spelling.clear();
+    spelling.extend_from_slice(buffer.format(literal.size).as_bytes())?;
+    add_based(&literal.based, spelling)?;
+    let text = Text::copy(alloc, spelling.as_slice())?;
     Ok(text)
 }
 
-/// What a constant is in a parameter.
+/// What a constant is in a parameter. A literal is spelled in `spelling`.
 #[tactic(auto, unfolding(vlog_design::specs::Design::param_value))]
-fn param_value(alloc: Global, value: &Const) -> Result<PropValue, NoMemory>
+fn param_value(alloc: Global, value: &Const, spelling: &mut Vec<u8>) -> Result<PropValue, NoMemory>
     ensures { IfOk result (λ made. made ≡ param_value value.now) }
 {
     match value {
@@ -77,22 +73,26 @@ fn param_value(alloc: Global, value: &Const) -> Result<PropValue, NoMemory>
         Const::Number(number) => Ok(PropValue::Int(*number)),
         Const::Real(number) => Ok(PropValue::Scaled(*number)),
         Const::Lit(literal) => {
-            let text = literal_text(alloc, literal)?;
+            let text = literal_text(alloc, literal, spelling)?;
             Ok(PropValue::Str(text))
         }
         Const::Loose(based) => {
-            let text = based_text(alloc, based)?;
+            let text = based_text(alloc, based, spelling)?;
             Ok(PropValue::Str(text))
         }
     }
 }
 
-/// What a literal is in an attribute.
+/// What a literal is in an attribute. It is spelled in `spelling`.
 #[tactic(auto, unfolding(vlog_design::specs::Design::attr_value))]
-fn literal_value(alloc: Global, literal: &Literal) -> Result<PropValue, NoMemory>
+fn literal_value(
+    alloc: Global,
+    literal: &Literal,
+    spelling: &mut Vec<u8>,
+) -> Result<PropValue, NoMemory>
     ensures { IfOk result (λ made. made ≡ attr_value (Lit literal.now)) }
 {
-    let text = literal_text(alloc, literal)?;
+    let text = literal_text(alloc, literal, spelling)?;
     if text.bytes() == b"1'b0".as_slice() {
         return Ok(PropValue::Flag(false));
     }
@@ -102,9 +102,9 @@ fn literal_value(alloc: Global, literal: &Literal) -> Result<PropValue, NoMemory
     Ok(PropValue::Str(text))
 }
 
-/// What a constant is in an attribute, where `1'b0` and `1'b1` are booleans.
+/// What a constant is in an attribute, where `1'b0` and `1'b1` are booleans. A literal is spelled in `spelling`.
 #[tactic(auto, unfolding(vlog_design::specs::Design::attr_value))]
-fn attr_value(alloc: Global, value: &Const) -> Result<PropValue, NoMemory>
+fn attr_value(alloc: Global, value: &Const, spelling: &mut Vec<u8>) -> Result<PropValue, NoMemory>
     ensures { IfOk result (λ made. made ≡ attr_value value.now) }
 {
     match value {
@@ -115,34 +115,31 @@ fn attr_value(alloc: Global, value: &Const) -> Result<PropValue, NoMemory>
         Const::Number(number) => Ok(PropValue::Int(*number)),
         Const::Real(number) => Ok(PropValue::Scaled(*number)),
         Const::Lit(literal) => {
-            let made = literal_value(alloc, literal)?;
+            let made = literal_value(alloc, literal, spelling)?;
             Ok(made)
         }
         Const::Loose(based) => {
-            let text = based_text(alloc, based)?;
+            let text = based_text(alloc, based, spelling)?;
             Ok(PropValue::Str(text))
         }
     }
 }
 
-/// Adds the properties that attributes are.
-pub fn add_attrs(alloc: Global, props: &mut Seq<HProp>, attrs: &[Attr]) -> Result<(), NoMemory>
-    ensures added { OnOk result (props.new ≡ props.old ++ attr_props attrs.now) }
+/// Adds the properties that attributes are. Literals are spelled in `spelling`, whatever stands there.
+pub fn add_attrs(
+    alloc: Global,
+    props: &mut Vec<HProp>,
+    attrs: &[Attr],
+    spelling: &mut Vec<u8>,
+) -> Result<(), NoMemory>
+    ensures added { OnOk result (props.new.items ≡ props.old.items ++ attr_props attrs.now) }
 {
     for attr in attrs {
         let name = Text::copy(alloc, attr.name.bytes())?;
-        let value = attr_value(alloc, &attr.value)?;
+        let value = attr_value(alloc, &attr.value, spelling)?;
         props.push(HProp { name, value })?;
     }
     Ok(())
-}
-
-/// A list with room for so many properties.
-pub fn room_for(alloc: Global, count: usize) -> Result<Seq<HProp>, NoMemory>
-    ensures { IfOk result (λ props. props ≡ []) }
-{
-    let room = Vec::with_capacity(alloc, count)?;
-    Ok(Seq::of(room))
 }
 
 /// The properties that attributes are.
@@ -152,34 +149,42 @@ pub fn attrs_made(alloc: Global, attrs: &[Attr]) -> Result<Seq<HProp>, NoMemory>
     if attrs.is_empty() {
         return Ok(Seq::empty(alloc));
     }
-    let mut made = room_for(alloc, attrs.len())?;
-    add_attrs(alloc, &mut made, attrs)?;
-    Ok(made)
+    let mut made = Vec::with_capacity(alloc, attrs.len())?;
+    let mut spelling = Vec::new(alloc);
+    add_attrs(alloc, &mut made, attrs, &mut spelling)?;
+    Ok(Seq::of(made))
 }
 
-/// Adds the properties that values of parameters are.
+/// Adds the properties that values of parameters are. Literals are spelled in `spelling`, whatever stands there.
 pub fn add_params(
     alloc: Global,
-    props: &mut Seq<HProp>,
+    props: &mut Vec<HProp>,
     params: &[ParamSet],
+    spelling: &mut Vec<u8>,
 ) -> Result<(), NoMemory>
-    ensures added { OnOk result (props.new ≡ props.old ++ param_props params.now) }
+    ensures added { OnOk result (props.new.items ≡ props.old.items ++ param_props params.now) }
 {
     for set in params {
         let name = Text::copy(alloc, set.name.bytes())?;
-        let value = param_value(alloc, &set.value)?;
+        let value = param_value(alloc, &set.value, spelling)?;
         props.push(HProp { name, value })?;
     }
     Ok(())
 }
 
-/// Adds the properties that values by `defparam` are.
-pub fn add_sets(alloc: Global, props: &mut Seq<HProp>, sets: &[&DefSet]) -> Result<(), NoMemory>
-    ensures added { OnOk result (props.new ≡ props.old ++ map set_prop (sets_of sets.now)) }
+/// Adds the properties that values by `defparam` are. Literals are spelled in `spelling`, whatever stands there.
+pub fn add_sets(
+    alloc: Global,
+    props: &mut Vec<HProp>,
+    sets: &[&DefSet],
+    spelling: &mut Vec<u8>,
+) -> Result<(), NoMemory>
+    ensures added { OnOk result (props.new.items
+        ≡ props.old.items ++ map set_prop (sets_of sets.now)) }
 {
     for set in sets {
         let name = Text::copy(alloc, set.name.bytes())?;
-        let value = param_value(alloc, &set.value)?;
+        let value = param_value(alloc, &set.value, spelling)?;
         props.push(HProp { name, value })?;
     }
     Ok(())

@@ -4,4 +4,4 @@ use Rattle.vlog_cells.specs.Ports.{attrs_said, said}
 use Rattle.vlog_cells.proofs.ports.props_said.Given as goal
 
 abbrev pub invariant-loop-mention : goal.invariant-loop-mention
-invariant-loop-mention l = l.made ++ attr_props (attrs_said (map said (drop l.mention-index l.mentions))) ≡ attr_props (attrs_said (map said l.mentions))
+invariant-loop-mention l = l.made.items ++ attr_props (attrs_said (map said (drop l.mention-index l.mentions))) ≡ attr_props (attrs_said (map said l.mentions))
