@@ -13,5 +13,6 @@ ghost use Rattle.net_values.specs.Sound.{IsSound};
 pub fn designs_are_sound()
     ensures said { (file : EdifFile) (design : Design) → IsEdifValue file → first_E file ≡ None
         → design.cells ≡ (edif_design file).cells → design.props ≡ (edif_design file).props → IsSound design }
-    ensures answered { (file : EdifFile) (design : Design) → IsEdifValue file → IsDesignOf file design → IsSound design }
+    ensures answered { (file : EdifFile) (design : Design) → IsEdifValue file
+        → IsDesignOf file design → IsSound design }
 {}

@@ -13,7 +13,8 @@ pub fn headers_are_read_wholly()
 
 /// The beginning of a form with one of some keywords.
 pub fn beginnings_are_read_wholly()
-    ensures { (keyword : Keyword) (allowed : List Keyword) → has allowed keyword ≡ true → IsReadWholly (begin allowed) }
+    ensures { (keyword : Keyword) (allowed : List Keyword) → has allowed keyword ≡ true
+        → IsReadWholly (begin allowed) }
 {}
 
 /// The beginning of a list.

@@ -5,5 +5,6 @@ ghost use Rattle.edif_writer.specs.Layout.{Block, laid};
 
 /// The tokens of a block's text are the block's, at whatever indent it stands.
 pub fn text_lexes()
-    ensures { (block : Block) (n : ℕ) → CanBeLaid block → Lexes (laid n block []) (block_tokens block) }
+    ensures { (block : Block) (n : ℕ) → CanBeLaid block
+        → Lexes (laid n block []) (block_tokens block) }
 {}

@@ -41,7 +41,12 @@ fn view_of(
     interface: Seq<InterfaceItem>,
     contents: Seq<ContentsItem>,
 ) -> Result<View, NoMemory>
-    ensures { IfOk result (λ view. view ≡ record { name = record { ident = netlist; text = None }; interface = interface; items = contents_items_of contents }) }
+    ensures { IfOk result (λ view. view
+        ≡ record {
+          name = record { ident = netlist; text = None };
+          interface = interface;
+          items = contents_items_of contents;
+        }) }
 {
     let ident = view_ident(alloc)?;
     let items = view_items(alloc, contents)?;
@@ -58,7 +63,8 @@ fn cell_items(
     view: View,
     properties: Vec<Property>,
 ) -> Result<Seq<CellItem>, NoMemory>
-    ensures { IfOk result (λ items. items ≡ cell_items.View view ∷ map cell_items.Property properties.items) }
+    ensures { IfOk result (λ items. items
+        ≡ cell_items.View view ∷ map cell_items.Property properties.items) }
 {
     let mut items = Vec::with_capacity(alloc, properties.len().saturating_add(1))?;
     items.push(CellItem::View(view))?;
@@ -93,8 +99,10 @@ pub(crate) fn cell_properties(
     number: u32,
     cell: &HCell,
 ) -> Result<Vec<Property>, NoMemory>
-    ensures values { IfOk result (λ made. map value_of made.items ≡ last_of (props_of_cell hier.now number cell.now)) }
-    ensures sound { AreSoundProps (props_of_cell hier.now number cell.now) → IfOk result (λ made. AllByRecursion IsProperty made.items) }
+    ensures values { IfOk result
+        (λ made. map value_of made.items ≡ last_of (props_of_cell hier.now number cell.now)) }
+    ensures sound { AreSoundProps (props_of_cell hier.now number cell.now)
+        → IfOk result (λ made. AllByRecursion IsProperty made.items) }
 {
     let props = cell_props(alloc, hier, number, cell)?;
     let found = props.as_slice();
@@ -122,7 +130,9 @@ pub(crate) fn cell_with(
     nets: Vec<Net>,
     properties: Vec<Property>,
 ) -> Result<Cell, NoMemory>
-    ensures { IfOk result (λ made. made ≡ cell_for (name_for head.now.cell name.now) ports.items instances.items nets.items properties.items) }
+    ensures { IfOk result (λ made. made
+        ≡ cell_for
+        (name_for head.now.cell name.now) ports.items instances.items nets.items properties.items) }
 {
     let contents = contents_of(alloc, instances, nets)?;
     let interface = interface_of(alloc, ports)?;
@@ -139,7 +149,8 @@ pub(crate) fn cell_with(
 /// The port of the cell that is written for a constant.
 fn constant_port(alloc: Global, head: &Head, constant: &ConstName) -> Result<Vec<Port>, NoMemory>
     requires { 0 < length head.now.ports }
-    ensures { IfOk result (λ made. made.items ≡ output_for (get_or head.now.ports 0 []) constant.now.port ∷ []) }
+    ensures { IfOk result (λ made. made.items
+        ≡ output_for (get_or head.now.ports 0 []) constant.now.port ∷ []) }
 {
     let idents = head.ports.items();
     let name = named(alloc, &idents[0], constant.port.bytes())?;

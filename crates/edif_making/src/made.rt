@@ -36,9 +36,11 @@ fn cell_under(
     requires ports { HasPorts head.now cell.now }
     requires good { IsGoodCell hier.now.cells cell.now }
     requires classes { AreClasses cell.now classes.now }
-    requires constants { (value : Bool) → needs_constant classes.now value ≡ true → HasConstant plan.now value }
+    requires constants { (value : Bool) → needs_constant classes.now value ≡ true
+        → HasConstant plan.now value }
     requires stems { AreStems constants.now }
-    ensures { IfOk result (IsMadeUnder constants.now hier.now.cells plan.now head.now cell.now (props_of_cell hier.now number cell.now) classes.now) }
+    ensures { IfOk result (IsMadeUnder constants.now hier.now.cells plan.now head.now cell.now
+        (props_of_cell hier.now number cell.now) classes.now) }
 {
     let own = cell.instances.items();
     let instances = instances_with(alloc, constants, own, classes)?;
@@ -73,9 +75,12 @@ pub fn cell_of(
     requires cell { number < length hier.now.cells }
     requires plan { FitsCells hier.now.cells plan.now }
     requires classes { AreClassesAt hier.now.cells number classes.now }
-    requires constants { (value : Bool) → needs_constant classes.now value ≡ true → HasConstant plan.now value }
+    requires constants { (value : Bool) → needs_constant classes.now value ≡ true
+        → HasConstant plan.now value }
     requires stems { AreStems constants.now }
-    ensures { (cell : CellValue) → IsCell hier.now.cells number cell → IfOk result (IsMadeUnder constants.now hier.now.cells plan.now (head_of plan.now number) cell (props_of_cell hier.now number cell) classes.now) }
+    ensures { (cell : CellValue) → IsCell hier.now.cells number cell
+        → IfOk result (IsMadeUnder constants.now hier.now.cells plan.now
+        (head_of plan.now number) cell (props_of_cell hier.now number cell) classes.now) }
 {
     let cells = hier.cells();
     let place = number as usize;

@@ -191,10 +191,14 @@ fn plan_class(
     planned: &mut Vec<Planned>,
 ) -> Result<(), NoMemory>
     requires { class < classes.now.count }
-    ensures classes { OnOk result (map (λ net. net.class) planned.new.items ≡ map (λ net. net.class) planned.old.items ++ cond (is_live_class cell.now.nets (members_of classes.now class)) (class ∷ []) []) }
+    ensures classes { OnOk result (map (λ net. net.class) planned.new.items
+        ≡ map (λ net. net.class) planned.old.items
+        ++ cond (is_live_class cell.now.nets (members_of classes.now class)) (class ∷ []) []) }
     ensures named { AllByRecursion (IsNamed cell.now classes.now) planned.old.items
         → OnOk result (AllByRecursion (IsNamed cell.now classes.now) planned.new.items) }
-    ensures sound { HaveSoundNets cell.now → AllByRecursion (λ net. IsString net.name) planned.old.items → OnOk result (AllByRecursion (λ net. IsString net.name) planned.new.items) }
+    ensures sound { HaveSoundNets cell.now
+        → AllByRecursion (λ net. IsString net.name) planned.old.items
+        → OnOk result (AllByRecursion (λ net. IsString net.name) planned.new.items) }
 {
     let nodes = classes.members(class);
     if !is_live(cell, nodes) {
@@ -208,10 +212,13 @@ fn plan_class(
 /// The classes for which a net is written, with their names.
 #[tactic(auto, using(crate::proofs::NetLaws::live_none))]
 fn planned_nets(alloc: Global, cell: &HCell, classes: &Classes) -> Result<Vec<Planned>, NoMemory>
-    ensures classes { IfOk result (λ planned. map (λ net. net.class) planned.items ≡ live_below cell.now.nets classes.now classes.now.count) }
+    ensures classes { IfOk result
+        (λ planned. map (λ net. net.class) planned.items
+        ≡ live_below cell.now.nets classes.now classes.now.count) }
     ensures named { IfOk result (λ planned. AllByRecursion (IsNamed cell.now classes.now)
         planned.items) }
-    ensures sound { HaveSoundNets cell.now → IfOk result (λ planned. AllByRecursion (λ net. IsString net.name) planned.items) }
+    ensures sound { HaveSoundNets cell.now
+        → IfOk result (λ planned. AllByRecursion (λ net. IsString net.name) planned.items) }
 {
     let mut planned = Vec::with_capacity(alloc, classes.count() as usize)?;
     for class in 0..classes.count() {
@@ -254,8 +261,10 @@ fn net_items(alloc: Global, properties: Vec<Property>) -> Result<Seq<NetItem>, N
 /// The properties of the nets of a class, the last value of each name.
 #[tactic(auto, using(crate::proofs::NetLaws::none_kept, crate::proofs::NetLaws::none_sound))]
 fn net_properties(alloc: Global, cell: &HCell, nodes: &[Node]) -> Result<Vec<Property>, NoMemory>
-    ensures values { IfOk result (λ made. map value_of made.items ≡ last_of (class_props_of cell.now.nets nodes.now)) }
-    ensures sound { AllByRecursion IsSoundNet cell.now.nets → IfOk result (λ made. AllByRecursion IsProperty made.items) }
+    ensures values { IfOk result
+        (λ made. map value_of made.items ≡ last_of (class_props_of cell.now.nets nodes.now)) }
+    ensures sound { AllByRecursion IsSoundNet cell.now.nets
+        → IfOk result (λ made. AllByRecursion IsProperty made.items) }
 {
     let props = class_props(alloc, cell, nodes)?;
     let found = props.as_slice();
@@ -280,9 +289,13 @@ fn net_of(
     requires fits { FitsCellPlan (cell_plan_of scope.now) }
     requires there { AllByRecursion (CanRefer (cell_plan_of scope.now)) nodes.now }
     ensures name { IfOk result (λ made. made.name ≡ name_for ident.now name.now) }
-    ensures joined { IfOk result (λ made. made.joined ≡ refs_for (cell_plan_of scope.now) nodes.now) }
-    ensures props { IfOk result (λ made. (net_value made).props ≡ last_of (class_props_of scope.now.cell.now.nets nodes.now)) }
-    ensures sound { IsString name.now → AllByRecursion IsSoundNet scope.now.cell.now.nets → IfOk result IsNet }
+    ensures joined { IfOk result
+        (λ made. made.joined ≡ refs_for (cell_plan_of scope.now) nodes.now) }
+    ensures props { IfOk result
+        (λ made. (net_value made).props
+        ≡ last_of (class_props_of scope.now.cell.now.nets nodes.now)) }
+    ensures sound { IsString name.now → AllByRecursion IsSoundNet scope.now.cell.now.nets
+        → IfOk result IsNet }
 {
     let name = named(alloc, ident, name)?;
     let joined = refs_of(alloc, scope, nodes)?;
@@ -304,16 +317,25 @@ fn nets_with(
     idents: &[Ident],
 ) -> Result<Vec<Net>, NoMemory>
     requires fits { FitsCellPlan (cell_plan_of scope.now) }
-    requires there { HaveRefs (cell_plan_of scope.now) classes.now (map (λ net. net.class) planned.now) }
+    requires there { HaveRefs (cell_plan_of scope.now) classes.now
+        (map (λ net. net.class) planned.now) }
     requires idents { length idents.now ≡ length planned.now }
     ensures idents { IfOk result (λ made. map (λ net. net.name.ident) made.items ≡ idents.now) }
     ensures names { IfOk result (λ made. map (λ net. original net.name) made.items
         ≡ map (λ net. net.name) planned.now) }
     ensures no_spare_text { IfOk result (λ made. AllByRecursion (λ net. HasNoSpareText net.name)
         made.items) }
-    ensures joined { IfOk result (λ made. map (λ net. net.joined) made.items ≡ map (λ net. refs_for (cell_plan_of scope.now) (members_of classes.now net.class)) planned.now) }
-    ensures props { IfOk result (λ made. map (λ net. (net_value net).props) made.items ≡ map (λ net. last_of (class_props_of scope.now.cell.now.nets (members_of classes.now net.class))) planned.now) }
-    ensures sound { AllByRecursion IsSoundNet scope.now.cell.now.nets → AllByRecursion (λ net. IsString net.name) planned.now → IfOk result (λ made. AllByRecursion IsNet made.items) }
+    ensures joined { IfOk result
+        (λ made. map (λ net. net.joined) made.items
+        ≡ map (λ net. refs_for (cell_plan_of scope.now)
+        (members_of classes.now net.class)) planned.now) }
+    ensures props { IfOk result
+        (λ made. map (λ net. (net_value net).props) made.items
+        ≡ map (λ net. last_of (class_props_of scope.now.cell.now.nets
+        (members_of classes.now net.class))) planned.now) }
+    ensures sound { AllByRecursion IsSoundNet scope.now.cell.now.nets
+        → AllByRecursion (λ net. IsString net.name) planned.now
+        → IfOk result (λ made. AllByRecursion IsNet made.items) }
 {
     let mut made = Vec::with_capacity(alloc, planned.len())?;
     for place in 0..planned.len() {
@@ -329,8 +351,10 @@ fn nets_with(
 /// The nets of a cell, one for each live class.
 pub fn nets_of(alloc: Global, scope: &Scope<'_>, classes: &Classes) -> Result<Vec<Net>, NoMemory>
     requires fits { FitsCellPlan (cell_plan_of scope.now) }
-    requires there { HaveRefs (cell_plan_of scope.now) classes.now (live_below scope.now.cell.now.nets classes.now classes.now.count) }
-    ensures { IfOk result (λ made. AreNetsFor (cell_plan_of scope.now) classes.now (live_below scope.now.cell.now.nets classes.now classes.now.count) made.items) }
+    requires there { HaveRefs (cell_plan_of scope.now) classes.now
+        (live_below scope.now.cell.now.nets classes.now classes.now.count) }
+    ensures { IfOk result (λ made. AreNetsFor (cell_plan_of scope.now) classes.now
+        (live_below scope.now.cell.now.nets classes.now classes.now.count) made.items) }
 {
     let planned = planned_nets(alloc, scope.cell, classes)?;
     let plans = planned.as_slice();

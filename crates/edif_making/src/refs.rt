@@ -83,7 +83,12 @@ fn own_ref(
     bit: u32,
 ) -> Result<PortRef, NoMemory>
     requires { port < length idents.now }
-    ensures made { IfOk result (λ made. made ≡ record { port = get_or idents.now port []; member = member_for (range_at ports.now port) bit; instance = None }) }
+    ensures made { IfOk result
+        (λ made. made ≡ record {
+          port = get_or idents.now port [];
+          member = member_for (range_at ports.now port) bit;
+          instance = None;
+        }) }
     ensures sound { IfOk result IsPortRef }
 {
     let ident = ident_at(alloc, idents, port)?;
@@ -107,7 +112,12 @@ fn inner_ref(
 ) -> Result<PortRef, NoMemory>
     requires port { port < length idents.now }
     requires instance { instance < length instances.now }
-    ensures made { IfOk result (λ made. made ≡ record { port = get_or idents.now port []; member = member_for (range_at ports.now port) bit; instance = Some (get_or instances.now instance []) }) }
+    ensures made { IfOk result
+        (λ made. made ≡ record {
+          port = get_or idents.now port [];
+          member = member_for (range_at ports.now port) bit;
+          instance = Some (get_or instances.now instance []);
+        }) }
     ensures sound { IfOk result IsPortRef }
 {
     let ident = ident_at(alloc, idents, port)?;
@@ -129,7 +139,12 @@ fn scalar_ref(
 ) -> Result<PortRef, NoMemory>
     requires port { 0 < length idents.now }
     requires instance { instance < length instances.now }
-    ensures made { IfOk result (λ made. made ≡ record { port = get_or idents.now 0 []; member = None; instance = Some (get_or instances.now instance []) }) }
+    ensures made { IfOk result
+        (λ made. made ≡ record {
+          port = get_or idents.now 0 [];
+          member = None;
+          instance = Some (get_or instances.now instance []);
+        }) }
     ensures sound { IfOk result IsPortRef }
 {
     let ident = ident_at(alloc, idents, 0)?;
@@ -163,7 +178,8 @@ fn pin_ref(
 ) -> Result<PortRef, NoMemory>
     requires fits { FitsCellPlan (cell_plan_of scope.now) }
     requires bit { IsPinBit scope.now.hier.now.cells scope.now.cell.now instance port bit }
-    ensures made { IfOk result (λ made. made ≡ pin_ref_for (cell_plan_of scope.now) instance port bit) }
+    ensures made { IfOk result
+        (λ made. made ≡ pin_ref_for (cell_plan_of scope.now) instance port bit) }
     ensures sound { IfOk result IsPortRef }
 {
     let own = scope.cell.instances.items();
@@ -255,8 +271,10 @@ fn add_ref(
 ) -> Result<(), NoMemory>
     requires fits { FitsCellPlan (cell_plan_of scope.now) }
     requires there { CanRefer (cell_plan_of scope.now) node }
-    ensures added { OnOk result (refs.new.items ≡ refs.old.items ++ option_to_list (ref_for (cell_plan_of scope.now) node)) }
-    ensures sound { AllByRecursion IsPortRef refs.old.items → OnOk result (AllByRecursion IsPortRef refs.new.items) }
+    ensures added { OnOk result (refs.new.items
+        ≡ refs.old.items ++ option_to_list (ref_for (cell_plan_of scope.now) node)) }
+    ensures sound { AllByRecursion IsPortRef refs.old.items
+        → OnOk result (AllByRecursion IsPortRef refs.new.items) }
 {
     match ref_of(alloc, scope, node)? {
         None => Ok(()),

@@ -61,7 +61,8 @@ fn add_instance(
     requires before { AreAdded own.now added.old }
     ensures named { OnOk result (HasNames used.new (instance_names own.now added.new)) }
     ensures after { OnOk result (AreAdded own.now added.new) }
-    ensures values { OnOk result (map (λ one. one.value) added.new ≡ map (λ one. one.value) added.old ++ value ∷ []) }
+    ensures values { OnOk result (map (λ one. one.value) added.new
+        ≡ map (λ one. one.value) added.old ++ value ∷ []) }
     ensures first { (names : ConstantNames) → (name_of_constant names value).cell ≡ stem.now
         → AreNamedFor names own.now added.old → OnOk result (AreNamedFor names own.now added.new) }
 {
@@ -89,8 +90,11 @@ fn add_constant(
     requires before { AreAdded own.now added.old }
     ensures named { OnOk result (HasNames used.new (instance_names own.now added.new)) }
     ensures after { OnOk result (AreAdded own.now added.new) }
-    ensures values { OnOk result (map (λ one. one.value) added.new ≡ map (λ one. one.value) added.old ++ cond (needs_constant_of classes.now value) (value ∷ []) []) }
-    ensures first { (names : ConstantNames) → (name_of_constant names value).cell ≡ constant.now.cell
+    ensures values { OnOk result (map (λ one. one.value) added.new
+        ≡ map (λ one. one.value) added.old
+        ++ cond (needs_constant_of classes.now value) (value ∷ []) []) }
+    ensures first { (names : ConstantNames)
+        → (name_of_constant names value).cell ≡ constant.now.cell
         → AreNamedFor names own.now added.old → OnOk result (AreNamedFor names own.now added.new) }
 {
     if !needs_constant(classes, value) {
@@ -119,7 +123,10 @@ fn named_apart(
     requires counted { AreCounted classes.now }
     requires stems { AreStems constants.now }
     ensures after { IfOk result (AreAdded own.now) }
-    ensures values { IfOk result (λ added. map (λ one. one.value) added ≡ cond (needs_constant_of classes.now false) (false ∷ []) [] ++ cond (needs_constant_of classes.now true) (true ∷ []) []) }
+    ensures values { IfOk result
+        (λ added. map (λ one. one.value) added
+        ≡ cond (needs_constant_of classes.now false) (false ∷ []) []
+        ++ cond (needs_constant_of classes.now true) (true ∷ []) []) }
     ensures first { IfOk result (AreNamedFor constants.now own.now) }
 {
     let mut used = used_names(alloc, own)?;
@@ -156,7 +163,10 @@ fn added_to(
     requires counted { AreCounted classes.now }
     requires stems { AreStems constants.now }
     ensures after { IfOk result (AreAdded own.now) }
-    ensures values { IfOk result (λ added. map (λ one. one.value) added ≡ cond (needs_constant_of classes.now false) (false ∷ []) [] ++ cond (needs_constant_of classes.now true) (true ∷ []) []) }
+    ensures values { IfOk result
+        (λ added. map (λ one. one.value) added
+        ≡ cond (needs_constant_of classes.now false) (false ∷ []) []
+        ++ cond (needs_constant_of classes.now true) (true ∷ []) []) }
     ensures first { IfOk result (AreNamedFor constants.now own.now) }
 {
     if !needs_any(classes) {

@@ -49,8 +49,10 @@ fn instance_with(
     cell: &Ident,
     properties: Vec<Property>,
 ) -> Result<Instance, NoMemory>
-    ensures made { IfOk result (λ made. made ≡ instance_for ident.now name.now cell.now properties.items) }
-    ensures sound { IsString name.now → AllByRecursion IsProperty properties.items → IfOk result IsInstance }
+    ensures made { IfOk result
+        (λ made. made ≡ instance_for ident.now name.now cell.now properties.items) }
+    ensures sound { IsString name.now → AllByRecursion IsProperty properties.items
+        → IfOk result IsInstance }
 {
     let name = named(alloc, ident, name)?;
     let view = view_ident(alloc)?;
@@ -75,8 +77,11 @@ pub fn instance_of(
     properties: Vec<Property>,
 ) -> Result<Instance, NoMemory>
     ensures ident { IfOk result (λ made. instance_ident made ≡ ident.now) }
-    ensures summary { IfOk result (λ made. instance_summary made ≡ summary_with name.now cell.now (map value_of properties.items)) }
-    ensures sound { IsString name.now → AllByRecursion IsProperty properties.items → IfOk result IsInstance }
+    ensures summary { IfOk result
+        (λ made. instance_summary made
+        ≡ summary_with name.now cell.now (map value_of properties.items)) }
+    ensures sound { IsString name.now → AllByRecursion IsProperty properties.items
+        → IfOk result IsInstance }
     ensures no_spare_text { IfOk result (λ made. HasNoSpareText made.name) }
 {
     let made = instance_with(alloc, ident, name, cell, properties)?;

@@ -22,8 +22,10 @@ use std::alloc::Global;
 
 /// The properties of an instance, the last value of each name.
 fn instance_properties(alloc: Global, instance: &HInst) -> Result<Vec<Property>, NoMemory>
-    ensures values { IfOk result (λ made. map value_of made.items ≡ last_values_of instance.now.props) }
-    ensures sound { AreSoundProps instance.now.props → IfOk result (λ made. AllByRecursion IsProperty made.items) }
+    ensures values { IfOk result
+        (λ made. map value_of made.items ≡ last_values_of instance.now.props) }
+    ensures sound { AreSoundProps instance.now.props
+        → IfOk result (λ made. AllByRecursion IsProperty made.items) }
 {
     let properties = last_properties(alloc, instance.props.items())?;
     Ok(properties)
@@ -38,7 +40,8 @@ fn own_instance(
 ) -> Result<Instance, NoMemory>
     requires { HasHead plan.now instance.now.cell }
     ensures ident { IfOk result (λ made. instance_ident made ≡ ident.now) }
-    ensures summary { IfOk result (λ made. instance_summary made ≡ own_summary plan.now instance.now) }
+    ensures summary { IfOk result
+        (λ made. instance_summary made ≡ own_summary plan.now instance.now) }
     ensures sound { IsSoundInstance instance.now → IfOk result IsInstance }
     ensures no_spare_text { IfOk result (λ made. HasNoSpareText made.name) }
 {
@@ -57,9 +60,13 @@ fn own_instances(
 ) -> Result<Vec<Instance>, NoMemory>
     requires heads { Each (λ instance. HasHead plan.now instance.cell) instances.now }
     requires idents { length instances.now ≤ length idents.now }
-    ensures idents { IfOk result (λ made. map instance_ident made.items ++ drop (length instances.now) idents.now ≡ idents.now) }
-    ensures summaries { IfOk result (λ made. map instance_summary made.items ≡ map (own_summary plan.now) instances.now) }
-    ensures sound { AllByRecursion IsSoundInstance instances.now → IfOk result (λ made. AllByRecursion IsInstance made.items) }
+    ensures idents { IfOk result
+        (λ made. map instance_ident made.items ++ drop (length instances.now) idents.now
+        ≡ idents.now) }
+    ensures summaries { IfOk result
+        (λ made. map instance_summary made.items ≡ map (own_summary plan.now) instances.now) }
+    ensures sound { AllByRecursion IsSoundInstance instances.now
+        → IfOk result (λ made. AllByRecursion IsInstance made.items) }
     ensures no_spare_text { IfOk result (λ made.
         AllByRecursion (λ instance. HasNoSpareText instance.name) made.items) }
 {
@@ -81,7 +88,8 @@ fn added_instance(
 ) -> Result<Instance, NoMemory>
     requires { constant_number plan.now added.now.value < length plan.now.heads }
     ensures ident { IfOk result (λ made. instance_ident made ≡ ident.now) }
-    ensures summary { IfOk result (λ made. instance_summary made ≡ added_summary plan.now added.now) }
+    ensures summary { IfOk result
+        (λ made. instance_summary made ≡ added_summary plan.now added.now) }
     ensures sound { IsShort added.now.name → IfOk result IsInstance }
     ensures no_spare_text { IfOk result (λ made. HasNoSpareText made.name) }
 {
@@ -104,12 +112,18 @@ fn with_added(
     added: &[Added],
     own: Vec<Instance>,
 ) -> Result<Vec<Instance>, NoMemory>
-    requires heads { Each (λ one. constant_number plan.now one.value < length plan.now.heads) added.now }
+    requires heads { Each (λ one. constant_number plan.now one.value
+        < length plan.now.heads) added.now }
     requires idents { length own.items + length added.now ≡ length idents.now }
-    requires named { map instance_ident own.items ++ drop (length own.items) idents.now ≡ idents.now }
+    requires named { map instance_ident own.items ++ drop (length own.items) idents.now
+        ≡ idents.now }
     ensures idents { IfOk result (λ made. map instance_ident made.items ≡ idents.now) }
-    ensures summaries { IfOk result (λ made. map instance_summary made.items ≡ map instance_summary own.items ++ map (added_summary plan.now) added.now) }
-    ensures sound { AllByRecursion IsInstance own.items → AllByRecursion (λ one. IsShort one.name) added.now → IfOk result (λ made. AllByRecursion IsInstance made.items) }
+    ensures summaries { IfOk result
+        (λ made. map instance_summary made.items
+        ≡ map instance_summary own.items ++ map (added_summary plan.now) added.now) }
+    ensures sound { AllByRecursion IsInstance own.items
+        → AllByRecursion (λ one. IsShort one.name) added.now
+        → IfOk result (λ made. AllByRecursion IsInstance made.items) }
     ensures no_spare_text { AllByRecursion (λ instance. HasNoSpareText instance.name) own.items
         → IfOk result (λ made. AllByRecursion (λ instance. HasNoSpareText instance.name) made.items) }
 {
@@ -130,11 +144,16 @@ pub fn instances_of(
     own: &[HInst],
 ) -> Result<Vec<Instance>, NoMemory>
     requires heads { Each (λ instance. HasHead plan.now instance.cell) own.now }
-    requires constants { Each (λ one. constant_number plan.now one.value < length plan.now.heads) instances.now.added }
+    requires constants { Each (λ one. constant_number plan.now one.value
+        < length plan.now.heads) instances.now.added }
     requires idents { length own.now + length instances.now.added ≡ length instances.now.idents }
     ensures idents { IfOk result (λ made. map instance_ident made.items ≡ instances.now.idents) }
-    ensures summaries { IfOk result (λ made. map instance_summary made.items ≡ map (own_summary plan.now) own.now ++ map (added_summary plan.now) instances.now.added) }
-    ensures sound { AllByRecursion IsSoundInstance own.now → AllByRecursion (λ one. IsShort one.name) instances.now.added → IfOk result (λ made. AllByRecursion IsInstance made.items) }
+    ensures summaries { IfOk result
+        (λ made. map instance_summary made.items
+        ≡ map (own_summary plan.now) own.now ++ map (added_summary plan.now) instances.now.added) }
+    ensures sound { AllByRecursion IsSoundInstance own.now
+        → AllByRecursion (λ one. IsShort one.name) instances.now.added
+        → IfOk result (λ made. AllByRecursion IsInstance made.items) }
     ensures no_spare_text { IfOk result (λ made.
         AllByRecursion (λ instance. HasNoSpareText instance.name) made.items) }
 {

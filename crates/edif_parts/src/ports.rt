@@ -21,7 +21,8 @@ use std::alloc::Global;
 
 /// The parts of a port: its direction and its properties.
 fn port_items(alloc: Global, dir: Dir, properties: Vec<Property>) -> Result<Seq<PortItem>, NoMemory>
-    ensures { IfOk result (λ items. items ≡ port_items.Direction dir ∷ map port_items.Property properties.items) }
+    ensures { IfOk result (λ items. items
+        ≡ port_items.Direction dir ∷ map port_items.Property properties.items) }
 {
     let mut items = Vec::with_capacity(alloc, properties.len().saturating_add(1))?;
     items.push(PortItem::Direction(dir))?;
@@ -34,7 +35,8 @@ fn port_items(alloc: Global, dir: Dir, properties: Vec<Property>) -> Result<Seq<
 /// The properties of a port, the last value of each name.
 fn port_properties(alloc: Global, port: &HPort) -> Result<Vec<Property>, NoMemory>
     ensures values { IfOk result (λ made. map value_of made.items ≡ last_values_of port.now.props) }
-    ensures sound { AreSoundProps port.now.props → IfOk result (λ made. AllByRecursion IsProperty made.items) }
+    ensures sound { AreSoundProps port.now.props
+        → IfOk result (λ made. AllByRecursion IsProperty made.items) }
 {
     let properties = last_properties(alloc, port.props.items())?;
     Ok(properties)
@@ -57,8 +59,10 @@ fn port_of(alloc: Global, ident: &Ident, port: &HPort) -> Result<Port, NoMemory>
 pub fn ports_of(alloc: Global, idents: &[Ident], ports: &[HPort]) -> Result<Vec<Port>, NoMemory>
     requires { length idents.now ≡ length ports.now }
     ensures idents { IfOk result (λ made. map port_ident made.items ≡ idents.now) }
-    ensures summaries { IfOk result (λ made. map summary_of made.items ≡ map summary_for ports.now) }
-    ensures sound { AllByRecursion IsSoundPort ports.now → IfOk result (λ made. AllByRecursion IsPort made.items) }
+    ensures summaries { IfOk result
+        (λ made. map summary_of made.items ≡ map summary_for ports.now) }
+    ensures sound { AllByRecursion IsSoundPort ports.now
+        → IfOk result (λ made. AllByRecursion IsPort made.items) }
     ensures texts { IfOk result (λ made.
         AllByRecursion (λ port. HasPlainText port.name) made.items) }
 {
@@ -83,7 +87,8 @@ pub fn interface_of(alloc: Global, ports: Vec<Port>) -> Result<Seq<InterfaceItem
 
 /// The port of this name, a scalar output without properties.
 pub fn output_port(alloc: Global, name: PortName) -> Result<Port, NoMemory>
-    ensures { IfOk result (λ made. made ≡ record { name = name; items = port_items.Direction dirs.Output ∷ [] }) }
+    ensures { IfOk result (λ made. made
+        ≡ record { name = name; items = port_items.Direction dirs.Output ∷ [] }) }
 {
     let items = port_items(alloc, Dir::Output, Vec::new(alloc))?;
     Ok(Port { name, items })

@@ -29,7 +29,8 @@ pub fn name_of(constants: &Constants, value: bool) -> &ConstName
 fn stands(hier: &Hier, number: u32, classes: &Classes, constants: &Constants, value: bool) -> bool
     requires cell { number < length hier.now.cells }
     requires classes { AreClassesAt hier.now.cells number classes.now }
-    ensures { (cell : CellValue) → IsCell hier.now.cells number cell → (IsTrue result ↔ IsConstantCell constants.now value cell) }
+    ensures { (cell : CellValue) → IsCell hier.now.cells number cell
+        → (IsTrue result ↔ IsConstantCell constants.now value cell) }
 {
     match constant_of(hier, number, classes, constants) {
         None => false,

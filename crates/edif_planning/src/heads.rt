@@ -42,7 +42,8 @@ impl Heads {
 
 /// Those of the new cells of these constants.
 fn new_heads(alloc: Global, constants: &Constants, values: &[bool]) -> Result<Heads, NoMemory>
-    ensures { IfOk result (λ heads. AreHeads (map (new_names constants.now) values.now) heads.space heads.made.items) }
+    ensures { IfOk result (λ heads. AreHeads
+        (map (new_names constants.now) values.now) heads.space heads.made.items) }
 {
     let mut heads = Heads {
         space: Space::new(alloc),
@@ -75,7 +76,9 @@ pub(crate) fn heads_of(
     constants: &Constants,
     values: &[bool],
 ) -> Result<Heads, NoMemory>
-    ensures { IfOk result (λ heads. AreHeads (map (new_names constants.now) values.now ++ map (old_names hier.now.cells) hier.now.order) heads.space heads.made.items) }
+    ensures { IfOk result (λ heads. AreHeads
+        (map (new_names constants.now) values.now
+        ++ map (old_names hier.now.cells) hier.now.order) heads.space heads.made.items) }
 {
     let mut heads = new_heads(alloc, constants, values)?;
     add_cells(alloc, hier, &mut heads)?;

@@ -17,16 +17,20 @@ ghost use Rattle.edif_texts_go_on.specs.Onward.{GoesOnToFile, GoesOnBefore};
 
 /// Proper tokens are those of some bytes, wherever these stand.
 pub fn proper_tokens_are_of_bytes()
-    ensures { (proper_tokens : List Token) → AllByRecursion IsProper proper_tokens → (bytes : List ℕ) × AreBytes bytes × Lexes bytes proper_tokens }
+    ensures { (proper_tokens : List Token) → AllByRecursion IsProper proper_tokens
+        → (bytes : List ℕ) × AreBytes bytes × Lexes bytes proper_tokens }
 {}
 
 /// Tokens at the front of some bytes, within the limit of an input, can be gone on with to a file exactly where a text that goes on from
 /// their bytes is one.
 pub fn fronts_go_on_to_texts()
-    ensures { (bytes : List ℕ) (front : List Found) (rest : List (Terminal Found Place)) → (tokens bytes).tokens ≡ map proper front ++ rest → Begins [] (whole trailing (file_part [])) (map proper front) ↔ GoesOnToFile bytes front }
+    ensures { (bytes : List ℕ) (front : List Found) (rest : List (Terminal Found Place))
+        → (tokens bytes).tokens ≡ map proper front ++ rest
+        → Begins [] (whole trailing (file_part [])) (map proper front) ↔ GoesOnToFile bytes front }
 {}
 
 /// What stands before a first fault goes on to a file: some text goes on from the bytes of the tokens before the fault, and is one.
 pub fn texts_go_on_before_a_fault()
-    ensures { (bytes : List ℕ) (fault : TextFault) → EdifFault bytes fault → GoesOnBefore bytes fault }
+    ensures { (bytes : List ℕ) (fault : TextFault) → EdifFault bytes fault
+        → GoesOnBefore bytes fault }
 {}

@@ -16,7 +16,8 @@ ghost use Rattle.net_values.specs.Sound.{IsSound};
 /// A file can be written whose cells are made for constants or of the cells of a design with names of at most 1,048,000 bytes and strings of
 /// at most 1,048,576, where the names of the constants are stems; and so can the name of the top cell, under any identifier.
 pub fn made_files_can_be_written()
-    ensures value { (name design_name : NameDef) (cells : List Cell) (top : List ℕ) (names : ConstantNames) (design : Design) (plan : Plan)
+    ensures value { (name design_name : NameDef) (cells : List Cell) (top : List ℕ)
+        (names : ConstantNames) (design : Design) (plan : Plan)
         → AreStems names → IsSoundDesign design → AreNamedCells names design plan cells
         → IsNameDef name → IsNameDef design_name → IsWord top → IsEdifValue (file_of name design_name cells top) }
     ensures top { (ident : List ℕ) (design : Design)

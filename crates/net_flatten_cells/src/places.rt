@@ -45,7 +45,8 @@ impl Places {
     pub fn of(alloc: Global, count: usize, numbers: Vec<u32>) -> Result<Places, NoMemory>
         requires few { length numbers.items < 2 ^ 32 }
         requires below { All (λ number. number < count) numbers.items }
-        ensures { IfOk result (λ places. places ≡ record { numbers = numbers.items; count = count }) }
+        ensures { IfOk result (λ places. places
+            ≡ record { numbers = numbers.items; count = count }) }
     {
         let places = places_of(alloc, count, numbers.as_slice())?;
         Ok(Places { numbers, places })

@@ -73,14 +73,16 @@ fn have_name_lengths(name: CellPort<'_>) -> bool
 
 /// These names, where they are those of constants.
 fn if_constants(zero: CellPort<'_>, one: CellPort<'_>) -> bool
-    ensures { result ≡ are_constants (record { zero = name_of zero.entry; one = name_of one.entry }) }
+    ensures { result ≡ are_constants
+        (record { zero = name_of zero.entry; one = name_of one.entry }) }
 {
     zero.cell != one.cell && have_name_lengths(zero) && have_name_lengths(one)
 }
 
 /// The names of the constants that these options choose, where they are some.
 pub fn constants_of<'a>(zero: Option<&'a [u8]>, one: Option<&'a [u8]>) -> Option<Names<'a>>
-    ensures names { MatchOption result (constants_of (lent_option zero.entry) (lent_option one.entry) ≡ None)
+    ensures names { MatchOption result
+        (constants_of (lent_option zero.entry) (lent_option one.entry) ≡ None)
         (λ names. constants_of (lent_option zero.entry) (lent_option one.entry) ≡ Some (lent_names names)) }
     ensures checked { IfSome result (λ names. IsTrue (are_constants (lent_names names))) }
 {

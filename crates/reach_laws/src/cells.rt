@@ -6,5 +6,6 @@ ghost use Rattle.reach_laws.specs.Cells.{IsReachedFromTop};
 
 /// A cell is reached exactly where instances lead to it from the top, or it is the top.
 pub fn cells_are_reached()
-    ensures { (file : EdifFile) (number : ℕ) → (is_reached file number ≡ true) ↔ IsReachedFromTop file number }
+    ensures { (file : EdifFile) (number : ℕ) → (is_reached file number ≡ true)
+        ↔ IsReachedFromTop file number }
 {}

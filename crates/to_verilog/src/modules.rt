@@ -83,7 +83,8 @@ pub fn module_of(
     params: &Names,
 ) -> Result<Module, NoMemory>
     requires is_cell { number < length hier.now.cells }
-    requires writable { (cell : CellValue) → IsCell hier.now.cells number cell → IsWritable params.now cell }
+    requires writable { (cell : CellValue) → IsCell hier.now.cells number cell
+        → IsWritable params.now cell }
     ensures plain { IfOk result (IsModuleOf hier.now params.now number) }
     ensures written { IfOk result (IsWritten hier.now number) }
 {

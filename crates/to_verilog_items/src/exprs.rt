@@ -57,7 +57,8 @@ pub fn port_expr(
 
 /// The wire of this number; none where it is not there.
 fn wire_expr(alloc: Global, names: &[Text], wire: usize) -> Result<Option<Expr>, NoMemory>
-    ensures { IfOk result (λ made. made ≡ option_map (λ name. Ref name All) (slice_get names.now wire)) }
+    ensures { IfOk result (λ made. made
+        ≡ option_map (λ name. Ref name All) (slice_get names.now wire)) }
 {
     match names.get(wire) {
         None => Ok(None),

@@ -28,7 +28,8 @@ pub fn designs_of_generated_files()
 
 /// A generated file breaks no rule.
 pub fn generated_files_break_no_rule()
-    ensures { (seed cells : ℕ) → 0 < cells → cells ≤ 2 ^ 64 → first_E (generated seed cells) ≡ None }
+    ensures { (seed cells : ℕ) → 0 < cells → cells ≤ 2 ^ 64
+        → first_E (generated seed cells) ≡ None }
 {}
 
 /// The design of a generated file is within the limit of a design.

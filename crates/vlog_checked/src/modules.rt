@@ -47,7 +47,8 @@ pub(crate) fn first_in_reached(
     modules: &[&Module],
 ) -> Result<Option<Refusal>, NoMemory>
     requires { names ≡ map (λ m. m.name) all.now }
-    ensures { IfOk result (λ found. found ≡ first_of (module_refusals all.now (modules_of modules.now))) }
+    ensures { IfOk result (λ found. found
+        ≡ first_of (module_refusals all.now (modules_of modules.now))) }
 {
     let unknown = EachStatement {
         rule: UnknownModules {

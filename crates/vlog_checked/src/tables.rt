@@ -44,7 +44,9 @@ pub(crate) fn scopes_of<'a>(
 /// The first name in an expression that is no port and no net, or else the first select that means no bits. Where there is none, each
 /// name is looked up once.
 fn first_in_uses(alloc: Global, scopes: &[ModuleScope]) -> Result<Option<Refusal>, NoMemory>
-    ensures { IfOk result (λ found. found ≡ first_of (in_modules G6 unknown_names (modules_in scopes.now) ++ in_modules G7 bad_selects (modules_in scopes.now))) }
+    ensures { IfOk result (λ found. found
+        ≡ first_of (in_modules G6 unknown_names (modules_in scopes.now)
+        ++ in_modules G7 bad_selects (modules_in scopes.now))) }
 {
     let wrong = have_wrong_use(alloc, scopes)?;
     if !wrong {
@@ -62,7 +64,8 @@ fn first_in_names(
     scopes: &[ModuleScope],
     unequal: Option<Refusal>,
 ) -> Result<Option<Refusal>, NoMemory>
-    requires { unequal ≡ first_of (in_modules G8 (unequal_widths (modules_in scopes.now)) (modules_in scopes.now)) }
+    requires { unequal ≡ first_of
+        (in_modules G8 (unequal_widths (modules_in scopes.now)) (modules_in scopes.now)) }
     ensures { IfOk result (λ found. found ≡ first_of (name_refusals (modules_in scopes.now))) }
 {
     if let Some(refusal) = first_in_uses(alloc, scopes)? {
@@ -73,7 +76,8 @@ fn first_in_names(
 
 /// The first connection that breaks a rule.
 fn first_in_connections(alloc: Global, library: &ModulePorts) -> Result<Option<Refusal>, NoMemory>
-    ensures { IfOk result (λ found. found ≡ first_of (connection_refusals (modules_of library.now.modules.items))) }
+    ensures { IfOk result (λ found. found
+        ≡ first_of (connection_refusals (modules_of library.now.modules.items))) }
 {
     let unknown = EachStatement {
         rule: EachInstance {
@@ -105,7 +109,8 @@ fn first_in_widths(
     loose: Option<Refusal>,
 ) -> Result<Option<Refusal>, NoMemory>
     requires same { modules_of modules.now ≡ modules_in scopes.now }
-    requires loose { loose ≡ first_of (in_modules G13 (unsized (modules_in scopes.now)) (modules_in scopes.now)) }
+    requires loose { loose ≡ first_of
+        (in_modules G13 (unsized (modules_in scopes.now)) (modules_in scopes.now)) }
     ensures { IfOk result (λ found. found ≡ first_of (width_refusals (modules_in scopes.now))) }
 {
     if let Some(refusal) = first_in_scopes(alloc, &TooWide, scopes)? {
@@ -151,9 +156,13 @@ pub(crate) fn first_in_tables(
     requires same { modules_in scopes.now ≡ modules_of library.now.modules.items }
     requires kept { CanHaveTables (modules_of library.now.modules.items) }
     requires within { top < length library.now.modules.items }
-    requires unequal { unequal ≡ first_of (in_modules G8 (unequal_widths (modules_in scopes.now)) (modules_in scopes.now)) }
-    requires loose { loose ≡ first_of (in_modules G13 (unsized (modules_in scopes.now)) (modules_in scopes.now)) }
-    ensures { IfOk result (λ found. found ≡ first_of (table_refusals (modules_of library.now.modules.items))) }
+    requires unequal { unequal
+        ≡ first_of (in_modules G8 (unequal_widths (modules_in scopes.now))
+        (modules_in scopes.now)) }
+    requires loose { loose ≡ first_of
+        (in_modules G13 (unsized (modules_in scopes.now)) (modules_in scopes.now)) }
+    ensures { IfOk result (λ found. found
+        ≡ first_of (table_refusals (modules_of library.now.modules.items))) }
 {
     if let Some(refusal) = first_in_names(alloc, scopes, unequal)? {
         return Ok(Some(refusal));

@@ -68,8 +68,10 @@ fn few_units(
     most: u64,
 ) -> Result<(), ResolveError>
     requires ready { AreReady names.now (modules_in scopes.now) }
-    requires most { most ≡ min (2 ^ 64 - 1) (sum_by (most_joins (modules_in scopes.now)) (modules_in scopes.now)) }
-    ensures { MatchResult result (λ done. units (cells_from (modules_in scopes.now)) ≤ unit_limit) (IsFaultFrom (cells_from (modules_in scopes.now))) }
+    requires most { most ≡ min (2 ^ 64 - 1)
+        (sum_by (most_joins (modules_in scopes.now)) (modules_in scopes.now)) }
+    ensures { MatchResult result (λ done. units (cells_from (modules_in scopes.now)) ≤ unit_limit)
+        (IsFaultFrom (cells_from (modules_in scopes.now))) }
 {
     if shows_few(scopes, most) {
         return Ok(());
@@ -90,10 +92,13 @@ fn design_of(
     most: u64,
 ) -> Result<Hier, ResolveError>
     requires ready { AreReady names.now (modules_in scopes.now) }
-    requires most { most ≡ min (2 ^ 64 - 1) (sum_by (most_joins (modules_in scopes.now)) (modules_in scopes.now)) }
+    requires most { most ≡ min (2 ^ 64 - 1)
+        (sum_by (most_joins (modules_in scopes.now)) (modules_in scopes.now)) }
     requires fit { CellsFit (cells_from (modules_in scopes.now)) top }
-    requires no_recursion { (number : ℕ) → ¬ ReachesItself (cells_below (cells_from (modules_in scopes.now))) number }
-    ensures { MatchResult result (IsDesignFrom (cells_from (modules_in scopes.now)) top) (IsFaultFrom (cells_from (modules_in scopes.now))) }
+    requires no_recursion { (number : ℕ)
+        → ¬ ReachesItself (cells_below (cells_from (modules_in scopes.now))) number }
+    ensures { MatchResult result (IsDesignFrom (cells_from (modules_in scopes.now)) top)
+        (IsFaultFrom (cells_from (modules_in scopes.now))) }
 {
     few_units(alloc, names, scopes, most)?;
     let cells = cells_of(alloc, names, scopes)?;

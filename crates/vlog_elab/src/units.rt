@@ -46,7 +46,8 @@ fn units_of_module(
 ) -> Result<u64, NoMemory>
     requires named { names.now ≡ map (λ m. m.name) (modules_in scopes.now) }
     requires ready { IsReady (modules_in scopes.now) scope.now.module.now }
-    ensures { IfOk result (λ count. count ≡ min (2 ^ 64 - 1) (module_units (modules_in scopes.now) scope.now.module.now)) }
+    ensures { IfOk result (λ count. count
+        ≡ min (2 ^ 64 - 1) (module_units (modules_in scopes.now) scope.now.module.now)) }
 {
     let joins = join_count(alloc, names, scopes, scope)?;
     Ok(table_bits(&scope.table).saturating_add(joins))
@@ -83,7 +84,8 @@ fn bits_of(scopes: &[ModuleScope]) -> u64
 /// Whether it shows, with no join counted, that the units of the cells of the modules are within the limit of a design, by the bits of
 /// their left sides: `false` says nothing.
 pub(crate) fn shows_few(scopes: &[ModuleScope], most: u64) -> bool
-    requires { most ≡ min (2 ^ 64 - 1) (sum_by (most_joins (modules_in scopes.now)) (modules_in scopes.now)) }
+    requires { most ≡ min (2 ^ 64 - 1)
+        (sum_by (most_joins (modules_in scopes.now)) (modules_in scopes.now)) }
     ensures { result ≡ true → units (cells_from (modules_in scopes.now)) ≤ unit_limit }
 {
     bits_of(scopes).saturating_add(most) <= UNIT_LIMIT

@@ -27,5 +27,6 @@ pub fn keywords_are_read_wholly()
 
 /// One of some keywords, at least one.
 pub fn choices_are_read_wholly<T: Copy>()
-    ensures { (words : List (List ℕ × T)) (word : List ℕ) (value : T) → meant_by words word ≡ Some value → IsReadWholly (choice words) Any }
+    ensures { (words : List (List ℕ × T)) (word : List ℕ) (value : T)
+        → meant_by words word ≡ Some value → IsReadWholly (choice words) Any }
 {}

@@ -17,15 +17,19 @@ pub fn first_faults_fit()
 
 /// A token of an expression is refused for a reason that fits it.
 pub fn expression_reasons_fit()
-    ensures { (left : Bool) (room : ℕ) (tokens : List (Terminal VFound Place)) (x : Terminal VFound Place) (reason : Reason) → read tt (expr left room) tokens ≡ Err (refused x reason) → Fits x reason }
+    ensures { (left : Bool) (room : ℕ) (tokens : List (Terminal VFound Place))
+        (x : Terminal VFound Place) (reason : Reason)
+        → read tt (expr left room) tokens ≡ Err (refused x reason) → Fits x reason }
 {}
 
 /// A token of a constant is refused for a reason that fits it.
 pub fn constant_reasons_fit()
-    ensures { (tokens : List (Terminal VFound Place)) (x : Terminal VFound Place) (reason : Reason) → read tt constant tokens ≡ Err (refused x reason) → Fits x reason }
+    ensures { (tokens : List (Terminal VFound Place)) (x : Terminal VFound Place) (reason : Reason)
+        → read tt constant tokens ≡ Err (refused x reason) → Fits x reason }
 {}
 
 /// A token of attributes is refused for a reason that fits it.
 pub fn attribute_reasons_fit()
-    ensures { (tokens : List (Terminal VFound Place)) (x : Terminal VFound Place) (reason : Reason) → read tt attrs tokens ≡ Err (refused x reason) → Fits x reason }
+    ensures { (tokens : List (Terminal VFound Place)) (x : Terminal VFound Place) (reason : Reason)
+        → read tt attrs tokens ≡ Err (refused x reason) → Fits x reason }
 {}

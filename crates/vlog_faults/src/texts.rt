@@ -6,5 +6,6 @@ ghost use Rattle.vlog_modules.specs.AnyLength.{VlogSpells, VlogFails};
 
 /// Bytes of any length spell a file or have a first fault.
 pub fn a_file_or_a_first_fault()
-    ensures { (bytes : List ℕ) → ((file : VlogFile) × VlogSpells bytes file) ⊎ ((fault : TextFault) × VlogFails bytes fault) }
+    ensures { (bytes : List ℕ) → ((file : VlogFile) × VlogSpells bytes file)
+        ⊎ ((fault : TextFault) × VlogFails bytes fault) }
 {}

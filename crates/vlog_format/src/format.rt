@@ -46,7 +46,8 @@ fn format_pieces<S: Source>(
     cursor: &mut VCursor,
     source: &mut S,
 ) -> Result<FileText, ReadError>
-    ensures { FormatsPieces result cursor.old cursor.new (S.supply source.old) (S.supply source.new) }
+    ensures { FormatsPieces result cursor.old cursor.new
+        (S.supply source.old) (S.supply source.new) }
 {
     let mut made = Made {
         text: FileText::new(alloc),
@@ -62,7 +63,8 @@ fn format_pieces<S: Source>(
 /// Adds a piece of the file: the text of a module, or what a directive says.
 #[tactic(auto, unfolding(vlog_modules::specs::Starts::with_piece))]
 fn add_piece(made: &mut Made, piece: Piece)
-    ensures { (so_far : SoFar) → IsMadeOf made.old so_far → IsMadeOf made.new (with_piece so_far piece) }
+    ensures { (so_far : SoFar) → IsMadeOf made.old so_far
+        → IsMadeOf made.new (with_piece so_far piece) }
 {
     match piece {
         Piece::Implicit(implicit) => made.implicit = implicit,

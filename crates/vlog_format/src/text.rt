@@ -60,8 +60,11 @@ impl Sink for TextSink {
         requires { 0 < length bytes.now }
         ensures some { IfOk result (λ n. 0 < n) }
         ensures bound { WritesAtMost result bytes.now }
-        ensures gains { IfOk result (λ n. Gains (λ bs. bs ≡ self.old.bytes) (λ bs. bs ≡ self.new.bytes) (take n bytes.now)) }
-        ensures keeps { OnErr result (Keeps (λ bs. bs ≡ self.old.bytes) (λ bs. bs ≡ self.new.bytes)) }
+        ensures gains { IfOk result
+            (λ n. Gains (λ bs. bs ≡ self.old.bytes) (λ bs. bs
+            ≡ self.new.bytes) (take n bytes.now)) }
+        ensures keeps { OnErr result
+            (Keeps (λ bs. bs ≡ self.old.bytes) (λ bs. bs ≡ self.new.bytes)) }
         ensures cause { HasCause self.old.faults self.new.faults result }
         ensures accepted { (n : ℕ) → ⊥ → IsOkAnd result (λ k. ⊥) }
     {
@@ -103,7 +106,8 @@ impl FileText {
 
     /// Adds the text of a module. Where memory runs out nothing more is added, and `finish` says it.
     pub fn add(&mut self, module: &Module)
-        ensures { (ms : List Module) → IsTextOf self.old ms → IsTextOf self.new (ms ++ «module».now ∷ []) }
+        ensures { (ms : List Module) → IsTextOf self.old ms
+            → IsTextOf self.new (ms ++ «module».now ∷ []) }
     {
         lay_next_module(self.implicit, module, &mut self.output, &mut self.sink);
         self.note_implicit(module);
@@ -114,7 +118,8 @@ impl FileText {
     /// # Errors
     /// `NoMemory`: memory ran out, here or before.
     pub fn finish(self) -> Result<Vec<u8>, NoMemory>
-        ensures { (ms : List Module) → IsTextOf self ms → IfOk result (λ text. text.items ≡ vlog_text (record { modules = ms })) }
+        ensures { (ms : List Module) → IsTextOf self ms
+            → IfOk result (λ text. text.items ≡ vlog_text (record { modules = ms })) }
     {
         let FileText {
             mut sink,

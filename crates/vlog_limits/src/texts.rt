@@ -17,20 +17,28 @@ ghost use Rattle.vlog_modules.specs.AnyLength.{VlogSpells, VlogFails};
 
 /// Bytes read as a file exactly where they spell it and are within the limit of an input.
 pub fn files_within_the_limit()
-    ensures { (bytes : List ℕ) (file : VlogFile) → VlogReads bytes file ↔ (VlogSpells bytes file × (length bytes ≤ LIMIT)) }
+    ensures { (bytes : List ℕ) (file : VlogFile) → VlogReads bytes file
+        ↔ (VlogSpells bytes file × (length bytes ≤ LIMIT)) }
 {}
 
 /// A first fault is that of the bytes within the limit exactly where it is that of all bytes and its stop is within the limit.
 pub fn first_faults_within_the_limit()
-    ensures { (bytes : List ℕ) (fault : TextFault) → VlogFault bytes fault ↔ (VlogFails bytes fault × (fault.stop ≤ LIMIT)) }
+    ensures { (bytes : List ℕ) (fault : TextFault) → VlogFault bytes fault
+        ↔ (VlogFails bytes fault × (fault.stop ≤ LIMIT)) }
 {}
 
 /// Bytes are cut at the limit exactly where they are longer and each of their first faults has its stop past it.
 pub fn cut_behind_the_limit()
-    ensures { (bytes : List ℕ) → VlogCut bytes ↔ ((LIMIT < length bytes) × ((fault : TextFault) → VlogFails bytes fault → LIMIT < fault.stop)) }
+    ensures { (bytes : List ℕ) → VlogCut bytes
+        ↔ ((LIMIT < length bytes)
+        × ((fault : TextFault) → VlogFails bytes fault → LIMIT < fault.stop)) }
 {}
 
 /// The first token of a text that no file has there, after the tokens before it, is the first fault, for some reason; so is the end.
 pub fn first_fault_is_there()
-    ensures { (bytes : List ℕ) (before after : List (Terminal VFound Place)) (x : Terminal VFound Place) → (all_tokens bytes).tokens ≡ before ++ x ∷ after → Begins tt (whole trailing file_part) before → ¬ Begins tt (whole trailing file_part) (before ++ x ∷ []) → (reason : Reason) × VlogFails bytes (fault_at vlog x reason) }
+    ensures { (bytes : List ℕ) (before after : List (Terminal VFound Place))
+        (x : Terminal VFound Place) → (all_tokens bytes).tokens ≡ before ++ x ∷ after
+        → Begins tt (whole trailing file_part) before
+        → ¬ Begins tt (whole trailing file_part) (before ++ x ∷ []) → (reason : Reason)
+        × VlogFails bytes (fault_at vlog x reason) }
 {}

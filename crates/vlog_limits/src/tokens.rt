@@ -15,7 +15,8 @@ pub fn tokens_are_all()
 
 /// The tokens within the limit are a front of all tokens.
 pub fn tokens_are_a_front()
-    ensures { (bytes : List ℕ) → (rest : List (Terminal VFound Place)) × ((all_tokens bytes).tokens ≡ (vtokens bytes).tokens ++ rest) }
+    ensures { (bytes : List ℕ) → (rest : List (Terminal VFound Place))
+        × ((all_tokens bytes).tokens ≡ (vtokens bytes).tokens ++ rest) }
 {}
 
 /// The tokens are cut at the limit only where there are more bytes.
@@ -25,10 +26,12 @@ pub fn tokens_are_cut_behind_the_limit()
 
 /// Where bytes that are no token are found within the limit, all tokens end there.
 pub fn no_token_is_found_within_the_limit()
-    ensures { (bytes : List ℕ) (fault : TextFault) → (vtokens bytes).finish ≡ Bad fault → (all_tokens bytes ≡ vtokens bytes) × (fault.stop ≤ LIMIT) }
+    ensures { (bytes : List ℕ) (fault : TextFault) → (vtokens bytes).finish ≡ Bad fault
+        → (all_tokens bytes ≡ vtokens bytes) × (fault.stop ≤ LIMIT) }
 {}
 
 /// The stops of the tokens of a text rise.
 pub fn stops_rise()
-    ensures { (bytes : List ℕ) → Rises stop_of 0 (all_tokens bytes).tokens (all_tokens bytes).finish }
+    ensures { (bytes : List ℕ)
+        → Rises stop_of 0 (all_tokens bytes).tokens (all_tokens bytes).finish }
 {}

@@ -52,7 +52,8 @@ pub struct SoFar {
 /// `Text`: the first fault, with its place, where its stop lies within so many bytes. `TooLong`: the text is longer, and it has no such
 /// fault. `ReadFault`: the source failed. `NoMemory`: memory ran out. It never answers `Spent`.
 pub fn read_vlog<S: Source>(alloc: Global, source: &mut S) -> Result<VlogFile, ReadError>
-    ensures reads { ReadsText vlog trailing tt same file result (S.supply source.old) (S.supply source.new) }
+    ensures reads { ReadsText vlog trailing tt same file result
+        (S.supply source.old) (S.supply source.new) }
     ensures value { IfOk result IsVlogValue }
     ensures size { IfOk result (λ file. vlog_size file ≤ LIMIT) }
 {
@@ -72,7 +73,8 @@ fn read_file<S: Source>(
     cursor: &mut VCursor,
     source: &mut S,
 ) -> Result<VlogFile, ReadError>
-    ensures reads { ReadsWhole vlog same file result cursor.old cursor.new (S.supply source.old) (S.supply source.new) }
+    ensures reads { ReadsWhole vlog same file result cursor.old cursor.new
+        (S.supply source.old) (S.supply source.new) }
     ensures value { IfOk result IsVlogValue }
     ensures size { IfOk result (λ file. vlog_size file ≤ room cursor.old - 1) }
 {
@@ -118,7 +120,8 @@ pub fn at_piece<S: Source>(
     cursor: &mut VCursor,
     source: &mut S,
 ) -> Result<bool, ReadError>
-    ensures { LooksFor vlog begins_piece result cursor.old cursor.new (S.supply source.old) (S.supply source.new) }
+    ensures { LooksFor vlog begins_piece result cursor.old cursor.new
+        (S.supply source.old) (S.supply source.new) }
 {
     cursor.look(alloc, source)?;
     if let Some(found) = cursor.ahead() {
@@ -166,7 +169,8 @@ pub fn read_piece<S: Source>(
     implicit: bool,
     source: &mut S,
 ) -> Result<Piece, ReadError>
-    ensures reads { Reads vlog same (piece implicit) result cursor.old cursor.new (S.supply source.old) (S.supply source.new) }
+    ensures reads { Reads vlog same (piece implicit) result cursor.old cursor.new
+        (S.supply source.old) (S.supply source.new) }
     ensures value { IfOk result IsPiece }
     ensures size { IfOk result (λ p. piece_size p + room cursor.new < room cursor.old) }
 {
@@ -188,7 +192,8 @@ fn takes_directive<S: Source>(
     cursor: &mut VCursor,
     source: &mut S,
 ) -> Result<Option<Directive>, ReadError>
-    ensures { TakesNext vlog same (λ _ x. at_directive x.token) result cursor.old cursor.new (S.supply source.old) (S.supply source.new) }
+    ensures { TakesNext vlog same (λ _ x. at_directive x.token) result cursor.old cursor.new
+        (S.supply source.old) (S.supply source.new) }
 {
     let next = cursor.next_out(alloc, source)?;
     let Some(VFound { place, stop, token }) = next else {
@@ -219,7 +224,8 @@ fn read_directive<S: Source>(
     source: &mut S,
 ) -> Result<bool, ReadError>
     requires { IsFalse cursor.old.spent }
-    ensures { ReadsMaybe vlog same (said_by word) result cursor.old cursor.new (S.supply source.old) (S.supply source.new) }
+    ensures { ReadsMaybe vlog same (said_by word) result cursor.old cursor.new
+        (S.supply source.old) (S.supply source.new) }
 {
     match word {
         Directive::Nettype => {
@@ -236,7 +242,8 @@ fn read_net_type<S: Source>(
     cursor: &mut VCursor,
     source: &mut S,
 ) -> Result<bool, ReadError>
-    ensures { Reads vlog same net_type result cursor.old cursor.new (S.supply source.old) (S.supply source.new) }
+    ensures { Reads vlog same net_type result cursor.old cursor.new
+        (S.supply source.old) (S.supply source.new) }
 {
     let VFound { place, stop, token } = cursor.take(alloc, source)?;
     let said = net_type_of(alloc, token);
@@ -275,7 +282,8 @@ fn read_one_module<S: Source>(
     implicit: bool,
     source: &mut S,
 ) -> Result<Module, ReadError>
-    ensures reads { Reads vlog same (one_module implicit) result cursor.old cursor.new (S.supply source.old) (S.supply source.new) }
+    ensures reads { Reads vlog same (one_module implicit) result cursor.old cursor.new
+        (S.supply source.old) (S.supply source.new) }
     ensures value { IfOk result IsModule }
     ensures size { IfOk result (λ m. module_size m + 1 + room cursor.new < room cursor.old) }
 {

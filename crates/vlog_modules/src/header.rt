@@ -28,7 +28,8 @@ fn read_dir<S: Source>(
     cursor: &mut VCursor,
     source: &mut S,
 ) -> Result<Dir, ReadError>
-    ensures { Reads vlog same (choice dir_words) result cursor.old cursor.new (S.supply source.old) (S.supply source.new) }
+    ensures { Reads vlog same (choice dir_words) result cursor.old cursor.new
+        (S.supply source.old) (S.supply source.new) }
 {
     let dir = cursor.choose(
         alloc,
@@ -52,9 +53,11 @@ fn read_port_rest<S: Source>(
     source: &mut S,
 ) -> Result<PortDecl, ReadError>
     requires { AreAttrs attrs }
-    ensures reads { Reads vlog same (port_rest attrs dir) result cursor.old cursor.new (S.supply source.old) (S.supply source.new) }
+    ensures reads { Reads vlog same (port_rest attrs dir) result cursor.old cursor.new
+        (S.supply source.old) (S.supply source.new) }
     ensures value { IfOk result IsPortDecl }
-    ensures size { IfOk result (λ d. port_size d + room cursor.new ≤ room cursor.old + length attrs) }
+    ensures size { IfOk result
+        (λ d. port_size d + room cursor.new ≤ room cursor.old + length attrs) }
 {
     let kind = read_port_kind(alloc, cursor, source)?;
     let signed = read_signed(alloc, cursor, source)?;
@@ -79,7 +82,8 @@ fn read_port_decl<S: Source>(
     cursor: &mut VCursor,
     source: &mut S,
 ) -> Result<PortDecl, ReadError>
-    ensures reads { Reads vlog same port_decl result cursor.old cursor.new (S.supply source.old) (S.supply source.new) }
+    ensures reads { Reads vlog same port_decl result cursor.old cursor.new
+        (S.supply source.old) (S.supply source.new) }
     ensures value { IfOk result IsPortDecl }
     ensures size { IfOk result (λ d. port_size d + room cursor.new < room cursor.old) }
 {
@@ -98,9 +102,11 @@ fn read_port_turn<S: Source>(
     source: &mut S,
 ) -> Result<PortDecls, ReadError>
     requires { ArePorts decls }
-    ensures reads { Reads vlog same (port_turn decls) result cursor.old cursor.new (S.supply source.old) (S.supply source.new) }
+    ensures reads { Reads vlog same (port_turn decls) result cursor.old cursor.new
+        (S.supply source.old) (S.supply source.new) }
     ensures value { IfOk result ArePorts }
-    ensures size { IfOk result (λ ds. ports_size ds + room cursor.new ≤ room cursor.old + ports_size decls) }
+    ensures size { IfOk result
+        (λ ds. ports_size ds + room cursor.new ≤ room cursor.old + ports_size decls) }
 {
     let PortDecls {
         mut before,
@@ -128,9 +134,11 @@ fn read_port_decls<S: Source>(
     source: &mut S,
 ) -> Result<Seq<PortDecl>, ReadError>
     requires { ArePorts first }
-    ensures reads { Reads vlog same (port_decls first) result cursor.old cursor.new (S.supply source.old) (S.supply source.new) }
+    ensures reads { Reads vlog same (port_decls first) result cursor.old cursor.new
+        (S.supply source.old) (S.supply source.new) }
     ensures value { IfOk result (AreSome IsPortDecl) }
-    ensures size { IfOk result (λ ds. list_size port_size ds + room cursor.new < room cursor.old + ports_size first) }
+    ensures size { IfOk result
+        (λ ds. list_size port_size ds + room cursor.new < room cursor.old + ports_size first) }
 {
     let mut decls = first;
     while cursor.takes(alloc, b',', source)? {
@@ -152,7 +160,8 @@ fn read_name_header<S: Source>(
 ) -> Result<Header, ReadError>
     requires unspent { IsFalse cursor.old.spent }
     requires name { IsName first }
-    ensures reads { Reads vlog same (name_header first) result cursor.old cursor.new (S.supply source.old) (S.supply source.new) }
+    ensures reads { Reads vlog same (name_header first) result cursor.old cursor.new
+        (S.supply source.old) (S.supply source.new) }
     ensures value { IfOk result IsHeader }
     ensures size { IfOk result (λ header. header_size header + room cursor.new ≤ room cursor.old) }
 {
@@ -169,7 +178,8 @@ fn read_decl_header<S: Source>(
     cursor: &mut VCursor,
     source: &mut S,
 ) -> Result<Header, ReadError>
-    ensures reads { Reads vlog same decl_header result cursor.old cursor.new (S.supply source.old) (S.supply source.new) }
+    ensures reads { Reads vlog same decl_header result cursor.old cursor.new
+        (S.supply source.old) (S.supply source.new) }
     ensures value { IfOk result IsHeader }
     ensures size { IfOk result (λ header. header_size header + room cursor.new ≤ room cursor.old) }
 {
@@ -189,7 +199,8 @@ fn read_some_header<S: Source>(
     cursor: &mut VCursor,
     source: &mut S,
 ) -> Result<Header, ReadError>
-    ensures reads { Reads vlog same some_header result cursor.old cursor.new (S.supply source.old) (S.supply source.new) }
+    ensures reads { Reads vlog same some_header result cursor.old cursor.new
+        (S.supply source.old) (S.supply source.new) }
     ensures value { IfOk result IsHeader }
     ensures size { IfOk result (λ header. header_size header + room cursor.new ≤ room cursor.old) }
 {
@@ -212,7 +223,8 @@ pub(crate) fn read_header<S: Source>(
     cursor: &mut VCursor,
     source: &mut S,
 ) -> Result<Header, ReadError>
-    ensures reads { ReadsMaybe vlog same header result cursor.old cursor.new (S.supply source.old) (S.supply source.new) }
+    ensures reads { ReadsMaybe vlog same header result cursor.old cursor.new
+        (S.supply source.old) (S.supply source.new) }
     ensures value { IfOk result IsHeader }
     ensures size { IfOk result (λ header. header_size header + room cursor.new ≤ room cursor.old) }
 {

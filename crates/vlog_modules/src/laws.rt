@@ -15,37 +15,44 @@ ghost use Rattle.vlog_modules.specs.Text.{VlogReads, VlogFault, VlogCut};
 
 /// A text reads as at most one file.
 pub fn one_file()
-    ensures { (bytes : List ℕ) (file other : VlogFile) → VlogReads bytes file → VlogReads bytes other → file ≡ other }
+    ensures { (bytes : List ℕ) (file other : VlogFile) → VlogReads bytes file
+        → VlogReads bytes other → file ≡ other }
 {}
 
 /// A text has at most one first fault.
 pub fn one_first_fault()
-    ensures { (bytes : List ℕ) (fault other : TextFault) → VlogFault bytes fault → VlogFault bytes other → fault ≡ other }
+    ensures { (bytes : List ℕ) (fault other : TextFault) → VlogFault bytes fault
+        → VlogFault bytes other → fault ≡ other }
 {}
 
 /// A text that reads as a file has no first fault, and neither has a text that is cut; no text that reads as a file is cut.
 pub fn file_or_first_fault()
-    ensures reads { (bytes : List ℕ) (file : VlogFile) (fault : TextFault) → VlogReads bytes file → VlogFault bytes fault → ⊥ }
+    ensures reads { (bytes : List ℕ) (file : VlogFile) (fault : TextFault) → VlogReads bytes file
+        → VlogFault bytes fault → ⊥ }
     ensures whole { (bytes : List ℕ) (file : VlogFile) → VlogReads bytes file → VlogCut bytes → ⊥ }
     ensures cut { (bytes : List ℕ) (fault : TextFault) → VlogFault bytes fault → VlogCut bytes → ⊥ }
 {}
 
 /// The tokens that read as the declarations of a header, behind its `(`, are those that the extended BNF has for them.
 pub fn declaration_texts()
-    ensures { (ts : Tokens) (ds : List PortDecl) → Spells tt grammar.decl_header ts (Decls ds) ↔ DeclsText ts ds }
+    ensures { (ts : Tokens) (ds : List PortDecl) → Spells tt grammar.decl_header ts (Decls ds)
+        ↔ DeclsText ts ds }
 {}
 
 /// The tokens that read as the parameters of a header, behind its `#`, are those that the extended BNF has for them.
 pub fn parameter_texts()
-    ensures { (ts : Tokens) (gs : List ParamDecl) → Spells tt grammar.params_rest ts gs ↔ GroupsText ts gs }
+    ensures { (ts : Tokens) (gs : List ParamDecl) → Spells tt grammar.params_rest ts gs
+        ↔ GroupsText ts gs }
 {}
 
 /// The tokens that read as the items of a module, up to its `endmodule`, are those that the extended BNF has for them.
 pub fn item_texts()
-    ensures { (ts : Tokens) (is : List ItemV) → Spells tt (grammar.items []) ts is ↔ ItemsText ts is }
+    ensures { (ts : Tokens) (is : List ItemV) → Spells tt (grammar.items []) ts is
+        ↔ ItemsText ts is }
 {}
 
 /// The tokens that read as a file are those that the extended BNF has for it.
 pub fn file_texts()
-    ensures { (ts : Tokens) (file : VlogFile) → Spells tt grammar.file ts file ↔ FileText true ts file.modules }
+    ensures { (ts : Tokens) (file : VlogFile) → Spells tt grammar.file ts file
+        ↔ FileText true ts file.modules }
 {}

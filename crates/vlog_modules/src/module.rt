@@ -83,7 +83,8 @@ fn at_item<S: Source>(
     cursor: &mut VCursor,
     source: &mut S,
 ) -> Result<bool, ReadError>
-    ensures { LooksFor vlog begins_item result cursor.old cursor.new (S.supply source.old) (S.supply source.new) }
+    ensures { LooksFor vlog begins_item result cursor.old cursor.new
+        (S.supply source.old) (S.supply source.new) }
 {
     let held = cursor.held_word();
     let count = held.len();
@@ -106,7 +107,8 @@ fn at_item_token<S: Source>(
     cursor: &mut VCursor,
     source: &mut S,
 ) -> Result<bool, ReadError>
-    ensures { LooksFor vlog begins_item result cursor.old cursor.new (S.supply source.old) (S.supply source.new) }
+    ensures { LooksFor vlog begins_item result cursor.old cursor.new
+        (S.supply source.old) (S.supply source.new) }
 {
     cursor.look(alloc, source)?;
     if let Some(found) = cursor.ahead() {
@@ -122,9 +124,11 @@ fn read_items<S: Source>(
     cursor: &mut VCursor,
     source: &mut S,
 ) -> Result<Seq<ItemV>, ReadError>
-    ensures reads { Reads vlog same (items []) result cursor.old cursor.new (S.supply source.old) (S.supply source.new) }
+    ensures reads { Reads vlog same (items []) result cursor.old cursor.new
+        (S.supply source.old) (S.supply source.new) }
     ensures value { IfOk result (AllByRecursion IsItem) }
-    ensures size { IfOk result (λ items. list_size item_size items + room cursor.new < room cursor.old) }
+    ensures size { IfOk result
+        (λ items. list_size item_size items + room cursor.new < room cursor.old) }
 {
     let mut items = Seq::empty(alloc);
     while at_item(alloc, cursor, source)? {
@@ -145,9 +149,11 @@ fn read_module_rest<S: Source>(
     source: &mut S,
 ) -> Result<Module, ReadError>
     requires { AreAttrs attrs }
-    ensures reads { Reads vlog same (module_rest implicit attrs) result cursor.old cursor.new (S.supply source.old) (S.supply source.new) }
+    ensures reads { Reads vlog same (module_rest implicit attrs) result cursor.old cursor.new
+        (S.supply source.old) (S.supply source.new) }
     ensures value { IfOk result IsModule }
-    ensures size { IfOk result (λ m. module_size m + room cursor.new < room cursor.old + length attrs) }
+    ensures size { IfOk result
+        (λ m. module_size m + room cursor.new < room cursor.old + length attrs) }
 {
     let name = cursor.name(alloc, source)?;
     let params = read_params(alloc, cursor, source)?;
@@ -174,9 +180,11 @@ pub(crate) fn read_module<S: Source>(
     source: &mut S,
 ) -> Result<Module, ReadError>
     requires { AreAttrs attrs }
-    ensures reads { Reads vlog same (module_of implicit attrs) result cursor.old cursor.new (S.supply source.old) (S.supply source.new) }
+    ensures reads { Reads vlog same (module_of implicit attrs) result cursor.old cursor.new
+        (S.supply source.old) (S.supply source.new) }
     ensures value { IfOk result IsModule }
-    ensures size { IfOk result (λ m. module_size m + 1 + room cursor.new < room cursor.old + length attrs) }
+    ensures size { IfOk result
+        (λ m. module_size m + 1 + room cursor.new < room cursor.old + length attrs) }
 {
     cursor.keyword(alloc, b"module", source)?;
     let parts = read_module_rest(alloc, cursor, implicit, attrs, source)?;

@@ -29,7 +29,8 @@ fn read_param_group<S: Source>(
     cursor: &mut VCursor,
     source: &mut S,
 ) -> Result<ParamDecl, ReadError>
-    ensures reads { Reads vlog same param_group result cursor.old cursor.new (S.supply source.old) (S.supply source.new) }
+    ensures reads { Reads vlog same param_group result cursor.old cursor.new
+        (S.supply source.old) (S.supply source.new) }
     ensures value { IfOk result IsParamGroup }
     ensures size { IfOk result (λ group. param_size group + room cursor.new < room cursor.old) }
 {
@@ -56,9 +57,11 @@ fn read_more_set<S: Source>(
 ) -> Result<ParamGroups, ReadError>
     requires groups { AreGroups groups }
     requires name { IsName name }
-    ensures reads { Reads vlog same (more_set groups name) result cursor.old cursor.new (S.supply source.old) (S.supply source.new) }
+    ensures reads { Reads vlog same (more_set groups name) result cursor.old cursor.new
+        (S.supply source.old) (S.supply source.new) }
     ensures value { IfOk result AreGroups }
-    ensures size { IfOk result (λ gs. groups_size gs + room cursor.new ≤ room cursor.old + groups_size groups) }
+    ensures size { IfOk result
+        (λ gs. groups_size gs + room cursor.new ≤ room cursor.old + groups_size groups) }
 {
     cursor.mark(alloc, b'=', source)?;
     let value = read_const(alloc, cursor, source)?;
@@ -76,9 +79,11 @@ fn read_param_turn<S: Source>(
     source: &mut S,
 ) -> Result<ParamGroups, ReadError>
     requires { AreGroups groups }
-    ensures reads { Reads vlog same (param_turn groups) result cursor.old cursor.new (S.supply source.old) (S.supply source.new) }
+    ensures reads { Reads vlog same (param_turn groups) result cursor.old cursor.new
+        (S.supply source.old) (S.supply source.new) }
     ensures value { IfOk result AreGroups }
-    ensures size { IfOk result (λ gs. groups_size gs + room cursor.new ≤ room cursor.old + groups_size groups) }
+    ensures size { IfOk result
+        (λ gs. groups_size gs + room cursor.new ≤ room cursor.old + groups_size groups) }
 {
     match cursor.takes_name(alloc, source)? {
         Some(name) => {
@@ -103,9 +108,11 @@ fn read_param_groups<S: Source>(
     source: &mut S,
 ) -> Result<Seq<ParamDecl>, ReadError>
     requires { AreGroups first }
-    ensures reads { Reads vlog same (param_groups first) result cursor.old cursor.new (S.supply source.old) (S.supply source.new) }
+    ensures reads { Reads vlog same (param_groups first) result cursor.old cursor.new
+        (S.supply source.old) (S.supply source.new) }
     ensures value { IfOk result (AllByRecursion IsParamGroup) }
-    ensures size { IfOk result (λ gs. list_size param_size gs + room cursor.new < room cursor.old + groups_size first) }
+    ensures size { IfOk result
+        (λ gs. list_size param_size gs + room cursor.new < room cursor.old + groups_size first) }
 {
     let mut groups = first;
     while cursor.takes(alloc, b',', source)? {
@@ -124,7 +131,8 @@ fn read_params_rest<S: Source>(
     cursor: &mut VCursor,
     source: &mut S,
 ) -> Result<Seq<ParamDecl>, ReadError>
-    ensures reads { Reads vlog same params_rest result cursor.old cursor.new (S.supply source.old) (S.supply source.new) }
+    ensures reads { Reads vlog same params_rest result cursor.old cursor.new
+        (S.supply source.old) (S.supply source.new) }
     ensures value { IfOk result (AllByRecursion IsParamGroup) }
     ensures size { IfOk result (λ gs. list_size param_size gs + room cursor.new ≤ room cursor.old) }
 {
@@ -145,7 +153,8 @@ pub(crate) fn read_params<S: Source>(
     cursor: &mut VCursor,
     source: &mut S,
 ) -> Result<Seq<ParamDecl>, ReadError>
-    ensures reads { ReadsMaybe vlog same params result cursor.old cursor.new (S.supply source.old) (S.supply source.new) }
+    ensures reads { ReadsMaybe vlog same params result cursor.old cursor.new
+        (S.supply source.old) (S.supply source.new) }
     ensures value { IfOk result (AllByRecursion IsParamGroup) }
     ensures size { IfOk result (λ gs. list_size param_size gs + room cursor.new ≤ room cursor.old) }
 {

@@ -7,10 +7,12 @@ ghost use Rattle.vlog_reasons.specs.FirstFault.{FailsByTable, FailsEarlyByTable}
 
 /// Bytes of any length have a first fault exactly where they have it by the table of reasons.
 pub fn first_faults_fit()
-    ensures { (bytes : List ℕ) (fault : TextFault) → VlogFails bytes fault ↔ FailsByTable bytes fault }
+    ensures { (bytes : List ℕ) (fault : TextFault) → VlogFails bytes fault
+        ↔ FailsByTable bytes fault }
 {}
 
 /// Told of an input is that first fault, exactly where its stop is within the limit.
 pub fn told_faults_fit()
-    ensures { (bytes : List ℕ) (fault : TextFault) → VlogFault bytes fault ↔ FailsEarlyByTable bytes fault }
+    ensures { (bytes : List ℕ) (fault : TextFault) → VlogFault bytes fault
+        ↔ FailsEarlyByTable bytes fault }
 {}

@@ -11,12 +11,15 @@ ghost use Rattle.vlog_modules.specs.AnyLength.{VlogSpells};
 /// The written text of a file that can be written spells the file, whatever its length, and reads as the file within the limit of an input.
 pub fn reads_back()
     ensures spells { (file : VlogFile) → IsVlogValue file → VlogSpells (vlog_text file) file }
-    ensures reads { (file : VlogFile) → IsVlogValue file → length (vlog_text file) ≤ LIMIT → VlogReads (vlog_text file) file }
+    ensures reads { (file : VlogFile) → IsVlogValue file → length (vlog_text file) ≤ LIMIT
+        → VlogReads (vlog_text file) file }
 {}
 
 /// What is written of a file that some bytes read as spells that file, and reads as it within the limit of an input. So the normal text of a
 /// file that was read is its own normal text.
 pub fn files_read_are_written()
-    ensures spells { (bytes : List ℕ) (file : VlogFile) → AreBytes bytes → VlogReads bytes file → VlogSpells (vlog_text file) file }
-    ensures again { (bytes : List ℕ) (file : VlogFile) → AreBytes bytes → VlogReads bytes file → length (vlog_text file) ≤ LIMIT → VlogReads (vlog_text file) file }
+    ensures spells { (bytes : List ℕ) (file : VlogFile) → AreBytes bytes → VlogReads bytes file
+        → VlogSpells (vlog_text file) file }
+    ensures again { (bytes : List ℕ) (file : VlogFile) → AreBytes bytes → VlogReads bytes file
+        → length (vlog_text file) ≤ LIMIT → VlogReads (vlog_text file) file }
 {}

@@ -29,7 +29,9 @@ fn push_pin<'a>(
     value: &'a Expr,
     out: &mut Vec<Tie<'a>>,
 ) -> Result<(), NoMemory>
-    ensures added { OnOk result (all_tied out.new.items ≡ all_tied out.old.items ++ map (pin_of instance.now number) (connection_to port.now slot value.now)) }
+    ensures added { OnOk result (all_tied out.new.items
+        ≡ all_tied out.old.items ++ map (pin_of instance.now number)
+        (connection_to port.now slot value.now)) }
 {
     match slot.place {
         SignalAt::AtPort(port_number) => {
@@ -56,7 +58,9 @@ fn push_by_name<'a>(
     conn: &'a NamedConn,
     out: &mut Vec<Tie<'a>>,
 ) -> Result<(), NoMemory>
-    ensures added { OnOk result (all_tied out.new.items ≡ all_tied out.old.items ++ map (pin_of instance.now number) (connection_by_name table.now conn.now.port conn.now.value)) }
+    ensures added { OnOk result (all_tied out.new.items
+        ≡ all_tied out.old.items ++ map (pin_of instance.now number)
+        (connection_by_name table.now conn.now.port conn.now.value)) }
 {
     match &conn.value {
         None => Ok(()),
@@ -75,7 +79,9 @@ fn push_by_place<'a>(
     value: &'a Option<Expr>,
     out: &mut Vec<Tie<'a>>,
 ) -> Result<(), NoMemory>
-    ensures added { OnOk result (all_tied out.new.items ≡ all_tied out.old.items ++ map (pin_of instance.now number) (connection_by_place table.now place value.now)) }
+    ensures added { OnOk result (all_tied out.new.items
+        ≡ all_tied out.old.items ++ map (pin_of instance.now number)
+        (connection_by_place table.now place value.now)) }
 {
     match value {
         None => Ok(()),
@@ -93,7 +99,9 @@ fn push_named<'a>(
     conns: &'a [NamedConn],
     out: &mut Vec<Tie<'a>>,
 ) -> Result<(), NoMemory>
-    ensures added { OnOk result (all_tied out.new.items ≡ all_tied out.old.items ++ map (pin_of instance.now number) (flat_map (λ conn. connection_by_name table.now conn.port conn.value) conns.now)) }
+    ensures added { OnOk result (all_tied out.new.items
+        ≡ all_tied out.old.items ++ map (pin_of instance.now number)
+        (flat_map (λ conn. connection_by_name table.now conn.port conn.value) conns.now)) }
 {
     for place in 0..conns.len() {
         push_by_name(table, instance, number, place, &conns[place], out)?;
@@ -108,7 +116,9 @@ fn push_in_order<'a>(
     values: &'a [Option<Expr>],
     out: &mut Vec<Tie<'a>>,
 ) -> Result<(), NoMemory>
-    ensures added { OnOk result (all_tied out.new.items ≡ all_tied out.old.items ++ map (pin_of instance.now number) (connections_from table.now 0 values.now)) }
+    ensures added { OnOk result (all_tied out.new.items
+        ≡ all_tied out.old.items ++ map (pin_of instance.now number)
+        (connections_from table.now 0 values.now)) }
 {
     for place in 0..values.len() {
         push_by_place(table, instance, number, place, &values[place], out)?;
@@ -124,7 +134,9 @@ fn push_conns<'a>(
     conns: &'a Conns,
     out: &mut Vec<Tie<'a>>,
 ) -> Result<(), NoMemory>
-    ensures added { OnOk result (all_tied out.new.items ≡ all_tied out.old.items ++ map (pin_of instance.now number) (connections_among table.now conns.now)) }
+    ensures added { OnOk result (all_tied out.new.items
+        ≡ all_tied out.old.items ++ map (pin_of instance.now number)
+        (connections_among table.now conns.now)) }
 {
     match conns {
         Conns::Named(conns) => push_named(table, instance, number, conns.items(), out),
@@ -139,7 +151,8 @@ fn push_instance<'a>(
     instance: &'a VInst,
     out: &mut Vec<Tie<'a>>,
 ) -> Result<(), NoMemory>
-    ensures added { OnOk result (all_tied out.new.items ≡ all_tied out.old.items ++ instance_ties below.now.module.now number instance.now) }
+    ensures added { OnOk result (all_tied out.new.items
+        ≡ all_tied out.old.items ++ instance_ties below.now.module.now number instance.now) }
 {
     push_conns(
         &below.table,
@@ -158,7 +171,8 @@ pub fn push_instances<'a>(
     out: &mut Vec<Tie<'a>>,
 ) -> Result<(), NoMemory>
     requires few { first + length insts.now ≤ 268435456 }
-    ensures added { OnOk result (all_tied out.new.items ≡ all_tied out.old.items ++ instances_ties below.now.module.now first insts.now) }
+    ensures added { OnOk result (all_tied out.new.items
+        ≡ all_tied out.old.items ++ instances_ties below.now.module.now first insts.now) }
 {
     let mut number = first;
     for instance in insts {

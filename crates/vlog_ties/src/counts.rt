@@ -77,7 +77,8 @@ fn live_width(alloc: Global, table: &Table, expr: &Expr) -> Result<u64, NoMemory
 #[cycle(live)]
 fn live_width_in(alloc: Global, table: &Table, parts: &[Expr]) -> Result<u64, NoMemory>
     requires { All HasDigits (flat_map literals parts.now) }
-    ensures { IfOk result (λ count. count ≡ min (2 ^ 64 - 1) (sum (map (live_width table.now) parts.now))) }
+    ensures { IfOk result (λ count. count
+        ≡ min (2 ^ 64 - 1) (sum (map (live_width table.now) parts.now))) }
 {
     let mut total: u64 = 0;
     for part in parts {
@@ -89,7 +90,8 @@ fn live_width_in(alloc: Global, table: &Table, parts: &[Expr]) -> Result<u64, No
 /// How many joins a tie has, or 2^64-1 where there are more.
 fn tie_count(alloc: Global, table: &Table, tie: &Tie) -> Result<u64, NoMemory>
     requires { All HasDigits (tie_literals tie.now) }
-    ensures { IfOk result (λ count. count ≡ min (2 ^ 64 - 1) (tied_count table.now (tied tie.now))) }
+    ensures { IfOk result (λ count. count
+        ≡ min (2 ^ 64 - 1) (tied_count table.now (tied tie.now))) }
 {
     match *tie {
         Tie::Pin { value, .. } => live_width(alloc, table, value),
@@ -104,7 +106,8 @@ fn tie_count(alloc: Global, table: &Table, tie: &Tie) -> Result<u64, NoMemory>
 /// How many joins ties have, or 2^64-1 where there are more.
 fn ties_count(alloc: Global, table: &Table, ties: &[Tie]) -> Result<u64, NoMemory>
     requires { All HasDigits (flat_map tie_literals ties.now) }
-    ensures { IfOk result (λ count. count ≡ min (2 ^ 64 - 1) (sum (map (tied_count table.now) (all_tied ties.now)))) }
+    ensures { IfOk result (λ count. count
+        ≡ min (2 ^ 64 - 1) (sum (map (tied_count table.now) (all_tied ties.now)))) }
 {
     let mut total: u64 = 0;
     for tie in ties {
@@ -126,7 +129,8 @@ pub fn join_count(
     requires small { module_size scope.now.module.now ≤ 268435456 }
     requires equal { unequal_widths (modules_in scopes.now) scope.now.module.now ≡ [] }
     requires sized { unsized (modules_in scopes.now) scope.now.module.now ≡ [] }
-    ensures { IfOk result (λ count. count ≡ min (2 ^ 64 - 1) (length (module_joins (modules_in scopes.now) scope.now.module.now))) }
+    ensures { IfOk result (λ count. count
+        ≡ min (2 ^ 64 - 1) (length (module_joins (modules_in scopes.now) scope.now.module.now))) }
 {
     let ties = ties_of(alloc, names, scopes, scope.module)?;
     let count = ties_count(alloc, &scope.table, &ties)?;

@@ -48,7 +48,8 @@ fn push_assign(
 ) -> Result<(), NoMemory>
     requires digits { All HasDigits (literals left.now ++ literals right.now) }
     requires numbers { All (λ signal. HasNumbers signal.slot) table.now }
-    ensures added { OnOk result (out.new.items ≡ out.old.items ++ pairing_joins (pairing_of_assign table.now left.now right.now)) }
+    ensures added { OnOk result (out.new.items
+        ≡ out.old.items ++ pairing_joins (pairing_of_assign table.now left.now right.now)) }
 {
     let mut left_bits = Runs::empty(alloc);
     push_bits(alloc, table, left, &mut left_bits)?;
@@ -96,7 +97,8 @@ pub fn push_ties(
 ) -> Result<(), NoMemory>
     requires digits { All HasDigits (flat_map tie_literals ties.now) }
     requires numbers { All (λ signal. HasNumbers signal.slot) table.now }
-    ensures added { OnOk result (out.new.items ≡ out.old.items ++ flat_map (tie_joins table.now) ties.now) }
+    ensures added { OnOk result (out.new.items
+        ≡ out.old.items ++ flat_map (tie_joins table.now) ties.now) }
 {
     for tie in ties {
         push_tie(alloc, table, tie, out)?;
@@ -115,7 +117,8 @@ pub fn joins_of(
     requires small { module_size scope.now.module.now ≤ 268435456 }
     requires valid { IsModule scope.now.module.now }
     requires numbers { All (λ signal. HasNumbers signal.slot) scope.now.table }
-    ensures { IfOk result (λ joins. joins.items ≡ module_joins (modules_in scopes.now) scope.now.module.now) }
+    ensures { IfOk result (λ joins. joins.items
+        ≡ module_joins (modules_in scopes.now) scope.now.module.now) }
 {
     let ties = ties_of(alloc, names, scopes, scope.module)?;
     let mut joins = Vec::with_capacity(alloc, ties.len())?;

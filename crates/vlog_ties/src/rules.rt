@@ -73,7 +73,8 @@ fn is_broken(rule: TieRule, table: &Table, tie: &Tie) -> bool
 /// The first of the ties that breaks the rule.
 fn first_broken<'a>(rule: TieRule, table: &Table, ties: &[Tie<'a>]) -> Option<Tie<'a>>
     requires { All (λ tie. HasNarrowLeft table.now (tied tie)) ties.now }
-    ensures { option_map tied result ≡ find (any_pairing (is_broken rule) table.now) (all_tied ties.now) }
+    ensures { option_map tied result ≡ find (any_pairing (is_broken rule) table.now)
+        (all_tied ties.now) }
 {
     for tie in ties {
         if is_broken(rule, table, tie) {
@@ -85,7 +86,8 @@ fn first_broken<'a>(rule: TieRule, table: &Table, ties: &[Tie<'a>]) -> Option<Ti
 
 /// The refusal of an assignment by its left side.
 fn refuse_assign(alloc: Global, rule: Rule, cell: &[u8], left: &Expr) -> Result<Refusal, NoMemory>
-    ensures { IfOk result (λ refusal. refusal ≡ refused rule cell.now (codes "assign" ∷ first_use left.now)) }
+    ensures { IfOk result (λ refusal. refusal
+        ≡ refused rule cell.now (codes "assign" ∷ first_use left.now)) }
 {
     match first_use(left) {
         None => refuse(alloc, rule, cell, b"assign"),
@@ -112,7 +114,9 @@ pub(crate) fn first_refusal(
     ties: &[Tie],
 ) -> Result<Option<Refusal>, NoMemory>
     requires { All (λ tie. HasNarrowLeft scope.now.table (tied tie)) ties.now }
-    ensures { IfOk result (λ found. found ≡ option_map (λ t. refused (rule_number rule) scope.now.module.now.name (tied_names t)) (find (any_pairing (is_broken rule) scope.now.table) (all_tied ties.now))) }
+    ensures { IfOk result (λ found. found
+        ≡ option_map (λ t. refused (rule_number rule) scope.now.module.now.name (tied_names t))
+        (find (any_pairing (is_broken rule) scope.now.table) (all_tied ties.now))) }
 {
     match first_broken(rule, &scope.table, ties) {
         None => Ok(None),

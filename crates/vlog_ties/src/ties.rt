@@ -16,7 +16,8 @@ use vlog_rules::passes::ModuleScope;
 use vlog_values::{Assignment, Instances, ItemV, Module, NetDecl, NetKind};
 
 fn push_assigns<'a>(sets: &'a [Assignment], out: &mut Vec<Tie<'a>>) -> Result<(), NoMemory>
-    ensures added { OnOk result (all_tied out.new.items ≡ all_tied out.old.items ++ map (λ set. Assign set.left set.right) sets.now) }
+    ensures added { OnOk result (all_tied out.new.items
+        ≡ all_tied out.old.items ++ map (λ set. Assign set.left set.right) sets.now) }
 {
     for set in sets {
         out.push(Tie::Assign {
@@ -32,7 +33,8 @@ fn push_supplies<'a>(
     constant: Node,
     out: &mut Vec<Tie<'a>>,
 ) -> Result<(), NoMemory>
-    ensures added { OnOk result (all_tied out.new.items ≡ all_tied out.old.items ++ map (λ name. Supply name constant) names.now) }
+    ensures added { OnOk result (all_tied out.new.items
+        ≡ all_tied out.old.items ++ map (λ name. Supply name constant) names.now) }
 {
     for name in names {
         out.push(Tie::Supply {
@@ -44,7 +46,10 @@ fn push_supplies<'a>(
 }
 
 fn push_net<'a>(decl: &'a NetDecl, out: &mut Vec<Tie<'a>>) -> Result<(), NoMemory>
-    ensures added { OnOk result (all_tied out.new.items ≡ all_tied out.old.items ++ flat_map (λ constant. map (λ name. Supply name constant) decl.now.names) (supply_node decl.now.kind)) }
+    ensures added { OnOk result (all_tied out.new.items
+        ≡ all_tied out.old.items ++ flat_map
+        (λ constant. map (λ name. Supply name constant) decl.now.names)
+        (supply_node decl.now.kind)) }
 {
     match decl.kind {
         NetKind::Wire => Ok(()),
@@ -61,7 +66,9 @@ pub fn scope_named<'s, 'a>(
     name: &[u8],
 ) -> Option<&'s ModuleScope<'a>>
     requires { names.now ≡ map (λ m. m.name) (modules_in scopes.now) }
-    ensures { MatchOption result (module_named (modules_in scopes.now) name.now ≡ None) (λ scope. module_named (modules_in scopes.now) name.now ≡ Some scope.now.module.now) }
+    ensures { MatchOption result (module_named (modules_in scopes.now) name.now
+        ≡ None) (λ scope. module_named (modules_in scopes.now) name.now
+        ≡ Some scope.now.module.now) }
 {
     match names.place(name) {
         None => None,
@@ -94,7 +101,8 @@ fn push_item<'a>(
 ) -> Result<(), NoMemory>
     requires named { names.now ≡ map (λ m. m.name) (modules_in scopes.now) }
     requires few { number + instance_count item.now ≤ 268435456 }
-    ensures added { OnOk result (all_tied out.new.items ≡ all_tied out.old.items ++ item_ties (modules_in scopes.now) number item.now) }
+    ensures added { OnOk result (all_tied out.new.items
+        ≡ all_tied out.old.items ++ item_ties (modules_in scopes.now) number item.now) }
 {
     match item {
         ItemV::Assign(statement) => push_assigns(statement.sets.items(), out),
@@ -119,7 +127,8 @@ fn push_items<'a>(
 ) -> Result<(), NoMemory>
     requires named { names.now ≡ map (λ m. m.name) (modules_in scopes.now) }
     requires few { sum_by instance_count items.now ≤ 268435456 }
-    ensures added { OnOk result (all_tied out.new.items ≡ all_tied out.old.items ++ ties_from (modules_in scopes.now) 0 items.now) }
+    ensures added { OnOk result (all_tied out.new.items
+        ≡ all_tied out.old.items ++ ties_from (modules_in scopes.now) 0 items.now) }
 {
     let mut number: u32 = 0;
     for item in items {
@@ -139,9 +148,12 @@ pub fn ties_of<'a>(
 ) -> Result<Vec<Tie<'a>>, NoMemory>
     requires named { names.now ≡ map (λ m. m.name) (modules_in scopes.now) }
     requires small { module_size m.now ≤ 268435456 }
-    ensures value { IfOk result (λ ties. all_tied ties.items ≡ module_ties (modules_in scopes.now) m.now) }
-    ensures pairings { IfOk result (λ ties. flat_map (tie_pairings (signals m.now)) ties.items ≡ pairings (modules_in scopes.now) m.now) }
-    ensures joins { IfOk result (λ ties. flat_map (tie_joins (signals m.now)) ties.items ≡ module_joins (modules_in scopes.now) m.now) }
+    ensures value { IfOk result (λ ties. all_tied ties.items
+        ≡ module_ties (modules_in scopes.now) m.now) }
+    ensures pairings { IfOk result (λ ties. flat_map (tie_pairings (signals m.now)) ties.items
+        ≡ pairings (modules_in scopes.now) m.now) }
+    ensures joins { IfOk result (λ ties. flat_map (tie_joins (signals m.now)) ties.items
+        ≡ module_joins (modules_in scopes.now) m.now) }
 {
     let mut ties = Vec::with_capacity(alloc, m.items.len())?;
     push_items(names, scopes, m.items.items(), &mut ties)?;

@@ -12,7 +12,8 @@ use vlog_values::{NetDecl, NetKind, ParamDecl, ParamType, PortDecl, PortKind};
 
 /// The word of a direction.
 fn put_dir<O: Sink>(dir: Dir, output: &mut Output, sink: &mut O)
-    ensures { Puts (inline (dir_form dir)) (state O.receipt sink.old output.old) (state O.receipt sink.new output.new) }
+    ensures { Puts (inline (dir_form dir))
+        (state O.receipt sink.old output.old) (state O.receipt sink.new output.new) }
 {
     match dir {
         Dir::Input => output.put(b"input", sink),
@@ -23,7 +24,8 @@ fn put_dir<O: Sink>(dir: Dir, output: &mut Output, sink: &mut O)
 
 /// The word of a port's kind behind a blank, if it is said.
 fn put_port_kind<O: Sink>(kind: Option<PortKind>, output: &mut Output, sink: &mut O)
-    ensures { Puts (spaced (port_kind_part kind)) (state O.receipt sink.old output.old) (state O.receipt sink.new output.new) }
+    ensures { Puts (spaced (port_kind_part kind))
+        (state O.receipt sink.old output.old) (state O.receipt sink.new output.new) }
 {
     match kind {
         None => {}
@@ -34,7 +36,8 @@ fn put_port_kind<O: Sink>(kind: Option<PortKind>, output: &mut Output, sink: &mu
 
 /// The word of a net's kind.
 fn put_net_kind<O: Sink>(kind: NetKind, output: &mut Output, sink: &mut O)
-    ensures { Puts (inline (net_kind_form kind)) (state O.receipt sink.old output.old) (state O.receipt sink.new output.new) }
+    ensures { Puts (inline (net_kind_form kind))
+        (state O.receipt sink.old output.old) (state O.receipt sink.new output.new) }
 {
     match kind {
         NetKind::Wire => output.put(b"wire", sink),
@@ -46,7 +49,8 @@ fn put_net_kind<O: Sink>(kind: NetKind, output: &mut Output, sink: &mut O)
 
 /// `signed` behind a blank, where it is said.
 fn put_signed<O: Sink>(signed: bool, output: &mut Output, sink: &mut O)
-    ensures { Puts (spaced (word_where signed (codes "signed"))) (state O.receipt sink.old output.old) (state O.receipt sink.new output.new) }
+    ensures { Puts (spaced (word_where signed (codes "signed")))
+        (state O.receipt sink.old output.old) (state O.receipt sink.new output.new) }
 {
     if signed {
         output.put(b" signed", sink);
@@ -55,7 +59,8 @@ fn put_signed<O: Sink>(signed: bool, output: &mut Output, sink: &mut O)
 
 /// A range behind a blank, if there is one.
 fn write_range<O: Sink>(range: &Option<Range>, output: &mut Output, sink: &mut O)
-    ensures { Puts (spaced (range_part range.now)) (state O.receipt sink.old output.old) (state O.receipt sink.new output.new) }
+    ensures { Puts (spaced (range_part range.now))
+        (state O.receipt sink.old output.old) (state O.receipt sink.new output.new) }
 {
     if let Some(range) = range {
         output.put(b" ", sink);
@@ -65,7 +70,8 @@ fn write_range<O: Sink>(range: &Option<Range>, output: &mut Output, sink: &mut O
 
 /// `signed` and a range, each behind a blank, where they are said.
 fn write_vector<O: Sink>(signed: bool, range: &Option<Range>, output: &mut Output, sink: &mut O)
-    ensures { Puts (spaced (vector_parts signed range.now)) (state O.receipt sink.old output.old) (state O.receipt sink.new output.new) }
+    ensures { Puts (spaced (vector_parts signed range.now))
+        (state O.receipt sink.old output.old) (state O.receipt sink.new output.new) }
 {
     put_signed(signed, output, sink);
     write_range(range, output, sink);
@@ -98,7 +104,8 @@ impl OnLine for NetDecl {
 
 /// The type of parameters, each word behind a blank.
 fn write_type<O: Sink>(kind: &ParamType, output: &mut Output, sink: &mut O)
-    ensures { Puts (spaced (type_parts kind.now)) (state O.receipt sink.old output.old) (state O.receipt sink.new output.new) }
+    ensures { Puts (spaced (type_parts kind.now))
+        (state O.receipt sink.old output.old) (state O.receipt sink.new output.new) }
 {
     match kind {
         ParamType::Plain { signed, range } => write_vector(*signed, range, output, sink),
@@ -120,7 +127,8 @@ impl OnLine for ParamDecl {
 
 /// A declaration of parameters as an item (IEEE 1364-2005, 4.10.1).
 pub(crate) fn write_param<O: Sink>(param: &ParamDecl, output: &mut Output, sink: &mut O)
-    ensures { Puts (inline (param_form param.now)) (state O.receipt sink.old output.old) (state O.receipt sink.new output.new) }
+    ensures { Puts (inline (param_form param.now))
+        (state O.receipt sink.old output.old) (state O.receipt sink.new output.new) }
 {
     write_attributes(param.attrs.items(), output, sink);
     param.write(output, sink);
@@ -128,7 +136,8 @@ pub(crate) fn write_param<O: Sink>(param: &ParamDecl, output: &mut Output, sink:
 
 /// `#` and a list in `(` and `)` behind a blank, where the list is not empty.
 pub(crate) fn write_hashed<T: OnLine, O: Sink>(items: &[T], output: &mut Output, sink: &mut O)
-    ensures { Puts (spaced (hashed (each T.form items.now))) (state O.receipt sink.old output.old) (state O.receipt sink.new output.new) }
+    ensures { Puts (spaced (hashed (each T.form items.now)))
+        (state O.receipt sink.old output.old) (state O.receipt sink.new output.new) }
 {
     if let [first, others @ ..] = items {
         output.put(b" #(", sink);

@@ -48,7 +48,8 @@ impl OnLine for ParamSet {
 
 /// The attributes of an object and a blank, if there are any (IEEE 1364-2005, 3.8).
 pub(crate) fn write_attributes<O: Sink>(attrs: &[Attr], output: &mut Output, sink: &mut O)
-    ensures { Puts (attributed (each attr_form attrs.now)) (state O.receipt sink.old output.old) (state O.receipt sink.new output.new) }
+    ensures { Puts (attributed (each attr_form attrs.now))
+        (state O.receipt sink.old output.old) (state O.receipt sink.new output.new) }
 {
     if let [first, others @ ..] = attrs {
         output.put(b"(* ", sink);
@@ -60,7 +61,8 @@ pub(crate) fn write_attributes<O: Sink>(attrs: &[Attr], output: &mut Output, sin
 
 /// Two indexes of bits in `[` and `]`.
 pub(crate) fn write_bounds<O: Sink>(left: i32, right: i32, output: &mut Output, sink: &mut O)
-    ensures { Puts (inline (square (bounds_form left right))) (state O.receipt sink.old output.old) (state O.receipt sink.new output.new) }
+    ensures { Puts (inline (square (bounds_form left right)))
+        (state O.receipt sink.old output.old) (state O.receipt sink.new output.new) }
 {
     output.put(b"[", sink);
     put_index(left, output, sink);
@@ -71,7 +73,8 @@ pub(crate) fn write_bounds<O: Sink>(left: i32, right: i32, output: &mut Output, 
 
 /// A name and the bits of it that are meant.
 fn write_ref<O: Sink>(name: &Text, select: Select, output: &mut Output, sink: &mut O)
-    ensures { Puts (inline (ref_form name.now select)) (state O.receipt sink.old output.old) (state O.receipt sink.new output.new) }
+    ensures { Puts (inline (ref_form name.now select))
+        (state O.receipt sink.old output.old) (state O.receipt sink.new output.new) }
 {
     match select {
         Select::All => name.write(output, sink),
@@ -91,7 +94,8 @@ fn write_ref<O: Sink>(name: &Text, select: Select, output: &mut Output, sink: &m
 /// Expressions with commas between them.
 #[cycle(expressions)]
 fn write_exprs<O: Sink>(exprs: &[Expr], output: &mut Output, sink: &mut O)
-    ensures { Puts (between false (each expr_form exprs.now)) (state O.receipt sink.old output.old) (state O.receipt sink.new output.new) }
+    ensures { Puts (between false (each expr_form exprs.now))
+        (state O.receipt sink.old output.old) (state O.receipt sink.new output.new) }
 {
     let mut due = false;
     for expr in exprs {
@@ -104,7 +108,8 @@ fn write_exprs<O: Sink>(exprs: &[Expr], output: &mut Output, sink: &mut O)
 /// A concatenation.
 #[cycle(expressions)]
 fn write_cat<O: Sink>(exprs: &[Expr], output: &mut Output, sink: &mut O)
-    ensures { Puts (inline (cat_form (each expr_form exprs.now))) (state O.receipt sink.old output.old) (state O.receipt sink.new output.new) }
+    ensures { Puts (inline (cat_form (each expr_form exprs.now)))
+        (state O.receipt sink.old output.old) (state O.receipt sink.new output.new) }
 {
     output.put(b"{", sink);
     write_exprs(exprs, output, sink);
@@ -114,7 +119,8 @@ fn write_cat<O: Sink>(exprs: &[Expr], output: &mut Output, sink: &mut O)
 /// An expression.
 #[cycle(expressions)]
 pub(crate) fn write_expr<O: Sink>(expr: &Expr, output: &mut Output, sink: &mut O)
-    ensures { Puts (inline (expr_form expr.now)) (state O.receipt sink.old output.old) (state O.receipt sink.new output.new) }
+    ensures { Puts (inline (expr_form expr.now))
+        (state O.receipt sink.old output.old) (state O.receipt sink.new output.new) }
 {
     match expr {
         Expr::Ref { name, select } => write_ref(name, *select, output, sink),

@@ -14,7 +14,8 @@ use vlog_values::{Attr, Header, Module, PortDecl, VlogFile};
 
 /// The attributes of a module on a line, if there are any (IEEE 1364-2005, 3.8).
 fn lay_attributes<O: Sink>(attrs: &[Attr], output: &mut Output, sink: &mut O)
-    ensures { Puts (laid (attribute_lines (each attr_form attrs.now))) (state O.receipt sink.old output.old) (state O.receipt sink.new output.new) }
+    ensures { Puts (laid (attribute_lines (each attr_form attrs.now)))
+        (state O.receipt sink.old output.old) (state O.receipt sink.new output.new) }
 {
     if let [first, others @ ..] = attrs {
         output.put(b"(* ", sink);
@@ -26,7 +27,8 @@ fn lay_attributes<O: Sink>(attrs: &[Attr], output: &mut Output, sink: &mut O)
 
 /// The end of a line behind which another declaration follows.
 fn put_break<O: Sink>(due: bool, output: &mut Output, sink: &mut O)
-    ensures { Puts (break_where due) (state O.receipt sink.old output.old) (state O.receipt sink.new output.new) }
+    ensures { Puts (break_where due)
+        (state O.receipt sink.old output.old) (state O.receipt sink.new output.new) }
 {
     if due {
         output.put(b",\n", sink);
@@ -35,7 +37,8 @@ fn put_break<O: Sink>(due: bool, output: &mut Output, sink: &mut O)
 
 /// The end of a line.
 fn put_end<O: Sink>(due: bool, output: &mut Output, sink: &mut O)
-    ensures { Puts (end_where due) (state O.receipt sink.old output.old) (state O.receipt sink.new output.new) }
+    ensures { Puts (end_where due)
+        (state O.receipt sink.old output.old) (state O.receipt sink.new output.new) }
 {
     if due {
         output.put(b"\n", sink);
@@ -44,7 +47,8 @@ fn put_end<O: Sink>(due: bool, output: &mut Output, sink: &mut O)
 
 /// The declarations of a header, each on a line.
 fn lay_decls<O: Sink>(decls: &[PortDecl], output: &mut Output, sink: &mut O)
-    ensures { Puts (laid (decl_lines decls.now)) (state O.receipt sink.old output.old) (state O.receipt sink.new output.new) }
+    ensures { Puts (laid (decl_lines decls.now))
+        (state O.receipt sink.old output.old) (state O.receipt sink.new output.new) }
 {
     let mut due = false;
     for decl in decls {
@@ -58,7 +62,9 @@ fn lay_decls<O: Sink>(decls: &[PortDecl], output: &mut Output, sink: &mut O)
 
 /// The first line of a module, up to its header.
 fn write_heading<O: Sink>(module: &Module, output: &mut Output, sink: &mut O)
-    ensures { Puts (inline (Row (Word (codes "module")) (both (part (Name «module».now.name)) (hashed (each group_form «module».now.params))))) (state O.receipt sink.old output.old) (state O.receipt sink.new output.new) }
+    ensures { Puts (inline (Row (Word (codes "module"))
+        (both (part (Name «module».now.name)) (hashed (each group_form «module».now.params)))))
+        (state O.receipt sink.old output.old) (state O.receipt sink.new output.new) }
 {
     output.put(b"module ", sink);
     module.name.write(output, sink);
@@ -67,7 +73,8 @@ fn write_heading<O: Sink>(module: &Module, output: &mut Output, sink: &mut O)
 
 /// Names in a header, and the end of its line.
 fn write_names<O: Sink>(names: &[Text], output: &mut Output, sink: &mut O)
-    ensures { Puts (λ rest. 32 ∷ inline (round (names_form names.now) ▸ Mark 59) (10 ∷ rest)) (state O.receipt sink.old output.old) (state O.receipt sink.new output.new) }
+    ensures { Puts (λ rest. 32 ∷ inline (round (names_form names.now) ▸ Mark 59) (10 ∷ rest))
+        (state O.receipt sink.old output.old) (state O.receipt sink.new output.new) }
 {
     output.put(b" (", sink);
     write_listed(names, output, sink);
@@ -76,7 +83,8 @@ fn write_names<O: Sink>(names: &[Text], output: &mut Output, sink: &mut O)
 
 /// The header of a module (IEEE 1364-2005, 12.3).
 fn lay_header<O: Sink>(module: &Module, output: &mut Output, sink: &mut O)
-    ensures { Puts (laid (header_lines «module».now «module».now.header)) (state O.receipt sink.old output.old) (state O.receipt sink.new output.new) }
+    ensures { Puts (laid (header_lines «module».now «module».now.header))
+        (state O.receipt sink.old output.old) (state O.receipt sink.new output.new) }
 {
     match &module.header {
         Header::Names(names) => {
@@ -94,7 +102,8 @@ fn lay_header<O: Sink>(module: &Module, output: &mut Output, sink: &mut O)
 
 /// A module (IEEE 1364-2005, 12.1).
 fn lay_module<O: Sink>(module: &Module, output: &mut Output, sink: &mut O)
-    ensures { Puts (laid (module_lines «module».now)) (state O.receipt sink.old output.old) (state O.receipt sink.new output.new) }
+    ensures { Puts (laid (module_lines «module».now))
+        (state O.receipt sink.old output.old) (state O.receipt sink.new output.new) }
 {
     lay_attributes(module.attrs.items(), output, sink);
     lay_header(module, output, sink);
@@ -104,7 +113,8 @@ fn lay_module<O: Sink>(module: &Module, output: &mut Output, sink: &mut O)
 
 /// The line that says whether names may stand without a declaration (IEEE 1364-2005, 19.2).
 fn put_nettype<O: Sink>(implicit: bool, output: &mut Output, sink: &mut O)
-    ensures { Puts (laid (nettype_line implicit)) (state O.receipt sink.old output.old) (state O.receipt sink.new output.new) }
+    ensures { Puts (laid (nettype_line implicit))
+        (state O.receipt sink.old output.old) (state O.receipt sink.new output.new) }
 {
     if implicit {
         output.put(b"`default_nettype wire\n", sink);
@@ -115,7 +125,8 @@ fn put_nettype<O: Sink>(implicit: bool, output: &mut Output, sink: &mut O)
 
 /// That line, where it changes what was so before.
 fn lay_nettype<O: Sink>(before: bool, implicit: bool, output: &mut Output, sink: &mut O)
-    ensures { Puts (laid (nettype_lines before implicit)) (state O.receipt sink.old output.old) (state O.receipt sink.new output.new) }
+    ensures { Puts (laid (nettype_lines before implicit))
+        (state O.receipt sink.old output.old) (state O.receipt sink.new output.new) }
 {
     if before {
         if !implicit {
@@ -131,7 +142,9 @@ fn lay_nettype<O: Sink>(before: bool, implicit: bool, output: &mut Output, sink:
 /// A module behind others, and before it the line that says whether names may stand without a declaration, where the module changes what was
 /// so before.
 pub fn lay_next_module<O: Sink>(before: bool, module: &Module, output: &mut Output, sink: &mut O)
-    ensures { Puts (laid (nettype_lines before «module».now.implicit below module_lines «module».now)) (state O.receipt sink.old output.old) (state O.receipt sink.new output.new) }
+    ensures { Puts
+        (laid (nettype_lines before «module».now.implicit below module_lines «module».now))
+        (state O.receipt sink.old output.old) (state O.receipt sink.new output.new) }
 {
     lay_nettype(before, module.implicit, output, sink);
     lay_module(module, output, sink);
@@ -139,7 +152,8 @@ pub fn lay_next_module<O: Sink>(before: bool, module: &Module, output: &mut Outp
 
 /// Modules, of which the first stands behind no other.
 fn lay_modules<O: Sink>(modules: &[Module], output: &mut Output, sink: &mut O)
-    ensures { Puts (laid (file_lines true modules.now)) (state O.receipt sink.old output.old) (state O.receipt sink.new output.new) }
+    ensures { Puts (laid (file_lines true modules.now))
+        (state O.receipt sink.old output.old) (state O.receipt sink.new output.new) }
 {
     let mut before = true;
     for module in modules {

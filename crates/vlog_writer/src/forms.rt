@@ -12,12 +12,14 @@ pub trait OnLine {
 
     /// Puts the text of the form.
     fn write<O: Sink>(&self, output: &mut Output, sink: &mut O)
-        ensures { Puts (inline (form self.now)) (state O.receipt sink.old output.old) (state O.receipt sink.new output.new) };
+        ensures { Puts (inline (form self.now))
+            (state O.receipt sink.old output.old) (state O.receipt sink.new output.new) };
 }
 
 /// A comma and a blank, where they are due.
 pub(crate) fn put_comma<O: Sink>(due: bool, output: &mut Output, sink: &mut O)
-    ensures { Puts (comma_where due) (state O.receipt sink.old output.old) (state O.receipt sink.new output.new) }
+    ensures { Puts (comma_where due)
+        (state O.receipt sink.old output.old) (state O.receipt sink.new output.new) }
 {
     if due {
         output.put(b", ", sink);
@@ -31,7 +33,8 @@ pub(crate) fn write_between<T: OnLine, O: Sink>(
     output: &mut Output,
     sink: &mut O,
 )
-    ensures { Puts (between comma (each T.form items.now)) (state O.receipt sink.old output.old) (state O.receipt sink.new output.new) }
+    ensures { Puts (between comma (each T.form items.now))
+        (state O.receipt sink.old output.old) (state O.receipt sink.new output.new) }
 {
     let mut due = comma;
     for item in items {
@@ -43,7 +46,8 @@ pub(crate) fn write_between<T: OnLine, O: Sink>(
 
 /// Forms with commas between them.
 pub(crate) fn write_listed<T: OnLine, O: Sink>(items: &[T], output: &mut Output, sink: &mut O)
-    ensures { Puts (between false (each T.form items.now)) (state O.receipt sink.old output.old) (state O.receipt sink.new output.new) }
+    ensures { Puts (between false (each T.form items.now))
+        (state O.receipt sink.old output.old) (state O.receipt sink.new output.new) }
 {
     write_between(false, items, output, sink);
 }

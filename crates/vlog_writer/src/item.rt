@@ -25,7 +25,8 @@ impl OnLine for ItemV {
 
 /// An item on a line of its own.
 fn lay_item<O: Sink>(item: &ItemV, output: &mut Output, sink: &mut O)
-    ensures { Puts (laid (item_lines item.now)) (state O.receipt sink.old output.old) (state O.receipt sink.new output.new) }
+    ensures { Puts (laid (item_lines item.now))
+        (state O.receipt sink.old output.old) (state O.receipt sink.new output.new) }
 {
     output.put(b"  ", sink);
     item.write(output, sink);
@@ -34,7 +35,8 @@ fn lay_item<O: Sink>(item: &ItemV, output: &mut Output, sink: &mut O)
 
 /// Items, each on a line.
 pub(crate) fn lay_items<O: Sink>(items: &[ItemV], output: &mut Output, sink: &mut O)
-    ensures { Puts (laid (all item_lines items.now)) (state O.receipt sink.old output.old) (state O.receipt sink.new output.new) }
+    ensures { Puts (laid (all item_lines items.now))
+        (state O.receipt sink.old output.old) (state O.receipt sink.new output.new) }
 {
     for item in items {
         lay_item(item, output, sink);

@@ -54,7 +54,8 @@ fn is_bare(name: &[u8]) -> bool
 
 /// A name: as itself, or as an escaped identifier (IEEE 1364-2005, 3.7.1).
 pub fn write_name<O: Sink>(name: &[u8], output: &mut Output, sink: &mut O)
-    ensures { Puts (named name.now) (state O.receipt sink.old output.old) (state O.receipt sink.new output.new) }
+    ensures { Puts (named name.now)
+        (state O.receipt sink.old output.old) (state O.receipt sink.new output.new) }
 {
     if is_bare(name) {
         output.put(name, sink);

@@ -67,7 +67,8 @@ impl OnLine for VInst {
 
 /// The value of a parameter of an instance.
 fn write_override<O: Sink>(set: &ParamSet, output: &mut Output, sink: &mut O)
-    ensures { Puts (inline (override_form set.now)) (state O.receipt sink.old output.old) (state O.receipt sink.new output.new) }
+    ensures { Puts (inline (override_form set.now))
+        (state O.receipt sink.old output.old) (state O.receipt sink.new output.new) }
 {
     output.put(b".", sink);
     set.name.write(output, sink);
@@ -78,7 +79,8 @@ fn write_override<O: Sink>(set: &ParamSet, output: &mut Output, sink: &mut O)
 
 /// Values of parameters, each after a comma.
 fn write_overrides<O: Sink>(sets: &[ParamSet], output: &mut Output, sink: &mut O)
-    ensures { Puts (further (each override_form sets.now)) (state O.receipt sink.old output.old) (state O.receipt sink.new output.new) }
+    ensures { Puts (further (each override_form sets.now))
+        (state O.receipt sink.old output.old) (state O.receipt sink.new output.new) }
 {
     for set in sets {
         output.put(b", ", sink);
@@ -88,7 +90,8 @@ fn write_overrides<O: Sink>(sets: &[ParamSet], output: &mut Output, sink: &mut O
 
 /// The values of the parameters of instances behind a blank, if there are any.
 fn write_params<O: Sink>(sets: &[ParamSet], output: &mut Output, sink: &mut O)
-    ensures { Puts (spaced (hashed (each override_form sets.now))) (state O.receipt sink.old output.old) (state O.receipt sink.new output.new) }
+    ensures { Puts (spaced (hashed (each override_form sets.now)))
+        (state O.receipt sink.old output.old) (state O.receipt sink.new output.new) }
 {
     if let [first, others @ ..] = sets {
         output.put(b" #(", sink);
@@ -112,7 +115,8 @@ impl OnLine for Instances {
 
 /// A name of an object within another.
 fn write_path<O: Sink>(outer: &Text, name: &Text, output: &mut Output, sink: &mut O)
-    ensures { Puts (inline (Path outer.now name.now)) (state O.receipt sink.old output.old) (state O.receipt sink.new output.new) }
+    ensures { Puts (inline (Path outer.now name.now))
+        (state O.receipt sink.old output.old) (state O.receipt sink.new output.new) }
 {
     outer.write(output, sink);
     output.put(b".", sink);

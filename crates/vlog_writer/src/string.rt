@@ -28,7 +28,8 @@ fn plain_front(bytes: &[u8]) -> usize
 
 /// The three octal digits of a byte.
 fn put_octal<O: Sink>(byte: u8, output: &mut Output, sink: &mut O)
-    ensures { Puts (λ rest. octal byte ++ rest) (state O.receipt sink.old output.old) (state O.receipt sink.new output.new) }
+    ensures { Puts (λ rest. octal byte ++ rest)
+        (state O.receipt sink.old output.old) (state O.receipt sink.new output.new) }
 {
     let digits = [b'0' + byte / 64, b'0' + byte / 8 % 8, b'0' + byte % 8];
     output.put(&digits, sink);
@@ -36,7 +37,8 @@ fn put_octal<O: Sink>(byte: u8, output: &mut Output, sink: &mut O)
 
 /// What stands for a byte behind a `\`.
 fn put_escape<O: Sink>(byte: u8, output: &mut Output, sink: &mut O)
-    ensures { Puts (λ rest. escape_of byte ++ rest) (state O.receipt sink.old output.old) (state O.receipt sink.new output.new) }
+    ensures { Puts (λ rest. escape_of byte ++ rest)
+        (state O.receipt sink.old output.old) (state O.receipt sink.new output.new) }
 {
     if byte == b'"' || byte == b'\\' {
         output.put(&[byte], sink);
@@ -56,7 +58,8 @@ fn put_escape<O: Sink>(byte: u8, output: &mut Output, sink: &mut O)
 /// A byte of a string.
 #[tactic(auto, unfolding(crate::specs::Spelling::string_byte))]
 fn put_byte<O: Sink>(byte: u8, output: &mut Output, sink: &mut O)
-    ensures { Puts (λ rest. string_byte byte ++ rest) (state O.receipt sink.old output.old) (state O.receipt sink.new output.new) }
+    ensures { Puts (λ rest. string_byte byte ++ rest)
+        (state O.receipt sink.old output.old) (state O.receipt sink.new output.new) }
 {
     if is_plain(byte) {
         output.put(&[byte], sink);
@@ -69,7 +72,8 @@ fn put_byte<O: Sink>(byte: u8, output: &mut Output, sink: &mut O)
 /// The byte in front, if there is one; the bytes behind it are answered.
 fn put_front<'a, O: Sink>(bytes: &'a [u8], output: &mut Output, sink: &mut O) -> &'a [u8]
     ensures shorter { length result.now ≤ length bytes.now - 1 }
-    ensures puts { PutsUntil (written bytes.now) (written result.now) (state O.receipt sink.old output.old) (state O.receipt sink.new output.new) }
+    ensures puts { PutsUntil (written bytes.now) (written result.now)
+        (state O.receipt sink.old output.old) (state O.receipt sink.new output.new) }
 {
     match bytes {
         [first, others @ ..] => {
@@ -84,7 +88,8 @@ fn put_front<'a, O: Sink>(bytes: &'a [u8], output: &mut Output, sink: &mut O) ->
 fn write_run<'a, O: Sink>(bytes: &'a [u8], output: &mut Output, sink: &mut O) -> &'a [u8]
     requires { 0 < length bytes.now }
     ensures shorter { length result.now < length bytes.now }
-    ensures puts { PutsUntil (written bytes.now) (written result.now) (state O.receipt sink.old output.old) (state O.receipt sink.new output.new) }
+    ensures puts { PutsUntil (written bytes.now) (written result.now)
+        (state O.receipt sink.old output.old) (state O.receipt sink.new output.new) }
 {
     let (plain, behind) = bytes.split_at(plain_front(bytes));
     output.put(plain, sink);
@@ -94,7 +99,8 @@ fn write_run<'a, O: Sink>(bytes: &'a [u8], output: &mut Output, sink: &mut O) ->
 
 /// A string in quotes (IEEE 1364-2005, 3.6).
 pub fn write_string<O: Sink>(bytes: &[u8], output: &mut Output, sink: &mut O)
-    ensures { Puts (quoted bytes.now) (state O.receipt sink.old output.old) (state O.receipt sink.new output.new) }
+    ensures { Puts (quoted bytes.now)
+        (state O.receipt sink.old output.old) (state O.receipt sink.new output.new) }
 {
     output.put(b"\"", sink);
     let mut rest = bytes;
