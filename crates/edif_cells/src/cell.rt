@@ -38,7 +38,8 @@ fn cell_instances(
     cell: &Cell,
     below: &[Option<u32>],
 ) -> Result<Seq<HInst>, NoMemory>
-    ensures { IfOk result (λ made. made ≡ map (instance_at numbers.now below.now cells) (numbered (instances cell.now))) }
+    ensures { IfOk result (λ made. made
+        ≡ map (instance_at numbers.now below.now cells) (numbered (instances cell.now))) }
 {
     let items = contents_of(alloc, cell)?;
     let instances = instances_in(alloc, items.as_slice())?;
@@ -67,8 +68,12 @@ fn cell_joins(
     requires port_tables { port_tables.now ≡ map ports (file_cells tables.now) }
     requires few { cell_size cell.now ≤ 268435456 }
     requires own { has_good_sizes cell.now ≡ true }
-    requires inner { (place number : ℕ) (inner : Cell) → slice_get below.now place ≡ Some (Some number) → slice_get (file_cells tables.now) number ≡ Some inner → has_good_sizes inner ≡ true }
-    ensures { IfOk result (λ made. made ≡ flat_map (net_joins (linked_by (file_cells tables.now) cell.now below.now)) (numbered (nets cell.now))) }
+    requires inner { (place number : ℕ) (inner : Cell)
+        → slice_get below.now place ≡ Some (Some number)
+        → slice_get (file_cells tables.now) number ≡ Some inner → has_good_sizes inner ≡ true }
+    ensures { IfOk result (λ made. made
+        ≡ flat_map (net_joins (linked_by (file_cells tables.now) cell.now below.now))
+        (numbered (nets cell.now))) }
 {
     let items = contents_of(alloc, cell)?;
     let nets = nets_in(alloc, items.as_slice())?;
@@ -97,8 +102,11 @@ pub fn cell_of(
     requires port_tables { port_tables.now ≡ map ports (file_cells tables.now) }
     requires few { cell_size cell.now ≤ 268435456 }
     requires own { has_good_sizes cell.now ≡ true }
-    requires inner { (place number : ℕ) (inner : Cell) → slice_get below.now place ≡ Some (Some number) → slice_get (file_cells tables.now) number ≡ Some inner → has_good_sizes inner ≡ true }
-    ensures { IfOk result (λ made. made ≡ cell_value numbers.now (linked_by (file_cells tables.now) cell.now below.now)) }
+    requires inner { (place number : ℕ) (inner : Cell)
+        → slice_get below.now place ≡ Some (Some number)
+        → slice_get (file_cells tables.now) number ≡ Some inner → has_good_sizes inner ≡ true }
+    ensures { IfOk result (λ made. made
+        ≡ cell_value numbers.now (linked_by (file_cells tables.now) cell.now below.now)) }
 {
     let joins = cell_joins(alloc, tables, port_tables, cell, below)?;
     let ports = cell_ports(alloc, cell)?;

@@ -40,7 +40,9 @@ fn push_join(
     reference: &PortRef,
 ) -> Result<(), NoMemory>
     requires { HasGoodSizes (lists_of scope.now) }
-    ensures { OnOk result (joins.new ≡ joins.old ++ map (join_of net) (option_to_list (ref_node (lists_of scope.now) reference.now))) }
+    ensures { OnOk result (joins.new
+        ≡ joins.old ++ map (join_of net)
+        (option_to_list (ref_node (lists_of scope.now) reference.now))) }
 {
     let found = find_port(alloc, scope, reference)?;
     match spot_of(scope, found, member_of(reference)) {
@@ -80,7 +82,9 @@ pub fn joins_made(
 ) -> Result<Seq<Join>, NoMemory>
     requires good { HasGoodSizes (lists_of scope.now) }
     requires few { length nets.now ≤ 268435456 }
-    ensures { IfOk result (λ made. made ≡ flat_map (λ net. joins_of (lists_of scope.now) net.0 net.1.joined) (numbered (seen nets.now))) }
+    ensures { IfOk result (λ made. made
+        ≡ flat_map (λ net. joins_of (lists_of scope.now) net.0 net.1.joined)
+        (numbered (seen nets.now))) }
 {
     let mut made = Seq::empty(alloc);
     for (number, net) in nets.iter().enumerate() {

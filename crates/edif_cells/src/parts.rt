@@ -57,7 +57,8 @@ fn number_at(numbers: &[u32], cells: usize, cell: u32) -> u32
 
 /// The number in the design of the cell that the instance of this number is of, and 0 where no cell is meant.
 fn number_of(numbers: &[u32], below: &[Option<u32>], cells: usize, instance: usize) -> u32
-    ensures { result ≡ number_in numbers.now (option_and_then (number_within cells) (get_or below.now instance None)) }
+    ensures { result ≡ number_in numbers.now
+        (option_and_then (number_within cells) (get_or below.now instance None)) }
 {
     match below.get(instance) {
         Some(Some(cell)) => number_at(numbers, cells, *cell),
@@ -82,7 +83,8 @@ pub fn instances_made(
     cells: usize,
     instances: &[&Instance],
 ) -> Result<Seq<HInst>, NoMemory>
-    ensures { IfOk result (λ made. made ≡ map (instance_at numbers.now below.now cells) (numbered (seen instances.now))) }
+    ensures { IfOk result (λ made. made
+        ≡ map (instance_at numbers.now below.now cells) (numbered (seen instances.now))) }
 {
     let mut made = Seq::empty(alloc);
     for (number, instance) in instances.iter().enumerate() {

@@ -37,7 +37,8 @@ fn property_of(alloc: Global, property: &Property) -> Result<HProp, NoMemory>
 
 /// Adds the property.
 fn push_property(alloc: Global, props: &mut Seq<HProp>, property: &Property) -> Result<(), NoMemory>
-    ensures { OnOk result (props.new ≡ props.old ++ option_to_list (Some (property_value property.now))) }
+    ensures { OnOk result (props.new
+        ≡ props.old ++ option_to_list (Some (property_value property.now))) }
 {
     let made = property_of(alloc, property)?;
     props.push(made)?;

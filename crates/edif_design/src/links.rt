@@ -19,7 +19,8 @@ pub enum Linked {
 }
 
 fn refused(alloc: Global, rule: Rule, cell: &[u8], spelling: &[u8]) -> Result<Linked, NoMemory>
-    ensures { IfOk result (λ made. made ≡ Linked.Refused (record { rule = rule; cell = cell.now; names = spelling.now ∷ [] })) }
+    ensures { IfOk result (λ made. made
+        ≡ Linked.Refused (record { rule = rule; cell = cell.now; names = spelling.now ∷ [] })) }
 {
     let names = one_name(alloc, spelling)?;
     let refusal = refusal(alloc, rule, cell, names)?;
@@ -72,7 +73,8 @@ impl<'a> FileTables<'a> {
         cell: &[u8],
         library: Option<&[u8]>,
     ) -> Result<Linked, NoMemory>
-        ensures { IfOk result (λ linked. linked ≡ library_link self.now home cell.now (option_copied library.entry)) }
+        ensures { IfOk result (λ linked. linked
+            ≡ library_link self.now home cell.now (option_copied library.entry)) }
     {
         match library {
             None => Ok(Linked::Cell(home)),
@@ -93,7 +95,9 @@ impl<'a> FileTables<'a> {
         library: Option<&[u8]>,
         spelling: &[u8],
     ) -> Result<Linked, NoMemory>
-        ensures { IfOk result (λ linked. linked ≡ link_by_candidates self.now home cell.now (option_copied library.entry) spelling.now) }
+        ensures { IfOk result (λ linked. linked
+            ≡ link_by_candidates self.now home cell.now
+            (option_copied library.entry) spelling.now) }
     {
         match self.library_link(alloc, home, cell, library)? {
             Linked::Refused(refusal) => Ok(Linked::Refused(refusal)),
@@ -115,8 +119,13 @@ impl<'a> FileTables<'a> {
         library: Option<&[u8]>,
         spelling: &[u8],
     ) -> Result<Linked, NoMemory>
-        ensures number { IfOk result (λ linked. linked_number linked ≡ number_meant (link_meant self.now home (option_copied library.entry) spelling.now)) }
-        ensures refusal { IfOk result (λ linked. linked_refusal linked ≡ lowest (link_refusals self.now home cell.now (option_copied library.entry) spelling.now)) }
+        ensures number { IfOk result
+            (λ linked. linked_number linked
+            ≡ number_meant (link_meant self.now home (option_copied library.entry) spelling.now)) }
+        ensures refusal { IfOk result
+            (λ linked. linked_refusal linked
+            ≡ lowest (link_refusals self.now home cell.now
+            (option_copied library.entry) spelling.now)) }
     {
         let linked = self.link_by_candidates(alloc, home, cell, library, spelling)?;
         Ok(linked)

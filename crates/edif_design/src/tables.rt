@@ -51,7 +51,8 @@ impl<'a> Model for FileTables<'a> {
 
 // Adds the library that a part of a file is.
 fn push_library<'a>(found: &mut Vec<&'a Library>, item: &'a FileItem) -> Result<(), NoMemory>
-    ensures { OnOk result (seen found.new.items ≡ seen found.old.items ++ option_to_list (library_in item.now)) }
+    ensures { OnOk result (seen found.new.items
+        ≡ seen found.old.items ++ option_to_list (library_in item.now)) }
 {
     match item {
         FileItem::Library(library) => {
@@ -79,7 +80,9 @@ fn push_cell<'a>(
     library: u32,
     item: &'a LibraryItem,
 ) -> Result<(), NoMemory>
-    ensures { OnOk result (map place_of places.new.items ≡ map place_of places.old.items ++ map (place_in library) (option_to_list (cell_in item.now))) }
+    ensures { OnOk result (map place_of places.new.items
+        ≡ map place_of places.old.items
+        ++ map (place_in library) (option_to_list (cell_in item.now))) }
 {
     match item {
         LibraryItem::Cell(cell) => {
@@ -96,7 +99,8 @@ fn push_cells<'a>(
     number: u32,
     library: &'a Library,
 ) -> Result<(), NoMemory>
-    ensures { OnOk result (map place_of places.new.items ≡ map place_of places.old.items ++ map (place_in number) (cells_in library.now)) }
+    ensures { OnOk result (map place_of places.new.items
+        ≡ map place_of places.old.items ++ map (place_in number) (cells_in library.now)) }
 {
     for item in library.items.items() {
         push_cell(places, number, item)?;
@@ -107,7 +111,8 @@ fn push_cells<'a>(
 // The cells of these libraries.
 fn places_of<'a>(alloc: Global, libraries: &[&'a Library]) -> Result<Vec<PlacedCell<'a>>, NoMemory>
     requires { length libraries.now ≤ count_limit }
-    ensures { IfOk result (λ places. map place_of places.items ≡ places_from 0 (seen libraries.now)) }
+    ensures { IfOk result (λ places. map place_of places.items
+        ≡ places_from 0 (seen libraries.now)) }
 {
     let mut places = Vec::new(alloc);
     for number in 0..libraries.len() as u32 {
@@ -118,7 +123,8 @@ fn places_of<'a>(alloc: Global, libraries: &[&'a Library]) -> Result<Vec<PlacedC
 
 // The views of each of these cells.
 fn cell_views<'a>(alloc: Global, places: &[PlacedCell<'a>]) -> Result<Vec<CellViews<'a>>, NoMemory>
-    ensures { IfOk result (λ made. made.items ≡ map (λ place. view_names place.cell.now) places.now) }
+    ensures { IfOk result (λ made. made.items
+        ≡ map (λ place. view_names place.cell.now) places.now) }
 {
     let mut made = Vec::with_capacity(alloc, places.len())?;
     for place in places {
@@ -133,7 +139,8 @@ fn library_entries<'a>(
     libraries: &[&'a Library],
 ) -> Result<Vec<(u32, &'a [u8])>, NoMemory>
     requires { length libraries.now ≤ count_limit }
-    ensures { IfOk result (λ entries. written entries.items ≡ named library_ident (numbered (seen libraries.now))) }
+    ensures { IfOk result (λ entries. written entries.items
+        ≡ named library_ident (numbered (seen libraries.now))) }
 {
     let mut entries = Vec::new(alloc);
     for number in 0..libraries.len() as u32 {
@@ -150,7 +157,10 @@ fn push_name<'a>(
     item: &'a LibraryItem,
 ) -> Result<(), NoMemory>
     requires { first + vec_len entries.old < 2 ^ 32 }
-    ensures { OnOk result (written entries.new.items ≡ written entries.old.items ++ named cell_ident (enumerate_from (first + vec_len entries.old) (option_to_list (cell_in item.now)))) }
+    ensures { OnOk result (written entries.new.items
+        ≡ written entries.old.items
+        ++ named cell_ident (enumerate_from (first + vec_len entries.old)
+        (option_to_list (cell_in item.now)))) }
 {
     match item {
         LibraryItem::Cell(cell) => {
@@ -169,7 +179,8 @@ fn cell_entries<'a>(
     first: u32,
 ) -> Result<Vec<(u32, &'a [u8])>, NoMemory>
     requires { first + length (cells_in library.now) ≤ count_limit }
-    ensures { IfOk result (λ entries. written entries.items ≡ named cell_ident (enumerate_from first (cells_in library.now))) }
+    ensures { IfOk result (λ entries. written entries.items
+        ≡ named cell_ident (enumerate_from first (cells_in library.now))) }
 {
     let mut entries = Vec::new(alloc);
     for item in library.items.items() {
@@ -248,7 +259,9 @@ impl<'a> FileTables<'a> {
         number: u32,
         spelling: &[u8],
     ) -> Result<Option<bool>, NoMemory>
-        ensures { IfOk result (λ means. means ≡ option_map (λ cell. means_view cell spelling.now) (slice_get (file_cells self.now) number)) }
+        ensures { IfOk result (λ means. means
+            ≡ option_map (λ cell. means_view cell spelling.now)
+            (slice_get (file_cells self.now) number)) }
     {
         match self.views.get(number as usize) {
             Some(views) => {
@@ -261,7 +274,8 @@ impl<'a> FileTables<'a> {
 
     // What a libraryRef of this spelling means.
     pub(crate) fn find_library(&self, alloc: Global, spelling: &[u8]) -> Result<Meaning, NoMemory>
-        ensures { IfOk result (λ found. found ≡ meant_by (library_candidates self.now spelling.now)) }
+        ensures { IfOk result (λ found. found
+            ≡ meant_by (library_candidates self.now spelling.now)) }
     {
         let found = self.libraries.find(alloc, spelling)?;
         Ok(found)
@@ -274,7 +288,8 @@ impl<'a> FileTables<'a> {
         library: u32,
         spelling: &[u8],
     ) -> Result<Meaning, NoMemory>
-        ensures { IfOk result (λ found. found ≡ meant_by (cell_candidates self.now library spelling.now)) }
+        ensures { IfOk result (λ found. found
+            ≡ meant_by (cell_candidates self.now library spelling.now)) }
     {
         match self.cells.get(library as usize) {
             Some(table) => {

@@ -29,7 +29,8 @@ impl<'a> Model for CellViews<'a> {
 
 // Adds the identifier of the view that a part of a cell is. It is only asked whether a view is meant, so that its number is always 0.
 fn push_view<'a>(entries: &mut Vec<(u32, &'a [u8])>, item: &'a CellItem) -> Result<(), NoMemory>
-    ensures { OnOk result (entry_names entries.new.items ≡ entry_names entries.old.items ++ map view_ident (option_to_list (view_in item.now))) }
+    ensures { OnOk result (entry_names entries.new.items
+        ≡ entry_names entries.old.items ++ map view_ident (option_to_list (view_in item.now))) }
 {
     match item {
         CellItem::View(view) => {

@@ -129,8 +129,11 @@ impl Aliases {
     /// Adds an alias that means what the known word means. Refused, the table is unchanged.
     pub fn add(&mut self, alias: Text, known: &[u8]) -> Result<(), AliasFault>
         ensures clash { (result ≡ Err AliasFault.Clash) ↔ IsSome (means self.old alias) }
-        ensures unknown { (result ≡ Err AliasFault.Unknown) ↔ (IsNone (means self.old alias) × IsNone (means self.old known.now)) }
-        ensures added { OnOk result (IfSome (means self.old known.now) (λ keyword. self.new ≡ one_more self.old alias keyword)) }
+        ensures unknown { (result ≡ Err AliasFault.Unknown)
+            ↔ (IsNone (means self.old alias) × IsNone (means self.old known.now)) }
+        ensures added { OnOk result
+            (IfSome (means self.old known.now) (λ keyword. self.new
+            ≡ one_more self.old alias keyword)) }
         ensures unchanged { OnErr result (self.new ≡ self.old) }
     {
         if self.look(alias.bytes()).is_some() {

@@ -16,7 +16,8 @@ pub fn read_comment<S: Source>(
     cursor: &mut Cursor,
     source: &mut S,
 ) -> Result<Seq<Text>, ReadError>
-    ensures reads { Reads edif same comment result cursor.old cursor.new (S.supply source.old) (S.supply source.new) }
+    ensures reads { Reads edif same comment result cursor.old cursor.new
+        (S.supply source.old) (S.supply source.new) }
     ensures value { IfOk result AreStrings }
     ensures size { IfOk result (λ ts. length ts + room cursor.new < room cursor.old) }
 {

@@ -45,7 +45,12 @@ impl Model for Cursor {
 impl Cursor {
     /// A cursor at the next token of a reader of tokens, without aliases. It takes no memory.
     pub fn new(alloc: Global, tokens: Tokens) -> Cursor
-        ensures { result ≡ record { window = tokens.window; ahead = None; context = []; spent = tokens.spent } }
+        ensures { result ≡ record {
+          window = tokens.window;
+          ahead = None;
+          context = [];
+          spent = tokens.spent;
+        } }
     {
         let spent = tokens.is_spent();
         Cursor {
@@ -156,7 +161,13 @@ impl Cursor {
     fn take_ahead(&mut self) -> Found
         requires { IsSome self.old.ahead }
         ensures token { self.old.ahead ≡ Some result }
-        ensures left { self.new ≡ record { window = self.old.window; ahead = None; context = self.old.context; spent = self.old.spent } }
+        ensures left { self.new
+            ≡ record {
+              window = self.old.window;
+              ahead = None;
+              context = self.old.context;
+              spent = self.old.spent;
+            } }
         ensures near { IsNear self.new.window result.stop }
         ensures proper { IsProper result.token }
     {
@@ -173,7 +184,8 @@ impl Cursor {
         alloc: Global,
         source: &mut S,
     ) -> Result<Found, ReadError>
-        ensures reads { Reads edif same any result self.old self.new (S.supply source.old) (S.supply source.new) }
+        ensures reads { Reads edif same any result self.old self.new
+            (S.supply source.old) (S.supply source.new) }
         ensures near { IfOk result (λ x. IsNear self.new.window x.stop) }
         ensures proper { IfOk result (λ x. IsProper x.token) }
     {
@@ -199,7 +211,8 @@ impl Cursor {
 
     /// Refuses a token of this place and stop that was just taken.
     pub(crate) fn refuse_at(&mut self, place: Place, stop: u64, reason: Reason) -> ReadError
-        ensures error { result ≡ ReadError.Text (record { place = place; stop = stop; reason = reason }) }
+        ensures error { result
+            ≡ ReadError.Text (record { place = place; stop = stop; reason = reason }) }
         ensures spoilt { self.new ≡ spoilt self.old }
     {
         self.spent = true;
@@ -258,7 +271,8 @@ impl Cursor {
 
     /// Answers whether the next token, which has to be there, is `(`. It takes nothing.
     pub fn at_form<S: Source>(&mut self, alloc: Global, source: &mut S) -> Result<bool, ReadError>
-        ensures looks { LooksAt edif opens result self.old self.new (S.supply source.old) (S.supply source.new) }
+        ensures looks { LooksAt edif opens result self.old self.new
+            (S.supply source.old) (S.supply source.new) }
     {
         if let Some(mark) = self.held_mark() {
             return Ok(mark == b'(');
@@ -274,7 +288,8 @@ impl Cursor {
     #[inline(never)]
     #[tactic(auto, using(crate::proofs::Looks::forms_next))]
     pub fn look_form<S: Source>(&mut self, alloc: Global, source: &mut S) -> Result<bool, ReadError>
-        ensures looks { LooksAt edif opens result self.old self.new (S.supply source.old) (S.supply source.new) }
+        ensures looks { LooksAt edif opens result self.old self.new
+            (S.supply source.old) (S.supply source.new) }
         ensures ahead { OnOk result (IsSome self.new.ahead) }
     {
         self.look(alloc, source)?;
@@ -287,7 +302,8 @@ impl Cursor {
     /// Answers whether there is a next token and it is a string. It takes nothing.
     #[tactic(auto, using(crate::proofs::Looks::strings_next))]
     pub fn at_string<S: Source>(&mut self, alloc: Global, source: &mut S) -> Result<bool, ReadError>
-        ensures { LooksFor edif has_string result self.old self.new (S.supply source.old) (S.supply source.new) }
+        ensures { LooksFor edif has_string result self.old self.new
+            (S.supply source.old) (S.supply source.new) }
     {
         self.look(alloc, source)?;
         if let Some(found) = &self.ahead {
@@ -299,7 +315,9 @@ impl Cursor {
     /// Refuses the token ahead. The cursor is spent from then on.
     pub fn refuse(&mut self, reason: Reason) -> ReadError
         requires { IsSome self.old.ahead }
-        ensures error { IfSome self.old.ahead (λ x. (result ≡ ReadError.Text (fault_at edif (proper x) reason)) × IsNear self.old.window x.stop) }
+        ensures error { IfSome self.old.ahead
+            (λ x. (result ≡ ReadError.Text (fault_at edif (proper x) reason))
+            × IsNear self.old.window x.stop) }
         ensures spoilt { self.new ≡ spoilt self.old }
     {
         match self.ahead.take() {
@@ -315,7 +333,8 @@ impl Cursor {
         alloc: Global,
         source: &mut S,
     ) -> Result<(), ReadError>
-        ensures { Ends edif trailing result self.old self.new (S.supply source.old) (S.supply source.new) }
+        ensures { Ends edif trailing result self.old self.new
+            (S.supply source.old) (S.supply source.new) }
     {
         if self.look(alloc, source)? {
             return Err(self.refuse(Reason::Trailing));

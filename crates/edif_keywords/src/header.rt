@@ -21,7 +21,8 @@ impl Cursor {
     /// Takes `edifVersion`, `edifLevel` and `keywordMap`, and keeps the aliases. An alias works from its `)` on.
     #[tactic(auto, using(readers::proofs::Reading::sequences), unfolding(crate::specs::Grammar::header))]
     pub fn header<S: Source>(&mut self, alloc: Global, source: &mut S) -> Result<(), ReadError>
-        ensures { ReadsContext edif (header self.old.context) result self.old self.new (S.supply source.old) (S.supply source.new) }
+        ensures { ReadsContext edif (header self.old.context) result self.old self.new
+            (S.supply source.old) (S.supply source.new) }
     {
         self.version(alloc, source)?;
         self.level(alloc, source)?;
@@ -30,7 +31,8 @@ impl Cursor {
 
     #[tactic(auto, using(readers::proofs::Reading::sequences), unfolding(crate::specs::Grammar::version))]
     fn version<S: Source>(&mut self, alloc: Global, source: &mut S) -> Result<(), ReadError>
-        ensures { Reads edif same version result self.old self.new (S.supply source.old) (S.supply source.new) }
+        ensures { Reads edif same version result self.old self.new
+            (S.supply source.old) (S.supply source.new) }
     {
         self.begin(alloc, &[Keyword::EdifVersion], source)?;
         self.version_number(alloc, 2, source)?;
@@ -45,7 +47,8 @@ impl Cursor {
         due: u8,
         source: &mut S,
     ) -> Result<(), ReadError>
-        ensures { Reads edif same (version_number (pos due)) result self.old self.new (S.supply source.old) (S.supply source.new) }
+        ensures { Reads edif same (version_number (pos due)) result self.old self.new
+            (S.supply source.old) (S.supply source.new) }
     {
         let Found { place, stop, token } = self.take(alloc, source)?;
         self.judged(place, stop, version_of(due, token))
@@ -54,7 +57,8 @@ impl Cursor {
     /// Takes `edifLevel`, which is 0.
     #[tactic(auto, using(readers::proofs::Reading::sequences), unfolding(crate::specs::Grammar::level))]
     pub fn level<S: Source>(&mut self, alloc: Global, source: &mut S) -> Result<(), ReadError>
-        ensures { Reads edif same level result self.old self.new (S.supply source.old) (S.supply source.new) }
+        ensures { Reads edif same level result self.old self.new
+            (S.supply source.old) (S.supply source.new) }
     {
         self.begin(alloc, &[Keyword::EdifLevel], source)?;
         self.level_number(alloc, source)?;
@@ -62,7 +66,8 @@ impl Cursor {
     }
 
     fn level_number<S: Source>(&mut self, alloc: Global, source: &mut S) -> Result<(), ReadError>
-        ensures { Reads edif same level_number result self.old self.new (S.supply source.old) (S.supply source.new) }
+        ensures { Reads edif same level_number result self.old self.new
+            (S.supply source.old) (S.supply source.new) }
     {
         let Found { place, stop, token } = self.take(alloc, source)?;
         self.judged(place, stop, level_of(token))
@@ -71,7 +76,8 @@ impl Cursor {
     /// Whether the keyword level has aliases.
     #[tactic(auto, using(readers::proofs::Reading::sequences), unfolding(crate::specs::Grammar::keyword_level))]
     fn keyword_level<S: Source>(&mut self, alloc: Global, source: &mut S) -> Result<bool, ReadError>
-        ensures { Reads edif same keyword_level result self.old self.new (S.supply source.old) (S.supply source.new) }
+        ensures { Reads edif same keyword_level result self.old self.new
+            (S.supply source.old) (S.supply source.new) }
     {
         self.begin(alloc, &[Keyword::KeywordLevel], source)?;
         let with_aliases = self.keyword_level_number(alloc, source)?;
@@ -84,7 +90,8 @@ impl Cursor {
         alloc: Global,
         source: &mut S,
     ) -> Result<bool, ReadError>
-        ensures { Reads edif same keyword_level_number result self.old self.new (S.supply source.old) (S.supply source.new) }
+        ensures { Reads edif same keyword_level_number result self.old self.new
+            (S.supply source.old) (S.supply source.new) }
     {
         let Found { place, stop, token } = self.take(alloc, source)?;
         self.judged(place, stop, keyword_level_of(token))
@@ -92,7 +99,8 @@ impl Cursor {
 
     #[tactic(auto, using(readers::proofs::Reading::sequences), unfolding(crate::specs::Grammar::keyword_map))]
     fn keyword_map<S: Source>(&mut self, alloc: Global, source: &mut S) -> Result<(), ReadError>
-        ensures { ReadsContext edif (keyword_map self.old.context) result self.old self.new (S.supply source.old) (S.supply source.new) }
+        ensures { ReadsContext edif (keyword_map self.old.context) result self.old self.new
+            (S.supply source.old) (S.supply source.new) }
     {
         self.begin(alloc, &[Keyword::KeywordMap], source)?;
         let with_aliases = self.keyword_level(alloc, source)?;
@@ -106,7 +114,9 @@ impl Cursor {
         with_aliases: bool,
         source: &mut S,
     ) -> Result<(), ReadError>
-        ensures { ReadsContext edif (map_items with_aliases self.old.context) result self.old self.new (S.supply source.old) (S.supply source.new) }
+        ensures { ReadsContext edif
+            (map_items with_aliases self.old.context) result self.old self.new
+            (S.supply source.old) (S.supply source.new) }
     {
         while self.at_form(alloc, source)? {
             self.map_item(alloc, with_aliases, source)?;
@@ -122,7 +132,10 @@ impl Cursor {
         with_aliases: bool,
         source: &mut S,
     ) -> Result<(), ReadError>
-        ensures { ReadsContext edif (sequence opening (λ _. map_item with_aliases self.old.context)) result self.old self.new (S.supply source.old) (S.supply source.new) }
+        ensures { ReadsContext edif
+            (sequence opening
+            (λ _. map_item with_aliases self.old.context)) result self.old self.new
+            (S.supply source.old) (S.supply source.new) }
     {
         self.begin_list(alloc, source)?;
         let keyword = self.map_keyword(alloc, with_aliases, source)?;
@@ -135,7 +148,8 @@ impl Cursor {
         with_aliases: bool,
         source: &mut S,
     ) -> Result<Keyword, ReadError>
-        ensures { Reads edif same (map_keyword with_aliases) result self.old self.new (S.supply source.old) (S.supply source.new) }
+        ensures { Reads edif same (map_keyword with_aliases) result self.old self.new
+            (S.supply source.old) (S.supply source.new) }
     {
         let Found { place, stop, token } = self.take(alloc, source)?;
         let said = map_keyword_of(map_keywords(with_aliases), &self.aliases, token);
@@ -149,7 +163,8 @@ impl Cursor {
         is_alias: bool,
         source: &mut S,
     ) -> Result<(), ReadError>
-        ensures { ReadsContext edif (map_form self.old.context is_alias) result self.old self.new (S.supply source.old) (S.supply source.new) }
+        ensures { ReadsContext edif (map_form self.old.context is_alias) result self.old self.new
+            (S.supply source.old) (S.supply source.new) }
     {
         if is_alias {
             return self.alias(alloc, source);
@@ -160,7 +175,8 @@ impl Cursor {
 
     #[tactic(auto, using(readers::proofs::Reading::sequences), unfolding(crate::specs::Grammar::alias))]
     fn alias<S: Source>(&mut self, alloc: Global, source: &mut S) -> Result<(), ReadError>
-        ensures { ReadsContext edif (alias self.old.context) result self.old self.new (S.supply source.old) (S.supply source.new) }
+        ensures { ReadsContext edif (alias self.old.context) result self.old self.new
+            (S.supply source.old) (S.supply source.new) }
     {
         let word = self.new_word(alloc, source)?;
         let keyword = self.known_word(alloc, source)?;
@@ -169,7 +185,8 @@ impl Cursor {
     }
 
     fn new_word<S: Source>(&mut self, alloc: Global, source: &mut S) -> Result<Ident, ReadError>
-        ensures reads { Reads edif same new_word result self.old self.new (S.supply source.old) (S.supply source.new) }
+        ensures reads { Reads edif same new_word result self.old self.new
+            (S.supply source.old) (S.supply source.new) }
         ensures unused { IfOk result (λ word. means self.old.context word ≡ None) }
     {
         let Found { place, stop, token } = self.take(alloc, source)?;
@@ -178,7 +195,8 @@ impl Cursor {
     }
 
     fn known_word<S: Source>(&mut self, alloc: Global, source: &mut S) -> Result<Keyword, ReadError>
-        ensures { Reads edif same known_word result self.old self.new (S.supply source.old) (S.supply source.new) }
+        ensures { Reads edif same known_word result self.old self.new
+            (S.supply source.old) (S.supply source.new) }
     {
         let Found { place, stop, token } = self.take(alloc, source)?;
         let said = known_word_of(&self.aliases, token);

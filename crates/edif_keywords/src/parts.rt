@@ -21,7 +21,8 @@ use std::alloc::Global;
 impl Cursor {
     /// Takes a token: a word.
     pub fn word<S: Source>(&mut self, alloc: Global, source: &mut S) -> Result<Ident, ReadError>
-        ensures reads { Reads edif same word result self.old self.new (S.supply source.old) (S.supply source.new) }
+        ensures reads { Reads edif same word result self.old self.new
+            (S.supply source.old) (S.supply source.new) }
         ensures value { IfOk result IsWord }
     {
         let held = self.held_word();
@@ -39,7 +40,8 @@ impl Cursor {
     /// Takes any token, which has to be a word.
     #[inline(never)]
     fn word_token<S: Source>(&mut self, alloc: Global, source: &mut S) -> Result<Ident, ReadError>
-        ensures reads { Reads edif same word result self.old self.new (S.supply source.old) (S.supply source.new) }
+        ensures reads { Reads edif same word result self.old self.new
+            (S.supply source.old) (S.supply source.new) }
         ensures value { IfOk result IsWord }
     {
         let Found { place, stop, token } = self.take(alloc, source)?;
@@ -48,7 +50,8 @@ impl Cursor {
 
     /// Takes a token: a string.
     pub fn string<S: Source>(&mut self, alloc: Global, source: &mut S) -> Result<Text, ReadError>
-        ensures reads { Reads edif same string result self.old self.new (S.supply source.old) (S.supply source.new) }
+        ensures reads { Reads edif same string result self.old self.new
+            (S.supply source.old) (S.supply source.new) }
         ensures value { IfOk result IsString }
     {
         let Found { place, stop, token } = self.take(alloc, source)?;
@@ -57,7 +60,8 @@ impl Cursor {
 
     /// Takes a token: an integer.
     pub fn int<S: Source>(&mut self, alloc: Global, source: &mut S) -> Result<Int, ReadError>
-        ensures reads { Reads edif same integer result self.old self.new (S.supply source.old) (S.supply source.new) }
+        ensures reads { Reads edif same integer result self.old self.new
+            (S.supply source.old) (S.supply source.new) }
         ensures value { IfOk result IsInteger }
     {
         let Found { place, stop, token } = self.take(alloc, source)?;
@@ -66,7 +70,8 @@ impl Cursor {
 
     /// Takes a token: a `(` after which no keyword is due.
     pub fn begin_list<S: Source>(&mut self, alloc: Global, source: &mut S) -> Result<(), ReadError>
-        ensures { Reads edif same opening result self.old self.new (S.supply source.old) (S.supply source.new) }
+        ensures { Reads edif same opening result self.old self.new
+            (S.supply source.old) (S.supply source.new) }
     {
         if let Some(mark) = self.held_mark() {
             if mark == b'(' {
@@ -80,7 +85,8 @@ impl Cursor {
     /// Takes any token, which has to be `(`.
     #[inline(never)]
     fn begin_token<S: Source>(&mut self, alloc: Global, source: &mut S) -> Result<(), ReadError>
-        ensures { Reads edif same opening result self.old self.new (S.supply source.old) (S.supply source.new) }
+        ensures { Reads edif same opening result self.old self.new
+            (S.supply source.old) (S.supply source.new) }
     {
         let Found { place, stop, token } = self.take(alloc, source)?;
         self.judged(place, stop, opening_of(token))
@@ -88,7 +94,8 @@ impl Cursor {
 
     /// Takes a token: the `)` of a form or a list.
     pub fn finish_form<S: Source>(&mut self, alloc: Global, source: &mut S) -> Result<(), ReadError>
-        ensures { Reads edif same closing result self.old self.new (S.supply source.old) (S.supply source.new) }
+        ensures { Reads edif same closing result self.old self.new
+            (S.supply source.old) (S.supply source.new) }
     {
         if let Some(mark) = self.held_mark() {
             if mark == b')' {
@@ -102,7 +109,8 @@ impl Cursor {
     /// Takes any token, which has to be `)`.
     #[inline(never)]
     fn finish_token<S: Source>(&mut self, alloc: Global, source: &mut S) -> Result<(), ReadError>
-        ensures { Reads edif same closing result self.old self.new (S.supply source.old) (S.supply source.new) }
+        ensures { Reads edif same closing result self.old self.new
+            (S.supply source.old) (S.supply source.new) }
     {
         let Found { place, stop, token } = self.take(alloc, source)?;
         self.judged(place, stop, closing_of(token))
@@ -110,7 +118,8 @@ impl Cursor {
 
     /// Takes a token: the word NETLIST of a `viewType`, up to case.
     pub fn view_type<S: Source>(&mut self, alloc: Global, source: &mut S) -> Result<(), ReadError>
-        ensures { Reads edif same view_type result self.old self.new (S.supply source.old) (S.supply source.new) }
+        ensures { Reads edif same view_type result self.old self.new
+            (S.supply source.old) (S.supply source.new) }
     {
         let Found { place, stop, token } = self.take(alloc, source)?;
         self.judged(place, stop, view_type_of(token))
@@ -123,7 +132,8 @@ impl Cursor {
         words: &[(&[u8], T)],
         source: &mut S,
     ) -> Result<T, ReadError>
-        ensures { Reads edif same (choice (rows words.now)) result self.old self.new (S.supply source.old) (S.supply source.new) }
+        ensures { Reads edif same (choice (rows words.now)) result self.old self.new
+            (S.supply source.old) (S.supply source.new) }
     {
         let Found { place, stop, token } = self.take(alloc, source)?;
         self.judged(place, stop, choice_of(words, token))
@@ -136,7 +146,8 @@ impl Cursor {
         allowed: &[Keyword],
         source: &mut S,
     ) -> Result<Keyword, ReadError>
-        ensures reads { Reads edif same (begin allowed.now) result self.old self.new (S.supply source.old) (S.supply source.new) }
+        ensures reads { Reads edif same (begin allowed.now) result self.old self.new
+            (S.supply source.old) (S.supply source.new) }
         ensures allowed { IfOk result (λ q. has allowed.now q ≡ true) }
     {
         let at = self.form_at();
@@ -159,7 +170,8 @@ impl Cursor {
         allowed: &[Keyword],
         source: &mut S,
     ) -> Result<Keyword, ReadError>
-        ensures reads { Reads edif same (begin allowed.now) result self.old self.new (S.supply source.old) (S.supply source.new) }
+        ensures reads { Reads edif same (begin allowed.now) result self.old self.new
+            (S.supply source.old) (S.supply source.new) }
         ensures allowed { IfOk result (λ q. has allowed.now q ≡ true) }
     {
         self.begin_list(alloc, source)?;
@@ -173,7 +185,8 @@ impl Cursor {
         allowed: &[Keyword],
         source: &mut S,
     ) -> Result<Keyword, ReadError>
-        ensures reads { Reads edif same (keyword allowed.now) result self.old self.new (S.supply source.old) (S.supply source.new) }
+        ensures reads { Reads edif same (keyword allowed.now) result self.old self.new
+            (S.supply source.old) (S.supply source.new) }
         ensures allowed { IfOk result (λ q. has allowed.now q ≡ true) }
     {
         let held = self.held_word();
@@ -195,7 +208,8 @@ impl Cursor {
         allowed: &[Keyword],
         source: &mut S,
     ) -> Result<Keyword, ReadError>
-        ensures reads { Reads edif same (keyword allowed.now) result self.old self.new (S.supply source.old) (S.supply source.new) }
+        ensures reads { Reads edif same (keyword allowed.now) result self.old self.new
+            (S.supply source.old) (S.supply source.new) }
         ensures allowed { IfOk result (λ q. has allowed.now q ≡ true) }
     {
         let Found { place, stop, token } = self.take(alloc, source)?;

@@ -24,7 +24,8 @@ pub(crate) fn read_cell<S: Source>(
     cursor: &mut Cursor,
     source: &mut S,
 ) -> Result<Cell, ReadError>
-    ensures reads { Reads edif same cell result cursor.old cursor.new (S.supply source.old) (S.supply source.new) }
+    ensures reads { Reads edif same cell result cursor.old cursor.new
+        (S.supply source.old) (S.supply source.new) }
     ensures value { IfOk result IsCell }
     ensures size { IfOk result (λ c. cell_size c + room cursor.new < room cursor.old) }
 {
@@ -41,7 +42,8 @@ fn cell_type<S: Source>(
     cursor: &mut Cursor,
     source: &mut S,
 ) -> Result<CellKind, ReadError>
-    ensures { Reads edif same cell_type result cursor.old cursor.new (S.supply source.old) (S.supply source.new) }
+    ensures { Reads edif same cell_type result cursor.old cursor.new
+        (S.supply source.old) (S.supply source.new) }
 {
     cursor.begin(alloc, &[Keyword::CellType], source)?;
     let kind = cursor.choose(
@@ -63,10 +65,12 @@ fn cell_rest<S: Source>(
     cursor: &mut Cursor,
     source: &mut S,
 ) -> Result<Seq<CellItem>, ReadError>
-    ensures reads { Reads edif same (cell_rest []) result cursor.old cursor.new (S.supply source.old) (S.supply source.new) }
+    ensures reads { Reads edif same (cell_rest []) result cursor.old cursor.new
+        (S.supply source.old) (S.supply source.new) }
     ensures value { IfOk result (λ is. AllByRecursion IsCellItem is) }
     ensures once { IfOk result (λ is. length (filter is_view is) ≤ 1) }
-    ensures size { IfOk result (λ is. list_size cell_item_size is + room cursor.new < room cursor.old) }
+    ensures size { IfOk result
+        (λ is. list_size cell_item_size is + room cursor.new < room cursor.old) }
 {
     let mut items = Seq::empty(alloc);
     let mut viewed = false;
@@ -96,7 +100,9 @@ fn cell_item<S: Source>(
     viewed: bool,
     source: &mut S,
 ) -> Result<CellItem, ReadError>
-    ensures reads { Reads edif same (item (cell_keywords viewed) cell_item) result cursor.old cursor.new (S.supply source.old) (S.supply source.new) }
+    ensures reads { Reads edif same
+        (item (cell_keywords viewed) cell_item) result cursor.old cursor.new
+        (S.supply source.old) (S.supply source.new) }
     ensures value { IfOk result IsCellItem }
     ensures once { IfOk result (λ i. viewed ≡ true → is_view i ≡ false) }
     ensures size { IfOk result (λ i. cell_item_size i + room cursor.new < room cursor.old) }
@@ -134,7 +140,8 @@ fn cell_form<S: Source>(
     keyword: Keyword,
     source: &mut S,
 ) -> Result<CellItem, ReadError>
-    ensures reads { Reads edif same (cell_item keyword) result cursor.old cursor.new (S.supply source.old) (S.supply source.new) }
+    ensures reads { Reads edif same (cell_item keyword) result cursor.old cursor.new
+        (S.supply source.old) (S.supply source.new) }
     ensures value { IfOk result IsCellItem }
     ensures kind { IfOk result (λ i. is_view i ≡ same_keyword keyword k.View) }
     ensures size { IfOk result (λ i. cell_item_size i + room cursor.new < room cursor.old) }

@@ -22,9 +22,11 @@ pub(crate) fn read_contents<S: Source>(
     cursor: &mut Cursor,
     source: &mut S,
 ) -> Result<Seq<ContentsItem>, ReadError>
-    ensures reads { Reads edif same (contents_rest []) result cursor.old cursor.new (S.supply source.old) (S.supply source.new) }
+    ensures reads { Reads edif same (contents_rest []) result cursor.old cursor.new
+        (S.supply source.old) (S.supply source.new) }
     ensures value { IfOk result (λ is. AllByRecursion IsContentsItem is) }
-    ensures size { IfOk result (λ is. list_size contents_item_size is + room cursor.new < room cursor.old) }
+    ensures size { IfOk result
+        (λ is. list_size contents_item_size is + room cursor.new < room cursor.old) }
 {
     let mut items = Seq::empty(alloc);
     while cursor.at_form(alloc, source)? {
@@ -42,7 +44,9 @@ fn contents_item<S: Source>(
     cursor: &mut Cursor,
     source: &mut S,
 ) -> Result<ContentsItem, ReadError>
-    ensures reads { Reads edif same (item contents_keywords contents_item) result cursor.old cursor.new (S.supply source.old) (S.supply source.new) }
+    ensures reads { Reads edif same
+        (item contents_keywords contents_item) result cursor.old cursor.new
+        (S.supply source.old) (S.supply source.new) }
     ensures value { IfOk result IsContentsItem }
     ensures size { IfOk result (λ i. contents_item_size i + room cursor.new < room cursor.old) }
 {
@@ -67,7 +71,8 @@ fn contents_form<S: Source>(
     keyword: Keyword,
     source: &mut S,
 ) -> Result<ContentsItem, ReadError>
-    ensures reads { Reads edif same (contents_item keyword) result cursor.old cursor.new (S.supply source.old) (S.supply source.new) }
+    ensures reads { Reads edif same (contents_item keyword) result cursor.old cursor.new
+        (S.supply source.old) (S.supply source.new) }
     ensures value { IfOk result IsContentsItem }
     ensures size { IfOk result (λ i. contents_item_size i + room cursor.new < room cursor.old) }
 {

@@ -22,7 +22,8 @@ pub(crate) fn read_design<S: Source>(
     cursor: &mut Cursor,
     source: &mut S,
 ) -> Result<Design, ReadError>
-    ensures reads { Reads edif same design result cursor.old cursor.new (S.supply source.old) (S.supply source.new) }
+    ensures reads { Reads edif same design result cursor.old cursor.new
+        (S.supply source.old) (S.supply source.new) }
     ensures value { IfOk result IsDesign }
     ensures size { IfOk result (λ d. design_size d + room cursor.new < room cursor.old) }
 {
@@ -43,7 +44,8 @@ fn cell_ref<S: Source>(
     cursor: &mut Cursor,
     source: &mut S,
 ) -> Result<(Ident, Ident), ReadError>
-    ensures reads { Reads edif same cell_ref result cursor.old cursor.new (S.supply source.old) (S.supply source.new) }
+    ensures reads { Reads edif same cell_ref result cursor.old cursor.new
+        (S.supply source.old) (S.supply source.new) }
     ensures value { IfOk result (λ c. IsWord c.0 × IsWord c.1) }
 {
     cursor.begin(alloc, &[Keyword::CellRef], source)?;
@@ -59,7 +61,8 @@ fn library_ref<S: Source>(
     cursor: &mut Cursor,
     source: &mut S,
 ) -> Result<Ident, ReadError>
-    ensures reads { Reads edif same library_ref result cursor.old cursor.new (S.supply source.old) (S.supply source.new) }
+    ensures reads { Reads edif same library_ref result cursor.old cursor.new
+        (S.supply source.old) (S.supply source.new) }
     ensures value { IfOk result IsWord }
 {
     cursor.begin(alloc, &[Keyword::LibraryRef], source)?;
@@ -74,9 +77,11 @@ fn design_rest<S: Source>(
     cursor: &mut Cursor,
     source: &mut S,
 ) -> Result<Seq<DesignItem>, ReadError>
-    ensures reads { Reads edif same (design_rest []) result cursor.old cursor.new (S.supply source.old) (S.supply source.new) }
+    ensures reads { Reads edif same (design_rest []) result cursor.old cursor.new
+        (S.supply source.old) (S.supply source.new) }
     ensures value { IfOk result (λ is. AllByRecursion IsDesignItem is) }
-    ensures size { IfOk result (λ is. list_size design_item_size is + room cursor.new < room cursor.old) }
+    ensures size { IfOk result
+        (λ is. list_size design_item_size is + room cursor.new < room cursor.old) }
 {
     let mut items = Seq::empty(alloc);
     while cursor.at_form(alloc, source)? {
@@ -93,7 +98,8 @@ fn design_item<S: Source>(
     cursor: &mut Cursor,
     source: &mut S,
 ) -> Result<DesignItem, ReadError>
-    ensures reads { Reads edif same (item design_keywords design_item) result cursor.old cursor.new (S.supply source.old) (S.supply source.new) }
+    ensures reads { Reads edif same (item design_keywords design_item) result cursor.old cursor.new
+        (S.supply source.old) (S.supply source.new) }
     ensures value { IfOk result IsDesignItem }
     ensures size { IfOk result (λ i. design_item_size i + room cursor.new < room cursor.old) }
 {
@@ -117,7 +123,8 @@ fn design_form<S: Source>(
     keyword: Keyword,
     source: &mut S,
 ) -> Result<DesignItem, ReadError>
-    ensures reads { Reads edif same (design_item keyword) result cursor.old cursor.new (S.supply source.old) (S.supply source.new) }
+    ensures reads { Reads edif same (design_item keyword) result cursor.old cursor.new
+        (S.supply source.old) (S.supply source.new) }
     ensures value { IfOk result IsDesignItem }
     ensures size { IfOk result (λ i. design_item_size i + room cursor.new < room cursor.old) }
 {

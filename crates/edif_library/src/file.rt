@@ -29,7 +29,8 @@ use std::alloc::Global;
 /// `Text`: the first fault, with its place, where its stop lies within so many bytes. `TooLong`: the text is longer, and it has no such
 /// fault. `ReadFault`: the source failed. `NoMemory`: memory ran out. It never answers `Spent`.
 pub fn read_edif<S: Source>(alloc: Global, source: &mut S) -> Result<EdifFile, ReadError>
-    ensures reads { ReadsText edif trailing [] same (file []) result (S.supply source.old) (S.supply source.new) }
+    ensures reads { ReadsText edif trailing [] same (file []) result
+        (S.supply source.old) (S.supply source.new) }
     ensures value { IfOk result IsEdifValue }
     ensures size { IfOk result (λ file. edif_size file ≤ LIMIT) }
 {
@@ -49,7 +50,8 @@ fn read_file<S: Source>(
     cursor: &mut Cursor,
     source: &mut S,
 ) -> Result<EdifFile, ReadError>
-    ensures reads { ReadsWhole edif same (file cursor.old.context) result cursor.old cursor.new (S.supply source.old) (S.supply source.new) }
+    ensures reads { ReadsWhole edif same (file cursor.old.context) result cursor.old cursor.new
+        (S.supply source.old) (S.supply source.new) }
     ensures value { IfOk result IsEdifValue }
     ensures size { IfOk result (λ f. edif_size f + room cursor.new < room cursor.old) }
 {
@@ -67,7 +69,8 @@ fn file_body<S: Source>(
     source: &mut S,
 ) -> Result<EdifFile, ReadError>
     requires { IsNameDef name }
-    ensures reads { Reads edif same (file_body name) result cursor.old cursor.new (S.supply source.old) (S.supply source.new) }
+    ensures reads { Reads edif same (file_body name) result cursor.old cursor.new
+        (S.supply source.old) (S.supply source.new) }
     ensures value { IfOk result IsEdifValue }
     ensures size { IfOk result (λ f. edif_size f + room cursor.new < room cursor.old) }
 {
@@ -81,9 +84,11 @@ fn file_rest<S: Source>(
     cursor: &mut Cursor,
     source: &mut S,
 ) -> Result<Seq<FileItem>, ReadError>
-    ensures reads { Reads edif same (file_rest []) result cursor.old cursor.new (S.supply source.old) (S.supply source.new) }
+    ensures reads { Reads edif same (file_rest []) result cursor.old cursor.new
+        (S.supply source.old) (S.supply source.new) }
     ensures value { IfOk result (λ is. AllByRecursion IsFileItem is) }
-    ensures size { IfOk result (λ is. list_size file_item_size is + room cursor.new < room cursor.old) }
+    ensures size { IfOk result
+        (λ is. list_size file_item_size is + room cursor.new < room cursor.old) }
 {
     let mut items = Seq::empty(alloc);
     while cursor.at_form(alloc, source)? {
@@ -100,7 +105,8 @@ fn file_item<S: Source>(
     cursor: &mut Cursor,
     source: &mut S,
 ) -> Result<FileItem, ReadError>
-    ensures reads { Reads edif same (item file_keywords file_item) result cursor.old cursor.new (S.supply source.old) (S.supply source.new) }
+    ensures reads { Reads edif same (item file_keywords file_item) result cursor.old cursor.new
+        (S.supply source.old) (S.supply source.new) }
     ensures value { IfOk result IsFileItem }
     ensures size { IfOk result (λ i. file_item_size i + room cursor.new < room cursor.old) }
 {
@@ -126,7 +132,8 @@ fn file_form<S: Source>(
     keyword: Keyword,
     source: &mut S,
 ) -> Result<FileItem, ReadError>
-    ensures reads { Reads edif same (file_item keyword) result cursor.old cursor.new (S.supply source.old) (S.supply source.new) }
+    ensures reads { Reads edif same (file_item keyword) result cursor.old cursor.new
+        (S.supply source.old) (S.supply source.new) }
     ensures value { IfOk result IsFileItem }
     ensures size { IfOk result (λ i. file_item_size i + room cursor.new < room cursor.old) }
 {

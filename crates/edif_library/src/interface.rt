@@ -23,9 +23,11 @@ pub(crate) fn read_interface<S: Source>(
     cursor: &mut Cursor,
     source: &mut S,
 ) -> Result<Seq<InterfaceItem>, ReadError>
-    ensures reads { Reads edif same interface result cursor.old cursor.new (S.supply source.old) (S.supply source.new) }
+    ensures reads { Reads edif same interface result cursor.old cursor.new
+        (S.supply source.old) (S.supply source.new) }
     ensures value { IfOk result (λ is. AllByRecursion IsInterfaceItem is) }
-    ensures size { IfOk result (λ is. list_size interface_item_size is + room cursor.new < room cursor.old) }
+    ensures size { IfOk result
+        (λ is. list_size interface_item_size is + room cursor.new < room cursor.old) }
 {
     cursor.begin(alloc, &[Keyword::Interface], source)?;
     interface_rest(alloc, cursor, source)
@@ -37,9 +39,11 @@ fn interface_rest<S: Source>(
     cursor: &mut Cursor,
     source: &mut S,
 ) -> Result<Seq<InterfaceItem>, ReadError>
-    ensures reads { Reads edif same (interface_rest []) result cursor.old cursor.new (S.supply source.old) (S.supply source.new) }
+    ensures reads { Reads edif same (interface_rest []) result cursor.old cursor.new
+        (S.supply source.old) (S.supply source.new) }
     ensures value { IfOk result (λ is. AllByRecursion IsInterfaceItem is) }
-    ensures size { IfOk result (λ is. list_size interface_item_size is + room cursor.new < room cursor.old) }
+    ensures size { IfOk result
+        (λ is. list_size interface_item_size is + room cursor.new < room cursor.old) }
 {
     let mut items = Seq::empty(alloc);
     while cursor.at_form(alloc, source)? {
@@ -56,7 +60,9 @@ fn interface_item<S: Source>(
     cursor: &mut Cursor,
     source: &mut S,
 ) -> Result<InterfaceItem, ReadError>
-    ensures reads { Reads edif same (item interface_keywords interface_item) result cursor.old cursor.new (S.supply source.old) (S.supply source.new) }
+    ensures reads { Reads edif same
+        (item interface_keywords interface_item) result cursor.old cursor.new
+        (S.supply source.old) (S.supply source.new) }
     ensures value { IfOk result IsInterfaceItem }
     ensures size { IfOk result (λ i. interface_item_size i + room cursor.new < room cursor.old) }
 {
@@ -81,7 +87,8 @@ fn interface_form<S: Source>(
     keyword: Keyword,
     source: &mut S,
 ) -> Result<InterfaceItem, ReadError>
-    ensures reads { Reads edif same (interface_item keyword) result cursor.old cursor.new (S.supply source.old) (S.supply source.new) }
+    ensures reads { Reads edif same (interface_item keyword) result cursor.old cursor.new
+        (S.supply source.old) (S.supply source.new) }
     ensures value { IfOk result IsInterfaceItem }
     ensures size { IfOk result (λ i. interface_item_size i + room cursor.new < room cursor.old) }
 {

@@ -24,7 +24,8 @@ pub(crate) fn read_library<S: Source>(
     external: bool,
     source: &mut S,
 ) -> Result<Library, ReadError>
-    ensures reads { Reads edif same (library external) result cursor.old cursor.new (S.supply source.old) (S.supply source.new) }
+    ensures reads { Reads edif same (library external) result cursor.old cursor.new
+        (S.supply source.old) (S.supply source.new) }
     ensures value { IfOk result IsLibrary }
     ensures size { IfOk result (λ l. library_size l + room cursor.new < room cursor.old) }
 {
@@ -47,9 +48,11 @@ fn library_rest<S: Source>(
     cursor: &mut Cursor,
     source: &mut S,
 ) -> Result<Seq<LibraryItem>, ReadError>
-    ensures reads { Reads edif same (library_rest []) result cursor.old cursor.new (S.supply source.old) (S.supply source.new) }
+    ensures reads { Reads edif same (library_rest []) result cursor.old cursor.new
+        (S.supply source.old) (S.supply source.new) }
     ensures value { IfOk result (λ is. AllByRecursion IsLibraryItem is) }
-    ensures size { IfOk result (λ is. list_size library_item_size is + room cursor.new < room cursor.old) }
+    ensures size { IfOk result
+        (λ is. list_size library_item_size is + room cursor.new < room cursor.old) }
 {
     let mut items = Seq::empty(alloc);
     while cursor.at_form(alloc, source)? {
@@ -66,7 +69,9 @@ fn library_item<S: Source>(
     cursor: &mut Cursor,
     source: &mut S,
 ) -> Result<LibraryItem, ReadError>
-    ensures reads { Reads edif same (item library_keywords library_item) result cursor.old cursor.new (S.supply source.old) (S.supply source.new) }
+    ensures reads { Reads edif same
+        (item library_keywords library_item) result cursor.old cursor.new
+        (S.supply source.old) (S.supply source.new) }
     ensures value { IfOk result IsLibraryItem }
     ensures size { IfOk result (λ i. library_item_size i + room cursor.new < room cursor.old) }
 {
@@ -90,7 +95,8 @@ fn library_form<S: Source>(
     keyword: Keyword,
     source: &mut S,
 ) -> Result<LibraryItem, ReadError>
-    ensures reads { Reads edif same (library_item keyword) result cursor.old cursor.new (S.supply source.old) (S.supply source.new) }
+    ensures reads { Reads edif same (library_item keyword) result cursor.old cursor.new
+        (S.supply source.old) (S.supply source.new) }
     ensures value { IfOk result IsLibraryItem }
     ensures size { IfOk result (λ i. library_item_size i + room cursor.new < room cursor.old) }
 {

@@ -24,9 +24,11 @@ pub(crate) fn read_technology<S: Source>(
     cursor: &mut Cursor,
     source: &mut S,
 ) -> Result<(Seq<Scale>, Seq<Note>), ReadError>
-    ensures reads { Reads edif same technology result cursor.old cursor.new (S.supply source.old) (S.supply source.new) }
+    ensures reads { Reads edif same technology result cursor.old cursor.new
+        (S.supply source.old) (S.supply source.new) }
     ensures value { IfOk result (λ t. AllByRecursion IsScale t.0 × AllByRecursion IsNote t.1) }
-    ensures size { IfOk result (λ t. list_size note_size t.1 + length t.0 + room cursor.new < room cursor.old) }
+    ensures size { IfOk result
+        (λ t. list_size note_size t.1 + length t.0 + room cursor.new < room cursor.old) }
 {
     cursor.begin(alloc, &[Keyword::Technology], source)?;
     let scales = number_definition(alloc, cursor, source)?;
@@ -40,7 +42,8 @@ fn number_definition<S: Source>(
     cursor: &mut Cursor,
     source: &mut S,
 ) -> Result<Seq<Scale>, ReadError>
-    ensures reads { Reads edif same number_definition result cursor.old cursor.new (S.supply source.old) (S.supply source.new) }
+    ensures reads { Reads edif same number_definition result cursor.old cursor.new
+        (S.supply source.old) (S.supply source.new) }
     ensures value { IfOk result (λ ss. AllByRecursion IsScale ss) }
     ensures size { IfOk result (λ ss. length ss + room cursor.new < room cursor.old) }
 {
@@ -54,7 +57,8 @@ fn scales_rest<S: Source>(
     cursor: &mut Cursor,
     source: &mut S,
 ) -> Result<Seq<Scale>, ReadError>
-    ensures reads { Reads edif same (scales_rest []) result cursor.old cursor.new (S.supply source.old) (S.supply source.new) }
+    ensures reads { Reads edif same (scales_rest []) result cursor.old cursor.new
+        (S.supply source.old) (S.supply source.new) }
     ensures value { IfOk result (λ ss. AllByRecursion IsScale ss) }
     ensures size { IfOk result (λ ss. length ss + room cursor.new < room cursor.old) }
 {
@@ -73,7 +77,8 @@ fn scale_item<S: Source>(
     cursor: &mut Cursor,
     source: &mut S,
 ) -> Result<Scale, ReadError>
-    ensures reads { Reads edif same (item (k.Scale ∷ []) (λ _. scale)) result cursor.old cursor.new (S.supply source.old) (S.supply source.new) }
+    ensures reads { Reads edif same (item (k.Scale ∷ []) (λ _. scale)) result cursor.old cursor.new
+        (S.supply source.old) (S.supply source.new) }
     ensures value { IfOk result IsScale }
 {
     cursor.begin(alloc, &[Keyword::Scale], source)?;
@@ -82,7 +87,8 @@ fn scale_item<S: Source>(
 
 /// Reads on after the keyword `scale`.
 fn scale<S: Source>(alloc: Global, cursor: &mut Cursor, source: &mut S) -> Result<Scale, ReadError>
-    ensures reads { Reads edif same scale result cursor.old cursor.new (S.supply source.old) (S.supply source.new) }
+    ensures reads { Reads edif same scale result cursor.old cursor.new
+        (S.supply source.old) (S.supply source.new) }
     ensures value { IfOk result IsScale }
 {
     let left = read_scaled(alloc, cursor, source)?;
@@ -94,7 +100,8 @@ fn scale<S: Source>(alloc: Global, cursor: &mut Cursor, source: &mut S) -> Resul
 
 /// Reads a `unit`, from its `(` on.
 fn unit<S: Source>(alloc: Global, cursor: &mut Cursor, source: &mut S) -> Result<Ident, ReadError>
-    ensures reads { Reads edif same unit result cursor.old cursor.new (S.supply source.old) (S.supply source.new) }
+    ensures reads { Reads edif same unit result cursor.old cursor.new
+        (S.supply source.old) (S.supply source.new) }
     ensures value { IfOk result IsWord }
 {
     cursor.begin(alloc, &[Keyword::Unit], source)?;
@@ -109,7 +116,8 @@ fn notes_rest<S: Source>(
     cursor: &mut Cursor,
     source: &mut S,
 ) -> Result<Seq<Note>, ReadError>
-    ensures reads { Reads edif same (notes_rest []) result cursor.old cursor.new (S.supply source.old) (S.supply source.new) }
+    ensures reads { Reads edif same (notes_rest []) result cursor.old cursor.new
+        (S.supply source.old) (S.supply source.new) }
     ensures value { IfOk result (λ ns. AllByRecursion IsNote ns) }
     ensures size { IfOk result (λ ns. list_size note_size ns + room cursor.new < room cursor.old) }
 {
@@ -128,7 +136,8 @@ fn note_item<S: Source>(
     cursor: &mut Cursor,
     source: &mut S,
 ) -> Result<Note, ReadError>
-    ensures reads { Reads edif same (item note_keywords note) result cursor.old cursor.new (S.supply source.old) (S.supply source.new) }
+    ensures reads { Reads edif same (item note_keywords note) result cursor.old cursor.new
+        (S.supply source.old) (S.supply source.new) }
     ensures value { IfOk result IsNote }
     ensures size { IfOk result (λ n. note_size n + room cursor.new < room cursor.old) }
 {

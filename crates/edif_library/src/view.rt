@@ -25,7 +25,8 @@ pub(crate) fn read_view<S: Source>(
     cursor: &mut Cursor,
     source: &mut S,
 ) -> Result<View, ReadError>
-    ensures reads { Reads edif same view result cursor.old cursor.new (S.supply source.old) (S.supply source.new) }
+    ensures reads { Reads edif same view result cursor.old cursor.new
+        (S.supply source.old) (S.supply source.new) }
     ensures value { IfOk result IsView }
     ensures size { IfOk result (λ v. view_size v + room cursor.new < room cursor.old) }
 {
@@ -43,7 +44,8 @@ pub(crate) fn read_view<S: Source>(
 /// Reads `viewType`, which is NETLIST.
 #[tactic(auto, using(readers::proofs::Reading::sequences), unfolding(crate::specs::Grammar::netlist))]
 fn netlist<S: Source>(alloc: Global, cursor: &mut Cursor, source: &mut S) -> Result<(), ReadError>
-    ensures { Reads edif same netlist result cursor.old cursor.new (S.supply source.old) (S.supply source.new) }
+    ensures { Reads edif same netlist result cursor.old cursor.new
+        (S.supply source.old) (S.supply source.new) }
 {
     cursor.begin(alloc, &[Keyword::ViewType], source)?;
     cursor.view_type(alloc, source)?;
@@ -56,10 +58,12 @@ fn view_rest<S: Source>(
     cursor: &mut Cursor,
     source: &mut S,
 ) -> Result<Seq<ViewItem>, ReadError>
-    ensures reads { Reads edif same (view_rest []) result cursor.old cursor.new (S.supply source.old) (S.supply source.new) }
+    ensures reads { Reads edif same (view_rest []) result cursor.old cursor.new
+        (S.supply source.old) (S.supply source.new) }
     ensures value { IfOk result (λ is. AllByRecursion IsViewItem is) }
     ensures once { IfOk result (λ is. length (filter is_contents is) ≤ 1) }
-    ensures size { IfOk result (λ is. list_size view_item_size is + room cursor.new < room cursor.old) }
+    ensures size { IfOk result
+        (λ is. list_size view_item_size is + room cursor.new < room cursor.old) }
 {
     let mut items = Seq::empty(alloc);
     let mut filled = false;
@@ -89,7 +93,9 @@ fn view_item<S: Source>(
     filled: bool,
     source: &mut S,
 ) -> Result<ViewItem, ReadError>
-    ensures reads { Reads edif same (item (view_keywords filled) view_item) result cursor.old cursor.new (S.supply source.old) (S.supply source.new) }
+    ensures reads { Reads edif same
+        (item (view_keywords filled) view_item) result cursor.old cursor.new
+        (S.supply source.old) (S.supply source.new) }
     ensures value { IfOk result IsViewItem }
     ensures once { IfOk result (λ i. filled ≡ true → is_contents i ≡ false) }
     ensures size { IfOk result (λ i. view_item_size i + room cursor.new < room cursor.old) }
@@ -128,7 +134,8 @@ fn view_form<S: Source>(
     keyword: Keyword,
     source: &mut S,
 ) -> Result<ViewItem, ReadError>
-    ensures reads { Reads edif same (view_item keyword) result cursor.old cursor.new (S.supply source.old) (S.supply source.new) }
+    ensures reads { Reads edif same (view_item keyword) result cursor.old cursor.new
+        (S.supply source.old) (S.supply source.new) }
     ensures value { IfOk result IsViewItem }
     ensures kind { IfOk result (λ i. is_contents i ≡ same_keyword keyword k.Contents) }
     ensures size { IfOk result (λ i. view_item_size i + room cursor.new < room cursor.old) }

@@ -67,8 +67,13 @@ fn add_alike<'a>(
     spelling: &'a [u8],
     number: u32,
 ) -> Result<bool, NoMemory>
-    ensures known { IfOk result (λ known. known ≡ is_some (at_small (map small spelling.now) table.old)) }
-    ensures added { OnOk result ((other : List ℕ) → at_small other table.new ≡ cond (same_bytes other (map small spelling.now)) (Some (one_more (at_small (map small spelling.now) table.old) number)) (at_small other table.old)) }
+    ensures known { IfOk result
+        (λ known. known ≡ is_some (at_small (map small spelling.now) table.old)) }
+    ensures added { OnOk result ((other : List ℕ)
+        → at_small other table.new
+        ≡ cond (same_bytes other (map small spelling.now))
+        (Some (one_more (at_small (map small spelling.now) table.old) number))
+        (at_small other table.old)) }
 {
     let key = Folded { bytes: spelling };
     let alike = joined_by(table.get(&key), number);
@@ -85,7 +90,9 @@ fn fill_small<'a>(
 ) -> Result<bool, NoMemory>
     requires { HoldsSmall [] table.old }
     ensures holds { OnOk result (HoldsSmall (written entries.now) table.new) }
-    ensures several { IfOk result (λ several. several ≡ false → (spelling : List ℕ) → is_several (at_small spelling table.new) ≡ false) }
+    ensures several { IfOk result
+        (λ several. several ≡ false → (spelling : List ℕ)
+        → is_several (at_small spelling table.new) ≡ false) }
 {
     let mut several = false;
     for entry in entries {

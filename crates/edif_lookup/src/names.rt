@@ -35,7 +35,8 @@ impl<'a> NameSet<'a> {
     /// Notes a name, and answers whether it was there.
     pub fn note(&mut self, name: &'a [u8]) -> Result<bool, NoMemory>
         ensures known { IfOk result (λ known. known ≡ is_in name.now self.old) }
-        ensures noted { OnOk result ((other : List ℕ) → is_in other self.new ≡ (same_bytes other name.now || is_in other self.old)) }
+        ensures noted { OnOk result ((other : List ℕ)
+            → is_in other self.new ≡ (same_bytes other name.now || is_in other self.old)) }
         ensures kept { OnErr result (self.new ≡ self.old) }
     {
         if let Ok(fresh) = self.set.insert(Name { bytes: name }) {

@@ -17,7 +17,8 @@ pub fn read_name<S: Source>(
     cursor: &mut Cursor,
     source: &mut S,
 ) -> Result<NameDef, ReadError>
-    ensures reads { Reads edif same name result cursor.old cursor.new (S.supply source.old) (S.supply source.new) }
+    ensures reads { Reads edif same name result cursor.old cursor.new
+        (S.supply source.old) (S.supply source.new) }
     ensures value { IfOk result IsNameDef }
 {
     if cursor.at_form(alloc, source)? {
@@ -34,7 +35,8 @@ fn renamed<S: Source>(
     cursor: &mut Cursor,
     source: &mut S,
 ) -> Result<NameDef, ReadError>
-    ensures reads { Reads edif same renamed result cursor.old cursor.new (S.supply source.old) (S.supply source.new) }
+    ensures reads { Reads edif same renamed result cursor.old cursor.new
+        (S.supply source.old) (S.supply source.new) }
     ensures value { IfOk result IsNameDef }
 {
     let ident = cursor.word(alloc, source)?;
@@ -52,7 +54,8 @@ fn plain<S: Source>(
     cursor: &mut Cursor,
     source: &mut S,
 ) -> Result<NameDef, ReadError>
-    ensures reads { Reads edif same plain result cursor.old cursor.new (S.supply source.old) (S.supply source.new) }
+    ensures reads { Reads edif same plain result cursor.old cursor.new
+        (S.supply source.old) (S.supply source.new) }
     ensures value { IfOk result IsNameDef }
 {
     let ident = cursor.word(alloc, source)?;
@@ -66,7 +69,8 @@ pub fn read_port_name<S: Source>(
     cursor: &mut Cursor,
     source: &mut S,
 ) -> Result<PortName, ReadError>
-    ensures reads { Reads edif same port_name result cursor.old cursor.new (S.supply source.old) (S.supply source.new) }
+    ensures reads { Reads edif same port_name result cursor.old cursor.new
+        (S.supply source.old) (S.supply source.new) }
     ensures value { IfOk result IsPortName }
 {
     if cursor.at_form(alloc, source)? {
@@ -84,7 +88,8 @@ fn port_form<S: Source>(
     is_array: bool,
     source: &mut S,
 ) -> Result<PortName, ReadError>
-    ensures reads { Reads edif same (port_form is_array) result cursor.old cursor.new (S.supply source.old) (S.supply source.new) }
+    ensures reads { Reads edif same (port_form is_array) result cursor.old cursor.new
+        (S.supply source.old) (S.supply source.new) }
     ensures value { IfOk result IsPortName }
 {
     if is_array {
@@ -101,7 +106,8 @@ fn array<S: Source>(
     cursor: &mut Cursor,
     source: &mut S,
 ) -> Result<PortName, ReadError>
-    ensures reads { Reads edif same array result cursor.old cursor.new (S.supply source.old) (S.supply source.new) }
+    ensures reads { Reads edif same array result cursor.old cursor.new
+        (S.supply source.old) (S.supply source.new) }
     ensures value { IfOk result IsPortName }
 {
     let name = read_name(alloc, cursor, source)?;

@@ -17,7 +17,8 @@ pub fn read_scaled<S: Source>(
     cursor: &mut Cursor,
     source: &mut S,
 ) -> Result<Scaled, ReadError>
-    ensures reads { Reads edif same scaled result cursor.old cursor.new (S.supply source.old) (S.supply source.new) }
+    ensures reads { Reads edif same scaled result cursor.old cursor.new
+        (S.supply source.old) (S.supply source.new) }
     ensures value { IfOk result IsScaled }
 {
     if cursor.at_form(alloc, source)? {
@@ -34,7 +35,8 @@ fn exponential<S: Source>(
     cursor: &mut Cursor,
     source: &mut S,
 ) -> Result<Scaled, ReadError>
-    ensures reads { Reads edif same exponential result cursor.old cursor.new (S.supply source.old) (S.supply source.new) }
+    ensures reads { Reads edif same exponential result cursor.old cursor.new
+        (S.supply source.old) (S.supply source.new) }
     ensures value { IfOk result IsScaled }
 {
     let mantissa = cursor.int(alloc, source)?;
@@ -45,7 +47,8 @@ fn exponential<S: Source>(
 
 #[tactic(auto, using(readers::proofs::Reading::sequences), unfolding(crate::specs::Grammar::whole))]
 fn whole<S: Source>(alloc: Global, cursor: &mut Cursor, source: &mut S) -> Result<Scaled, ReadError>
-    ensures reads { Reads edif same whole result cursor.old cursor.new (S.supply source.old) (S.supply source.new) }
+    ensures reads { Reads edif same whole result cursor.old cursor.new
+        (S.supply source.old) (S.supply source.new) }
     ensures value { IfOk result IsScaled }
 {
     let mantissa = cursor.int(alloc, source)?;

@@ -20,7 +20,8 @@ pub fn read_property<S: Source>(
     cursor: &mut Cursor,
     source: &mut S,
 ) -> Result<Property, ReadError>
-    ensures reads { Reads edif same property result cursor.old cursor.new (S.supply source.old) (S.supply source.new) }
+    ensures reads { Reads edif same property result cursor.old cursor.new
+        (S.supply source.old) (S.supply source.new) }
     ensures value { IfOk result IsProperty }
     ensures size { IfOk result (λ p. property_size p + room cursor.new < room cursor.old) }
 {
@@ -36,7 +37,8 @@ fn read_tails<S: Source>(
     cursor: &mut Cursor,
     source: &mut S,
 ) -> Result<Seq<PropTail>, ReadError>
-    ensures reads { Reads edif same (tails []) result cursor.old cursor.new (S.supply source.old) (S.supply source.new) }
+    ensures reads { Reads edif same (tails []) result cursor.old cursor.new
+        (S.supply source.old) (S.supply source.new) }
     ensures value { IfOk result ArePropTails }
     ensures size { IfOk result (λ ts. list_size tail_size ts + room cursor.new < room cursor.old) }
 {
@@ -56,7 +58,8 @@ fn tail_item<S: Source>(
     cursor: &mut Cursor,
     source: &mut S,
 ) -> Result<PropTail, ReadError>
-    ensures reads { Reads edif same tail_item result cursor.old cursor.new (S.supply source.old) (S.supply source.new) }
+    ensures reads { Reads edif same tail_item result cursor.old cursor.new
+        (S.supply source.old) (S.supply source.new) }
     ensures value { IfOk result IsPropTail }
     ensures size { IfOk result (λ t. tail_size t + room cursor.new < room cursor.old) }
 {
@@ -71,7 +74,8 @@ fn tail_form<S: Source>(
     keyword: Keyword,
     source: &mut S,
 ) -> Result<PropTail, ReadError>
-    ensures reads { Reads edif same (tail_form keyword) result cursor.old cursor.new (S.supply source.old) (S.supply source.new) }
+    ensures reads { Reads edif same (tail_form keyword) result cursor.old cursor.new
+        (S.supply source.old) (S.supply source.new) }
     ensures value { IfOk result IsPropTail }
     ensures size { IfOk result (λ t. tail_size t + room cursor.new < room cursor.old) }
 {
@@ -89,7 +93,8 @@ fn owner<S: Source>(
     cursor: &mut Cursor,
     source: &mut S,
 ) -> Result<PropTail, ReadError>
-    ensures reads { Reads edif same owner result cursor.old cursor.new (S.supply source.old) (S.supply source.new) }
+    ensures reads { Reads edif same owner result cursor.old cursor.new
+        (S.supply source.old) (S.supply source.new) }
     ensures value { IfOk result IsPropTail }
     ensures size { IfOk result (λ t. tail_size t + room cursor.new < room cursor.old) }
 {

@@ -18,7 +18,8 @@ pub(crate) fn read_value<S: Source>(
     cursor: &mut Cursor,
     source: &mut S,
 ) -> Result<PropValue, ReadError>
-    ensures reads { Reads edif same value result cursor.old cursor.new (S.supply source.old) (S.supply source.new) }
+    ensures reads { Reads edif same value result cursor.old cursor.new
+        (S.supply source.old) (S.supply source.new) }
     ensures value { IfOk result IsPropValue }
 {
     let allowed = [
@@ -38,7 +39,8 @@ fn value_form<S: Source>(
     keyword: Keyword,
     source: &mut S,
 ) -> Result<PropValue, ReadError>
-    ensures reads { Reads edif same (value_form keyword) result cursor.old cursor.new (S.supply source.old) (S.supply source.new) }
+    ensures reads { Reads edif same (value_form keyword) result cursor.old cursor.new
+        (S.supply source.old) (S.supply source.new) }
     ensures value { IfOk result IsPropValue }
 {
     if same_keyword(keyword, Keyword::String) {
@@ -60,7 +62,8 @@ fn string_value<S: Source>(
     cursor: &mut Cursor,
     source: &mut S,
 ) -> Result<PropValue, ReadError>
-    ensures reads { Reads edif same string_value result cursor.old cursor.new (S.supply source.old) (S.supply source.new) }
+    ensures reads { Reads edif same string_value result cursor.old cursor.new
+        (S.supply source.old) (S.supply source.new) }
     ensures value { IfOk result IsPropValue }
 {
     let text = cursor.string(alloc, source)?;
@@ -75,7 +78,8 @@ fn integer_value<S: Source>(
     cursor: &mut Cursor,
     source: &mut S,
 ) -> Result<PropValue, ReadError>
-    ensures reads { Reads edif same integer_value result cursor.old cursor.new (S.supply source.old) (S.supply source.new) }
+    ensures reads { Reads edif same integer_value result cursor.old cursor.new
+        (S.supply source.old) (S.supply source.new) }
     ensures value { IfOk result IsPropValue }
 {
     let number = cursor.int(alloc, source)?;
@@ -90,7 +94,8 @@ fn number_value<S: Source>(
     cursor: &mut Cursor,
     source: &mut S,
 ) -> Result<PropValue, ReadError>
-    ensures reads { Reads edif same number_value result cursor.old cursor.new (S.supply source.old) (S.supply source.new) }
+    ensures reads { Reads edif same number_value result cursor.old cursor.new
+        (S.supply source.old) (S.supply source.new) }
     ensures value { IfOk result IsPropValue }
 {
     let number = read_scaled(alloc, cursor, source)?;
@@ -105,7 +110,8 @@ fn boolean_value<S: Source>(
     cursor: &mut Cursor,
     source: &mut S,
 ) -> Result<PropValue, ReadError>
-    ensures reads { Reads edif same boolean_value result cursor.old cursor.new (S.supply source.old) (S.supply source.new) }
+    ensures reads { Reads edif same boolean_value result cursor.old cursor.new
+        (S.supply source.old) (S.supply source.new) }
     ensures value { IfOk result IsPropValue }
 {
     let keyword = cursor.begin(alloc, &[Keyword::True, Keyword::False], source)?;

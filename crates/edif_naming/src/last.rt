@@ -74,7 +74,8 @@ fn add_property(
     requires stem { has_stem_text prop.now.name ≡ false }
     requires few { from < 2 ^ 32 }
     requires plain { ArePlain made.old.items from }
-    ensures value { OnOk result (map value_of made.new.items ≡ map value_of made.old.items ++ prop.now ∷ []) }
+    ensures value { OnOk result (map value_of made.new.items
+        ≡ map value_of made.old.items ++ prop.now ∷ []) }
     ensures plain { IfOk result (ArePlain made.new.items) }
     ensures step { IfOk result (λ next. next ≤ from + 1) }
     ensures sound { IsSoundProp prop.now → AllByRecursion IsProperty made.old.items
@@ -117,8 +118,11 @@ fn few_properties(alloc: Global, props: &[HProp]) -> Result<Vec<Property>, NoMem
     requires stem { list_any (λ prop. has_stem_text prop.name) props.now ≡ false }
     requires few { length props.now ≤ 8 }
     ensures values { IfOk result (λ made. map value_of made.items ≡ last_values_of props.now) }
-    ensures sound { AreSoundProps props.now → IfOk result (λ made. AllByRecursion IsProperty made.items) }
-    ensures idents { IfOk result (λ made. AreIdents (map (λ prop. prop.name) (last_values_of props.now)) (map ident_of made.items)) }
+    ensures sound { AreSoundProps props.now
+        → IfOk result (λ made. AllByRecursion IsProperty made.items) }
+    ensures idents { IfOk result
+        (λ made. AreIdents (map (λ prop. prop.name) (last_values_of props.now))
+        (map ident_of made.items)) }
 {
     let mut made = Vec::with_capacity(alloc, props.len())?;
     let mut from = 0;
@@ -132,8 +136,11 @@ fn few_properties(alloc: Global, props: &[HProp]) -> Result<Vec<Property>, NoMem
 #[tactic(auto, using(crate::proofs::LastLaws::seen_sound))]
 fn many_properties(alloc: Global, props: &[HProp]) -> Result<Vec<Property>, NoMemory>
     ensures values { IfOk result (λ made. map value_of made.items ≡ last_values_of props.now) }
-    ensures sound { AreSoundProps props.now → IfOk result (λ made. AllByRecursion IsProperty made.items) }
-    ensures idents { IfOk result (λ made. AreIdents (map (λ prop. prop.name) (last_values_of props.now)) (map ident_of made.items)) }
+    ensures sound { AreSoundProps props.now
+        → IfOk result (λ made. AllByRecursion IsProperty made.items) }
+    ensures idents { IfOk result
+        (λ made. AreIdents (map (λ prop. prop.name) (last_values_of props.now))
+        (map ident_of made.items)) }
 {
     let kept = last_of(alloc, props)?;
     let made = properties_of(alloc, kept.as_slice())?;
@@ -143,8 +150,11 @@ fn many_properties(alloc: Global, props: &[HProp]) -> Result<Vec<Property>, NoMe
 /// The last of each name of the properties of one object, whose identifiers are a name space of their own.
 pub fn last_properties(alloc: Global, props: &[HProp]) -> Result<Vec<Property>, NoMemory>
     ensures values { IfOk result (λ made. map value_of made.items ≡ last_values_of props.now) }
-    ensures sound { AreSoundProps props.now → IfOk result (λ made. AllByRecursion IsProperty made.items) }
-    ensures idents { IfOk result (λ made. AreIdents (map (λ prop. prop.name) (last_values_of props.now)) (map ident_of made.items)) }
+    ensures sound { AreSoundProps props.now
+        → IfOk result (λ made. AllByRecursion IsProperty made.items) }
+    ensures idents { IfOk result
+        (λ made. AreIdents (map (λ prop. prop.name) (last_values_of props.now))
+        (map ident_of made.items)) }
 {
     if props.len() <= FEW && !have_stem(props) {
         return few_properties(alloc, props);

@@ -115,7 +115,11 @@ fn array_named(
 ) -> Result<PortName, NoMemory>
     ensures small { IfOk result (λ _. IsSmallRange (Some range)) }
     ensures word { IsWord ident.now }
-    ensures name { IfOk result (λ made. made ≡ Array (record { ident = ident.now; text = Some (text_of_array name.now range) }) (pos (range_bits range))) }
+    ensures name { IfOk result
+        (λ made. made ≡ Array (record {
+          ident = ident.now;
+          text = Some (text_of_array name.now range);
+        }) (pos (range_bits range))) }
 {
     let ident = copied(alloc, ident)?;
     let text = array_text(alloc, name, range)?;
@@ -129,7 +133,8 @@ fn array_named(
 /// The name of the port with this identifier.
 fn port_name_with(alloc: Global, ident: &Ident, port: &HPort) -> Result<PortName, NoMemory>
     ensures word { IsWord ident.now }
-    ensures name { IfOk result (λ made. made ≡ port_name_for ident.now port.now.name port.now.range) }
+    ensures name { IfOk result
+        (λ made. made ≡ port_name_for ident.now port.now.name port.now.range) }
     ensures small { IfOk result (λ _. IsSmallRange port.now.range) }
 {
     match port.range {
@@ -146,7 +151,8 @@ fn port_name_with(alloc: Global, ident: &Ident, port: &HPort) -> Result<PortName
 
 /// The name of the port with this identifier.
 pub fn port_named(alloc: Global, ident: &Ident, port: &HPort) -> Result<PortName, NoMemory>
-    ensures name { IfOk result (λ made. made ≡ port_name_for ident.now port.now.name port.now.range) }
+    ensures name { IfOk result
+        (λ made. made ≡ port_name_for ident.now port.now.name port.now.range) }
     ensures small { IfOk result (λ _. IsSmallRange port.now.range) }
     ensures sound { IsShort port.now.name → IfOk result IsPortName }
 {

@@ -84,8 +84,10 @@ fn property_idents(alloc: Global, props: &[&HProp]) -> Result<Seq<Ident>, NoMemo
 /// The properties of one object, whose identifiers are a name space of their own.
 pub fn properties_of(alloc: Global, props: &[&HProp]) -> Result<Vec<Property>, NoMemory>
     ensures values { IfOk result (λ made. map value_of made.items ≡ seen props.now) }
-    ensures sound { AreSoundProps (seen props.now) → IfOk result (λ made. AllByRecursion IsProperty made.items) }
-    ensures idents { IfOk result (λ made. AreIdents (map (λ prop. prop.name) (seen props.now)) (map ident_of made.items)) }
+    ensures sound { AreSoundProps (seen props.now)
+        → IfOk result (λ made. AllByRecursion IsProperty made.items) }
+    ensures idents { IfOk result
+        (λ made. AreIdents (map (λ prop. prop.name) (seen props.now)) (map ident_of made.items)) }
 {
     let idents = property_idents(alloc, props)?;
     let words = idents.items();

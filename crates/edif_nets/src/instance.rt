@@ -23,7 +23,8 @@ pub fn read_instance<S: Source>(
     cursor: &mut Cursor,
     source: &mut S,
 ) -> Result<Instance, ReadError>
-    ensures reads { Reads edif same instance result cursor.old cursor.new (S.supply source.old) (S.supply source.new) }
+    ensures reads { Reads edif same instance result cursor.old cursor.new
+        (S.supply source.old) (S.supply source.new) }
     ensures value { IfOk result IsInstance }
     ensures size { IfOk result (λ u. instance_size u + room cursor.new < room cursor.old) }
 {
@@ -46,7 +47,8 @@ fn view_ref<S: Source>(
     cursor: &mut Cursor,
     source: &mut S,
 ) -> Result<(Ident, Ident, Option<Ident>), ReadError>
-    ensures reads { Reads edif same view_ref result cursor.old cursor.new (S.supply source.old) (S.supply source.new) }
+    ensures reads { Reads edif same view_ref result cursor.old cursor.new
+        (S.supply source.old) (S.supply source.new) }
     ensures value { IfOk result (λ v. IsWord v.0 × IsWord v.1 × IfSome v.2 IsWord) }
 {
     cursor.begin(alloc, &[Keyword::ViewRef], source)?;
@@ -63,7 +65,8 @@ fn cell_ref<S: Source>(
     cursor: &mut Cursor,
     source: &mut S,
 ) -> Result<(Ident, Option<Ident>), ReadError>
-    ensures reads { Reads edif same cell_ref result cursor.old cursor.new (S.supply source.old) (S.supply source.new) }
+    ensures reads { Reads edif same cell_ref result cursor.old cursor.new
+        (S.supply source.old) (S.supply source.new) }
     ensures value { IfOk result (λ c. IsWord c.0 × IfSome c.1 IsWord) }
 {
     cursor.begin(alloc, &[Keyword::CellRef], source)?;
@@ -79,7 +82,8 @@ fn maybe_library<S: Source>(
     cursor: &mut Cursor,
     source: &mut S,
 ) -> Result<Option<Ident>, ReadError>
-    ensures reads { Reads edif same maybe_library result cursor.old cursor.new (S.supply source.old) (S.supply source.new) }
+    ensures reads { Reads edif same maybe_library result cursor.old cursor.new
+        (S.supply source.old) (S.supply source.new) }
     ensures value { IfOk result (λ l. IfSome l IsWord) }
 {
     if cursor.at_form(alloc, source)? {
@@ -96,7 +100,8 @@ fn library_named<S: Source>(
     cursor: &mut Cursor,
     source: &mut S,
 ) -> Result<Option<Ident>, ReadError>
-    ensures reads { Reads edif same library_named result cursor.old cursor.new (S.supply source.old) (S.supply source.new) }
+    ensures reads { Reads edif same library_named result cursor.old cursor.new
+        (S.supply source.old) (S.supply source.new) }
     ensures value { IfOk result (λ l. IfSome l IsWord) }
 {
     let library = cursor.word(alloc, source)?;
@@ -111,7 +116,8 @@ fn no_library<S: Source>(
     cursor: &mut Cursor,
     source: &mut S,
 ) -> Result<Option<Ident>, ReadError>
-    ensures reads { Reads edif same no_library result cursor.old cursor.new (S.supply source.old) (S.supply source.new) }
+    ensures reads { Reads edif same no_library result cursor.old cursor.new
+        (S.supply source.old) (S.supply source.new) }
     ensures value { IfOk result (λ l. IfSome l IsWord) }
 {
     cursor.finish_form(alloc, source)?;
@@ -124,9 +130,11 @@ fn instance_rest<S: Source>(
     cursor: &mut Cursor,
     source: &mut S,
 ) -> Result<Seq<InstanceItem>, ReadError>
-    ensures reads { Reads edif same (instance_rest []) result cursor.old cursor.new (S.supply source.old) (S.supply source.new) }
+    ensures reads { Reads edif same (instance_rest []) result cursor.old cursor.new
+        (S.supply source.old) (S.supply source.new) }
     ensures value { IfOk result (λ is. AllByRecursion IsInstanceItem is) }
-    ensures size { IfOk result (λ is. list_size instance_item_size is + room cursor.new < room cursor.old) }
+    ensures size { IfOk result
+        (λ is. list_size instance_item_size is + room cursor.new < room cursor.old) }
 {
     let mut items = Seq::empty(alloc);
     while cursor.at_form(alloc, source)? {
@@ -144,7 +152,9 @@ fn instance_item<S: Source>(
     cursor: &mut Cursor,
     source: &mut S,
 ) -> Result<InstanceItem, ReadError>
-    ensures reads { Reads edif same (item instance_keywords instance_item) result cursor.old cursor.new (S.supply source.old) (S.supply source.new) }
+    ensures reads { Reads edif same
+        (item instance_keywords instance_item) result cursor.old cursor.new
+        (S.supply source.old) (S.supply source.new) }
     ensures value { IfOk result IsInstanceItem }
     ensures size { IfOk result (λ i. instance_item_size i + room cursor.new < room cursor.old) }
 {
@@ -166,7 +176,8 @@ fn instance_form<S: Source>(
     keyword: Keyword,
     source: &mut S,
 ) -> Result<InstanceItem, ReadError>
-    ensures reads { Reads edif same (instance_item keyword) result cursor.old cursor.new (S.supply source.old) (S.supply source.new) }
+    ensures reads { Reads edif same (instance_item keyword) result cursor.old cursor.new
+        (S.supply source.old) (S.supply source.new) }
     ensures value { IfOk result IsInstanceItem }
     ensures size { IfOk result (λ i. instance_item_size i + room cursor.new < room cursor.old) }
 {

@@ -22,7 +22,8 @@ pub fn read_net<S: Source>(
     cursor: &mut Cursor,
     source: &mut S,
 ) -> Result<Net, ReadError>
-    ensures reads { Reads edif same net result cursor.old cursor.new (S.supply source.old) (S.supply source.new) }
+    ensures reads { Reads edif same net result cursor.old cursor.new
+        (S.supply source.old) (S.supply source.new) }
     ensures value { IfOk result IsNet }
     ensures size { IfOk result (λ n. net_size n + room cursor.new < room cursor.old) }
 {
@@ -43,7 +44,8 @@ fn joined<S: Source>(
     cursor: &mut Cursor,
     source: &mut S,
 ) -> Result<Seq<PortRef>, ReadError>
-    ensures reads { Reads edif same joined result cursor.old cursor.new (S.supply source.old) (S.supply source.new) }
+    ensures reads { Reads edif same joined result cursor.old cursor.new
+        (S.supply source.old) (S.supply source.new) }
     ensures value { IfOk result (λ rs. AllByRecursion IsPortRef rs) }
     ensures size { IfOk result (λ rs. length rs + room cursor.new < room cursor.old) }
 {
@@ -57,7 +59,8 @@ fn joined_rest<S: Source>(
     cursor: &mut Cursor,
     source: &mut S,
 ) -> Result<Seq<PortRef>, ReadError>
-    ensures reads { Reads edif same (joined_rest []) result cursor.old cursor.new (S.supply source.old) (S.supply source.new) }
+    ensures reads { Reads edif same (joined_rest []) result cursor.old cursor.new
+        (S.supply source.old) (S.supply source.new) }
     ensures value { IfOk result (λ rs. AllByRecursion IsPortRef rs) }
     ensures size { IfOk result (λ rs. length rs + room cursor.new < room cursor.old) }
 {
@@ -77,7 +80,9 @@ fn joined_item<S: Source>(
     cursor: &mut Cursor,
     source: &mut S,
 ) -> Result<PortRef, ReadError>
-    ensures reads { Reads edif same (item joined_keywords (λ _. port_ref)) result cursor.old cursor.new (S.supply source.old) (S.supply source.new) }
+    ensures reads { Reads edif same
+        (item joined_keywords (λ _. port_ref)) result cursor.old cursor.new
+        (S.supply source.old) (S.supply source.new) }
     ensures value { IfOk result IsPortRef }
 {
     cursor.begin(alloc, &[Keyword::PortRef], source)?;
@@ -91,7 +96,8 @@ fn port_ref<S: Source>(
     cursor: &mut Cursor,
     source: &mut S,
 ) -> Result<PortRef, ReadError>
-    ensures reads { Reads edif same port_ref result cursor.old cursor.new (S.supply source.old) (S.supply source.new) }
+    ensures reads { Reads edif same port_ref result cursor.old cursor.new
+        (S.supply source.old) (S.supply source.new) }
     ensures value { IfOk result IsPortRef }
 {
     let (port, member) = port_or_member(alloc, cursor, source)?;
@@ -110,7 +116,8 @@ fn port_or_member<S: Source>(
     cursor: &mut Cursor,
     source: &mut S,
 ) -> Result<(Ident, Option<Int>), ReadError>
-    ensures reads { Reads edif same port_or_member result cursor.old cursor.new (S.supply source.old) (S.supply source.new) }
+    ensures reads { Reads edif same port_or_member result cursor.old cursor.new
+        (S.supply source.old) (S.supply source.new) }
     ensures value { IfOk result (λ p. IsWord p.0 × IfSome p.1 IsInteger) }
 {
     if cursor.at_form(alloc, source)? {
@@ -127,7 +134,8 @@ fn member<S: Source>(
     cursor: &mut Cursor,
     source: &mut S,
 ) -> Result<(Ident, Option<Int>), ReadError>
-    ensures reads { Reads edif same member result cursor.old cursor.new (S.supply source.old) (S.supply source.new) }
+    ensures reads { Reads edif same member result cursor.old cursor.new
+        (S.supply source.old) (S.supply source.new) }
     ensures value { IfOk result (λ p. IsWord p.0 × IfSome p.1 IsInteger) }
 {
     let port = cursor.word(alloc, source)?;
@@ -142,7 +150,8 @@ fn whole_port<S: Source>(
     cursor: &mut Cursor,
     source: &mut S,
 ) -> Result<(Ident, Option<Int>), ReadError>
-    ensures reads { Reads edif same whole_port result cursor.old cursor.new (S.supply source.old) (S.supply source.new) }
+    ensures reads { Reads edif same whole_port result cursor.old cursor.new
+        (S.supply source.old) (S.supply source.new) }
     ensures value { IfOk result (λ p. IsWord p.0 × IfSome p.1 IsInteger) }
 {
     let port = cursor.word(alloc, source)?;
@@ -156,7 +165,8 @@ fn maybe_instance<S: Source>(
     cursor: &mut Cursor,
     source: &mut S,
 ) -> Result<Option<Ident>, ReadError>
-    ensures reads { Reads edif same maybe_instance result cursor.old cursor.new (S.supply source.old) (S.supply source.new) }
+    ensures reads { Reads edif same maybe_instance result cursor.old cursor.new
+        (S.supply source.old) (S.supply source.new) }
     ensures value { IfOk result (λ l. IfSome l IsWord) }
 {
     if cursor.at_form(alloc, source)? {
@@ -173,7 +183,8 @@ fn instance_named<S: Source>(
     cursor: &mut Cursor,
     source: &mut S,
 ) -> Result<Option<Ident>, ReadError>
-    ensures reads { Reads edif same instance_named result cursor.old cursor.new (S.supply source.old) (S.supply source.new) }
+    ensures reads { Reads edif same instance_named result cursor.old cursor.new
+        (S.supply source.old) (S.supply source.new) }
     ensures value { IfOk result (λ l. IfSome l IsWord) }
 {
     let instance = cursor.word(alloc, source)?;
@@ -188,7 +199,8 @@ fn no_instance<S: Source>(
     cursor: &mut Cursor,
     source: &mut S,
 ) -> Result<Option<Ident>, ReadError>
-    ensures reads { Reads edif same no_instance result cursor.old cursor.new (S.supply source.old) (S.supply source.new) }
+    ensures reads { Reads edif same no_instance result cursor.old cursor.new
+        (S.supply source.old) (S.supply source.new) }
     ensures value { IfOk result (λ l. IfSome l IsWord) }
 {
     cursor.finish_form(alloc, source)?;
@@ -201,9 +213,11 @@ fn net_rest<S: Source>(
     cursor: &mut Cursor,
     source: &mut S,
 ) -> Result<Seq<NetItem>, ReadError>
-    ensures reads { Reads edif same (net_rest []) result cursor.old cursor.new (S.supply source.old) (S.supply source.new) }
+    ensures reads { Reads edif same (net_rest []) result cursor.old cursor.new
+        (S.supply source.old) (S.supply source.new) }
     ensures value { IfOk result (λ is. AllByRecursion IsNetItem is) }
-    ensures size { IfOk result (λ is. list_size net_item_size is + room cursor.new < room cursor.old) }
+    ensures size { IfOk result
+        (λ is. list_size net_item_size is + room cursor.new < room cursor.old) }
 {
     let mut items = Seq::empty(alloc);
     while cursor.at_form(alloc, source)? {
@@ -221,7 +235,8 @@ fn net_item<S: Source>(
     cursor: &mut Cursor,
     source: &mut S,
 ) -> Result<NetItem, ReadError>
-    ensures reads { Reads edif same (item net_keywords net_item) result cursor.old cursor.new (S.supply source.old) (S.supply source.new) }
+    ensures reads { Reads edif same (item net_keywords net_item) result cursor.old cursor.new
+        (S.supply source.old) (S.supply source.new) }
     ensures value { IfOk result IsNetItem }
     ensures size { IfOk result (λ i. net_item_size i + room cursor.new < room cursor.old) }
 {
@@ -238,7 +253,8 @@ fn net_form<S: Source>(
     keyword: Keyword,
     source: &mut S,
 ) -> Result<NetItem, ReadError>
-    ensures reads { Reads edif same (net_item keyword) result cursor.old cursor.new (S.supply source.old) (S.supply source.new) }
+    ensures reads { Reads edif same (net_item keyword) result cursor.old cursor.new
+        (S.supply source.old) (S.supply source.new) }
     ensures value { IfOk result IsNetItem }
     ensures size { IfOk result (λ i. net_item_size i + room cursor.new < room cursor.old) }
 {

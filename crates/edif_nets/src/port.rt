@@ -23,7 +23,8 @@ pub fn read_port<S: Source>(
     cursor: &mut Cursor,
     source: &mut S,
 ) -> Result<Port, ReadError>
-    ensures reads { Reads edif same port result cursor.old cursor.new (S.supply source.old) (S.supply source.new) }
+    ensures reads { Reads edif same port result cursor.old cursor.new
+        (S.supply source.old) (S.supply source.new) }
     ensures value { IfOk result IsPort }
     ensures size { IfOk result (λ p. port_size p + room cursor.new < room cursor.old) }
 {
@@ -39,7 +40,8 @@ pub fn read_designator<S: Source>(
     cursor: &mut Cursor,
     source: &mut S,
 ) -> Result<Text, ReadError>
-    ensures reads { Reads edif same designator result cursor.old cursor.new (S.supply source.old) (S.supply source.new) }
+    ensures reads { Reads edif same designator result cursor.old cursor.new
+        (S.supply source.old) (S.supply source.new) }
     ensures value { IfOk result IsString }
 {
     let text = cursor.string(alloc, source)?;
@@ -53,9 +55,11 @@ fn port_rest<S: Source>(
     cursor: &mut Cursor,
     source: &mut S,
 ) -> Result<Seq<PortItem>, ReadError>
-    ensures reads { Reads edif same (port_rest []) result cursor.old cursor.new (S.supply source.old) (S.supply source.new) }
+    ensures reads { Reads edif same (port_rest []) result cursor.old cursor.new
+        (S.supply source.old) (S.supply source.new) }
     ensures value { IfOk result ArePortItems }
-    ensures size { IfOk result (λ is. list_size port_item_size is + room cursor.new < room cursor.old) }
+    ensures size { IfOk result
+        (λ is. list_size port_item_size is + room cursor.new < room cursor.old) }
 {
     let mut items = Seq::empty(alloc);
     let mut directed = false;
@@ -76,7 +80,9 @@ fn port_item<S: Source>(
     directed: bool,
     source: &mut S,
 ) -> Result<PortItem, ReadError>
-    ensures reads { Reads edif same (item (port_keywords directed) port_item) result cursor.old cursor.new (S.supply source.old) (S.supply source.new) }
+    ensures reads { Reads edif same
+        (item (port_keywords directed) port_item) result cursor.old cursor.new
+        (S.supply source.old) (S.supply source.new) }
     ensures value { IfOk result IsPortItem }
     ensures size { IfOk result (λ i. port_item_size i + room cursor.new < room cursor.old) }
     ensures one { IfOk result (λ i. (directed && is_direction i) ≡ false) }
@@ -93,7 +99,8 @@ fn port_form<S: Source>(
     keyword: Keyword,
     source: &mut S,
 ) -> Result<PortItem, ReadError>
-    ensures reads { Reads edif same (port_item keyword) result cursor.old cursor.new (S.supply source.old) (S.supply source.new) }
+    ensures reads { Reads edif same (port_item keyword) result cursor.old cursor.new
+        (S.supply source.old) (S.supply source.new) }
     ensures value { IfOk result IsPortItem }
     ensures size { IfOk result (λ i. port_item_size i + room cursor.new < room cursor.old) }
     ensures kind { IfOk result (λ i. is_direction i ≡ same_keyword keyword Keyword.Direction) }
@@ -120,7 +127,8 @@ fn direction_item<S: Source>(
     cursor: &mut Cursor,
     source: &mut S,
 ) -> Result<PortItem, ReadError>
-    ensures reads { Reads edif same direction result cursor.old cursor.new (S.supply source.old) (S.supply source.new) }
+    ensures reads { Reads edif same direction result cursor.old cursor.new
+        (S.supply source.old) (S.supply source.new) }
     ensures value { IfOk result IsPortItem }
     ensures size { IfOk result (λ i. port_item_size i + room cursor.new < room cursor.old) }
     ensures kind { IfOk result (λ i. is_direction i ≡ true) }

@@ -73,7 +73,8 @@ fn file_recursion(
     requires small { edif_size tabled.now ≤ count_limit }
     requires numbers { numbers.now ≡ numbers_in_design tabled.now }
     requires first { IsFirstRecursion (cells_below (edif_cells tabled.now)) cell instance }
-    ensures { IfOk result (λ made. slice_get (recursion_refusals (edif_cells tabled.now)) 0 ≡ Some made) }
+    ensures { IfOk result (λ made. slice_get (recursion_refusals (edif_cells tabled.now)) 0
+        ≡ Some made) }
 {
     let cells = design_cells(alloc, tabled, numbers)?;
     let made = recursion_refusal(alloc, cells.items(), cell, instance)?;

@@ -28,7 +28,8 @@ pub(crate) fn numbers_meant(
     library: u32,
     cell: &Cell,
 ) -> Result<Vec<Option<u32>>, NoMemory>
-    ensures { IfOk result (λ numbers. numbers.items ≡ numbers_meant tables.now (place_in library cell.now)) }
+    ensures { IfOk result (λ numbers. numbers.items
+        ≡ numbers_meant tables.now (place_in library cell.now)) }
 {
     let contents = contents_of(alloc, cell)?;
     let instances = instances_in(alloc, contents.as_slice())?;

@@ -30,7 +30,9 @@ fn push_cell(
     requires clean { refusals tabled.now ≡ [] }
     requires small { edif_size tabled.now ≤ count_limit }
     requires stands { slice_get (all_cells tabled.now) number ≡ Some (place_of place.now) }
-    ensures { OnOk result (cells.new ≡ cells.old ++ cond (is_reached tabled.now number) (cell_value numbers.now (linked_cell tabled.now (place_of place.now)) ∷ []) []) }
+    ensures { OnOk result (cells.new
+        ≡ cells.old ++ cond (is_reached tabled.now number)
+        (cell_value numbers.now (linked_cell tabled.now (place_of place.now)) ∷ []) []) }
 {
     if !tabled.is_reached(number) {
         return Ok(());

@@ -118,7 +118,9 @@ fn pass_library<'a>(
 ) -> Result<Walk<'a>, NoMemory>
     requires few { (walk.libraries < count_limit) × (walk.cells ≤ count_limit) }
     requires small { library_size library.now ≤ count_limit }
-    ensures { IfOk result (λ passed. (before : List FileItem) → HasPassed tabled.now before walk.entry → HasPassed tabled.now (before ++ file_items.Library library.now ∷ []) passed) }
+    ensures { IfOk result (λ passed. (before : List FileItem)
+        → HasPassed tabled.now before walk.entry
+        → HasPassed tabled.now (before ++ file_items.Library library.now ∷ []) passed) }
 {
     let Walk {
         best,
@@ -146,7 +148,9 @@ fn pass_design<'a>(
     walk: Walk<'a>,
     design: &Design,
 ) -> Result<Walk<'a>, NoMemory>
-    ensures { IfOk result (λ passed. (before : List FileItem) → HasPassed tabled.now before walk.entry → HasPassed tabled.now (before ++ file_items.Design design.now ∷ []) passed) }
+    ensures { IfOk result (λ passed. (before : List FileItem)
+        → HasPassed tabled.now before walk.entry
+        → HasPassed tabled.now (before ++ file_items.Design design.now ∷ []) passed) }
 {
     let Walk {
         best,
@@ -172,7 +176,9 @@ fn pass<'a>(
 ) -> Result<Walk<'a>, NoMemory>
     requires few { (walk.libraries < count_limit) × (walk.cells ≤ count_limit) }
     requires small { file_item_size item.now ≤ count_limit }
-    ensures { IfOk result (λ passed. (before : List FileItem) → HasPassed tabled.now before walk.entry → HasPassed tabled.now (before ++ item.now ∷ []) passed) }
+    ensures { IfOk result (λ passed. (before : List FileItem)
+        → HasPassed tabled.now before walk.entry
+        → HasPassed tabled.now (before ++ item.now ∷ []) passed) }
 {
     match item {
         FileItem::Library(library) => {
@@ -195,7 +201,8 @@ fn parts_refusal<'a>(
     items: &'a [FileItem],
 ) -> Result<Option<Refusal>, NoMemory>
     requires { list_size file_item_size items.now ≤ count_limit }
-    ensures { IfOk result (λ found. found ≡ lowest (in_order (file_item_refusals tabled.now) items.now)) }
+    ensures { IfOk result (λ found. found
+        ≡ lowest (in_order (file_item_refusals tabled.now) items.now)) }
 {
     let mut walk = Walk {
         best: None,

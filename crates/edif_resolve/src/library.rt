@@ -19,7 +19,8 @@ use std::alloc::Global;
 
 // Adds the cell that a part of a library is.
 fn push_cell<'a>(cells: &mut Vec<&'a Cell>, item: &'a LibraryItem) -> Result<(), NoMemory>
-    ensures { OnOk result (seen cells.new.items ≡ seen cells.old.items ++ option_to_list (cell_in item.now)) }
+    ensures { OnOk result (seen cells.new.items
+        ≡ seen cells.old.items ++ option_to_list (cell_in item.now)) }
 {
     match item {
         LibraryItem::Cell(cell) => {
@@ -49,7 +50,8 @@ pub(crate) fn second_refusal(
     kind: &[u8],
     ident: &[u8],
 ) -> Result<Option<Refusal>, NoMemory>
-    ensures { IfOk result (λ found. found ≡ lowest (broken taken E5 [] (kind.now ∷ (ident.now ∷ [])))) }
+    ensures { IfOk result (λ found. found
+        ≡ lowest (broken taken E5 [] (kind.now ∷ (ident.now ∷ [])))) }
 {
     if !taken {
         return Ok(None);
@@ -68,7 +70,8 @@ fn reached_refusal(
     cell: &Cell,
 ) -> Result<Option<Refusal>, NoMemory>
     requires { cell_size cell.now ≤ count_limit }
-    ensures { IfOk result (λ found. found ≡ lowest (reached_refusals tabled.now number (place_in library cell.now))) }
+    ensures { IfOk result (λ found. found
+        ≡ lowest (reached_refusals tabled.now number (place_in library cell.now))) }
 {
     if !tabled.is_reached(number) {
         return Ok(None);
@@ -95,7 +98,9 @@ fn one_refusal(
     taken: bool,
 ) -> Result<Option<Refusal>, NoMemory>
     requires { cell_size cell.now ≤ count_limit }
-    ensures { IfOk result (λ found. found ≡ lowest (broken taken E5 [] (codes "cell" ∷ (cell.now.name.ident ∷ [])) ++ reached_refusals tabled.now number (place_in library cell.now))) }
+    ensures { IfOk result (λ found. found
+        ≡ lowest (broken taken E5 [] (codes "cell" ∷ (cell.now.name.ident ∷ []))
+        ++ reached_refusals tabled.now number (place_in library cell.now))) }
 {
     let second = second_refusal(alloc, taken, b"cell", cell.name.ident.bytes())?;
     let parts = reached_refusal(alloc, tabled, library, number, cell)?;
@@ -112,7 +117,8 @@ pub(crate) fn library_refusal<'a>(
 ) -> Result<Option<Refusal>, NoMemory>
     requires few { first + length cells.now ≤ count_limit + count_limit }
     requires small { All (λ cell. cell_size cell.now ≤ count_limit) cells.now }
-    ensures { IfOk result (λ found. found ≡ lowest (in_order (library_cell_refusals tabled.now library first) (seen cells.now))) }
+    ensures { IfOk result (λ found. found
+        ≡ lowest (in_order (library_cell_refusals tabled.now library first) (seen cells.now))) }
 {
     let mut best = None;
     let mut names = NameSet::new(alloc);

@@ -76,7 +76,9 @@ fn most_at(
 ) -> Result<u64, NoMemory>
     requires clean { refusals tabled.now ≡ [] }
     requires stands { slice_get (all_cells tabled.now) number ≡ Some (place_of place.now) }
-    ensures { IfOk result (λ most. most ≡ cond (is_reached tabled.now number) (min (2 ^ 64 - 1) (most_units place.now.cell.now)) 0) }
+    ensures { IfOk result (λ most. most
+        ≡ cond (is_reached tabled.now number)
+        (min (2 ^ 64 - 1) (most_units place.now.cell.now)) 0) }
 {
     if !tabled.is_reached(number) {
         return Ok(0);

@@ -17,7 +17,8 @@ use std::alloc::Global;
 
 // Adds the design that a part of a file is.
 fn push_design<'a>(found: &mut Vec<&'a Design>, item: &'a FileItem) -> Result<(), NoMemory>
-    ensures { OnOk result (seen found.new.items ≡ seen found.old.items ++ option_to_list (design_in item.now)) }
+    ensures { OnOk result (seen found.new.items
+        ≡ seen found.old.items ++ option_to_list (design_in item.now)) }
 {
     match item {
         FileItem::Design(design) => {
@@ -67,7 +68,8 @@ pub(crate) fn top_of(
     tables: &FileTables<'_>,
     designs: &[&Design],
 ) -> Result<Option<u32>, NoMemory>
-    ensures { IfOk result (λ number. number ≡ number_meant (first_meant (map (top_meant tables.now) (seen designs.now)))) }
+    ensures { IfOk result (λ number. number
+        ≡ number_meant (first_meant (map (top_meant tables.now) (seen designs.now)))) }
 {
     match designs {
         [] => Ok(None),

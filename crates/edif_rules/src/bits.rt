@@ -54,7 +54,9 @@ impl TakenBits {
 
     /// Adds the bit.
     pub fn add(&mut self, spot: BitSpot) -> Result<(), NoMemory>
-        ensures added { OnOk result ((other : Node) → list_any (same_node other) self.new ≡ (same_node other (node_at spot) || list_any (same_node other) self.old)) }
+        ensures added { OnOk result ((other : Node)
+            → list_any (same_node other) self.new
+            ≡ (same_node other (node_at spot) || list_any (same_node other) self.old)) }
         ensures kept { OnErr result (self.new ≡ self.old) }
     {
         if let Ok(_) = self.set.insert(spot) {

@@ -37,7 +37,8 @@ pub enum Target {
 
 /// The ports of the cell that the instance of this number is of.
 fn inner_ports<'a, 's>(scope: &CellScope<'a, 's>, instance: u32) -> Option<&'s PortTable<'a>>
-    ensures { MatchOption result (inner_ports (lists_of scope.now) instance ≡ None) (λ table. inner_ports (lists_of scope.now) instance ≡ Some table.now) }
+    ensures { MatchOption result (inner_ports (lists_of scope.now) instance
+        ≡ None) (λ table. inner_ports (lists_of scope.now) instance ≡ Some table.now) }
 {
     match scope.below.get(instance as usize) {
         Some(Some(cell)) => scope.port_tables.get(*cell as usize),
@@ -68,7 +69,8 @@ fn find_inner(
     instance: u32,
     spelling: &Ident,
 ) -> Result<Target, NoMemory>
-    ensures { IfOk result (λ found. found ≡ found_inner (lists_of scope.now) instance spelling.now) }
+    ensures { IfOk result (λ found. found
+        ≡ found_inner (lists_of scope.now) instance spelling.now) }
 {
     match inner_ports(scope, instance) {
         None => Ok(Target::NoCell),
@@ -86,7 +88,9 @@ fn find_by_instance(
     instance: &Ident,
     spelling: &Ident,
 ) -> Result<Target, NoMemory>
-    ensures { IfOk result (λ found. found ≡ found_by (lists_of scope.now) spelling.now (instances_meaning (lists_of scope.now).instances instance.now)) }
+    ensures { IfOk result (λ found. found
+        ≡ found_by (lists_of scope.now) spelling.now
+        (instances_meaning (lists_of scope.now).instances instance.now)) }
 {
     match scope.instances.find(alloc, instance.bytes())? {
         Meaning::Nothing => Ok(Target::NoInstance),
@@ -120,7 +124,8 @@ pub fn find_port(
 
 /// The port of this number, of the cell or of the instance.
 pub fn port_at<'a>(scope: &CellScope<'a, '_>, instance: Option<u32>, port: u32) -> Option<&'a Port>
-    ensures { MatchOption result (port_at (lists_of scope.now) instance port ≡ None) (λ meant. port_at (lists_of scope.now) instance port ≡ Some meant.now) }
+    ensures { MatchOption result (port_at (lists_of scope.now) instance port
+        ≡ None) (λ meant. port_at (lists_of scope.now) instance port ≡ Some meant.now) }
 {
     match instance {
         None => scope.own.get(port),
@@ -153,7 +158,8 @@ pub fn member_of(reference: &PortRef) -> Option<i64>
 
 /// The bit of this port that is meant.
 fn spot_in(meant: &Port, instance: Option<u32>, port: u32, member: Option<i64>) -> Option<BitSpot>
-    ensures { option_map node_at result ≡ option_map (node_of_bit instance port) (bit_of (size_of meant.now.name) member) }
+    ensures { option_map node_at result
+        ≡ option_map (node_of_bit instance port) (bit_of (size_of meant.now.name) member) }
 {
     let bit = bit_of(port_size(meant), member)?;
     Some(BitSpot {

@@ -11,7 +11,8 @@ use std::marker::Model;
 
 /// The length of the base and the range, where the text has the range form for this size as it is written.
 fn split_sized(text: &[u8], size: i64) -> Option<(usize, Range)>
-    ensures value { result ≡ option_map (λ form. (length form.0, form.1)) (sized_form text.now size) }
+    ensures value { result ≡ option_map (λ form. (length form.0, form.1))
+        (sized_form text.now size) }
     ensures within { IfSome result (λ found. found.0 ≤ length text.now) }
 {
     if size < 0 {

@@ -23,7 +23,8 @@ pub fn second_refusal(
     kind: &[u8],
     name: &[u8],
 ) -> Result<Option<Refusal>, NoMemory>
-    ensures { IfOk result (λ found. found ≡ lowest (broken taken rule cell.now (kind.now ∷ (name.now ∷ [])))) }
+    ensures { IfOk result (λ found. found
+        ≡ lowest (broken taken rule cell.now (kind.now ∷ (name.now ∷ [])))) }
 {
     if taken {
         let told = two_names(alloc, kind, name)?;
@@ -41,7 +42,9 @@ fn view_refusal(
     number: Option<u32>,
     spelling: &Ident,
 ) -> Result<Option<Refusal>, NoMemory>
-    ensures { IfOk result (λ found. found ≡ lowest (view_refusals cell.now spelling.now (option_and_then (slice_get (file_cells tables.now)) number))) }
+    ensures { IfOk result (λ found. found
+        ≡ lowest (view_refusals cell.now spelling.now
+        (option_and_then (slice_get (file_cells tables.now)) number))) }
 {
     let Some(number) = number else {
         return Ok(unbroken());
@@ -78,7 +81,9 @@ pub fn instance_refusal(
     ident_taken: bool,
     name_taken: bool,
 ) -> Result<Option<Refusal>, NoMemory>
-    ensures { IfOk result (λ found. found ≡ lowest (instance_refusals_by tables.now home cell.now ident_taken name_taken instance.now)) }
+    ensures { IfOk result (λ found. found
+        ≡ lowest
+        (instance_refusals_by tables.now home cell.now ident_taken name_taken instance.now)) }
 {
     let ident = second_refusal(
         alloc,

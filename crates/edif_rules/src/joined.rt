@@ -18,7 +18,8 @@ use std::alloc::Global;
 
 /// Adds the bit, where there is one.
 fn push_spot(spots: &mut Vec<BitSpot>, spot: Option<BitSpot>) -> Result<(), NoMemory>
-    ensures { OnOk result (map node_at spots.new.items ≡ map node_at spots.old.items ++ option_to_list (option_map node_at spot)) }
+    ensures { OnOk result (map node_at spots.new.items
+        ≡ map node_at spots.old.items ++ option_to_list (option_map node_at spot)) }
 {
     match spot {
         None => Ok(()),
@@ -38,8 +39,13 @@ fn ref_refusal(
     spots: &mut Vec<BitSpot>,
     reference: &PortRef,
 ) -> Result<Option<Refusal>, NoMemory>
-    ensures refusal { IfOk result (λ made. made ≡ lowest (ref_refusals_by (lists_of scope.now) names.now.cell.now names.now.net.now taken.now reference.now)) }
-    ensures spots { OnOk result (map node_at spots.new.items ≡ map node_at spots.old.items ++ option_to_list (ref_node (lists_of scope.now) reference.now)) }
+    ensures refusal { IfOk result
+        (λ made. made ≡ lowest
+        (ref_refusals_by
+        (lists_of scope.now) names.now.cell.now names.now.net.now taken.now reference.now)) }
+    ensures spots { OnOk result (map node_at spots.new.items
+        ≡ map node_at spots.old.items
+        ++ option_to_list (ref_node (lists_of scope.now) reference.now)) }
 {
     let found = find_port(alloc, scope, reference)?;
     push_spot(spots, spot_of(scope, found, member_of(reference)))?;
@@ -56,8 +62,12 @@ fn refs_refusal(
     spots: &mut Vec<BitSpot>,
     joined: &[PortRef],
 ) -> Result<Option<Refusal>, NoMemory>
-    ensures refusal { IfOk result (λ found. found ≡ lowest (flat_map (ref_refusals_by (lists_of scope.now) names.now.cell.now names.now.net.now taken.now) joined.now)) }
-    ensures spots { OnOk result (map node_at spots.new.items ≡ map node_at spots.old.items ++ filter_map (ref_node (lists_of scope.now)) joined.now) }
+    ensures refusal { IfOk result
+        (λ found. found ≡ lowest
+        (flat_map (ref_refusals_by
+        (lists_of scope.now) names.now.cell.now names.now.net.now taken.now) joined.now)) }
+    ensures spots { OnOk result (map node_at spots.new.items
+        ≡ map node_at spots.old.items ++ filter_map (ref_node (lists_of scope.now)) joined.now) }
 {
     let mut best = unbroken();
     for reference in joined {
@@ -69,7 +79,9 @@ fn refs_refusal(
 
 /// Adds the bits of a list.
 fn add_spots(taken: &mut TakenBits, spots: &[BitSpot]) -> Result<(), NoMemory>
-    ensures { OnOk result ((other : Node) → list_any (same_node other) taken.new ≡ list_any (same_node other) (taken.old ++ map node_at spots.now)) }
+    ensures { OnOk result ((other : Node)
+        → list_any (same_node other) taken.new
+        ≡ list_any (same_node other) (taken.old ++ map node_at spots.now)) }
 {
     for spot in spots {
         taken.add(*spot)?;
@@ -85,8 +97,14 @@ pub fn meet_joined(
     taken: &mut TakenBits,
     joined: &[PortRef],
 ) -> Result<Option<Refusal>, NoMemory>
-    ensures refusal { IfOk result (λ found. found ≡ lowest (flat_map (ref_refusals_by (lists_of scope.now) names.now.cell.now names.now.net.now taken.old) joined.now)) }
-    ensures bits { OnOk result ((other : Node) → list_any (same_node other) taken.new ≡ list_any (same_node other) (taken.old ++ filter_map (ref_node (lists_of scope.now)) joined.now)) }
+    ensures refusal { IfOk result
+        (λ found. found ≡ lowest
+        (flat_map (ref_refusals_by
+        (lists_of scope.now) names.now.cell.now names.now.net.now taken.old) joined.now)) }
+    ensures bits { OnOk result ((other : Node)
+        → list_any (same_node other) taken.new
+        ≡ list_any (same_node other) (taken.old
+        ++ filter_map (ref_node (lists_of scope.now)) joined.now)) }
 {
     let mut spots = Vec::new(alloc);
     let found = refs_refusal(alloc, scope, names, taken, &mut spots, joined)?;

@@ -12,7 +12,8 @@ use std::alloc::Global;
 
 /// Adds the port that the item is, where it is one.
 fn push_port<'a>(ports: &mut Vec<&'a Port>, item: &'a InterfaceItem) -> Result<(), NoMemory>
-    ensures { OnOk result (seen ports.new.items ≡ seen ports.old.items ++ option_to_list (port_in item.now)) }
+    ensures { OnOk result (seen ports.new.items
+        ≡ seen ports.old.items ++ option_to_list (port_in item.now)) }
 {
     match item {
         InterfaceItem::Port(port) => {
@@ -25,7 +26,8 @@ fn push_port<'a>(ports: &mut Vec<&'a Port>, item: &'a InterfaceItem) -> Result<(
 
 /// Adds the ports of an interface.
 fn push_interface<'a>(ports: &mut Vec<&'a Port>, items: &'a [InterfaceItem]) -> Result<(), NoMemory>
-    ensures { OnOk result (seen ports.new.items ≡ seen ports.old.items ++ filter_map port_in items.now) }
+    ensures { OnOk result (seen ports.new.items
+        ≡ seen ports.old.items ++ filter_map port_in items.now) }
 {
     for item in items {
         push_port(ports, item)?;
@@ -35,7 +37,8 @@ fn push_interface<'a>(ports: &mut Vec<&'a Port>, items: &'a [InterfaceItem]) -> 
 
 /// Adds the ports of the view that the item is, where it is one.
 fn push_view_ports<'a>(ports: &mut Vec<&'a Port>, item: &'a CellItem) -> Result<(), NoMemory>
-    ensures { OnOk result (seen ports.new.items ≡ seen ports.old.items ++ flat_map interface_ports (option_to_list (view_in item.now))) }
+    ensures { OnOk result (seen ports.new.items
+        ≡ seen ports.old.items ++ flat_map interface_ports (option_to_list (view_in item.now))) }
 {
     match item {
         CellItem::View(view) => {
@@ -98,7 +101,8 @@ fn push_cell_contents<'a>(
     list: &mut Vec<&'a ContentsItem>,
     item: &'a CellItem,
 ) -> Result<(), NoMemory>
-    ensures { OnOk result (seen list.new.items ≡ seen list.old.items ++ flat_map contents (option_to_list (view_in item.now))) }
+    ensures { OnOk result (seen list.new.items
+        ≡ seen list.old.items ++ flat_map contents (option_to_list (view_in item.now))) }
 {
     match item {
         CellItem::View(view) => {
@@ -125,7 +129,8 @@ fn push_instance<'a>(
     instances: &mut Vec<&'a Instance>,
     item: &'a ContentsItem,
 ) -> Result<(), NoMemory>
-    ensures { OnOk result (seen instances.new.items ≡ seen instances.old.items ++ option_to_list (instance_in item.now)) }
+    ensures { OnOk result (seen instances.new.items
+        ≡ seen instances.old.items ++ option_to_list (instance_in item.now)) }
 {
     match item {
         ContentsItem::Instance(instance) => {
@@ -152,7 +157,8 @@ pub fn instances_in<'a>(
 
 /// Adds the net that the item is, where it is one.
 fn push_net<'a>(nets: &mut Vec<&'a Net>, item: &'a ContentsItem) -> Result<(), NoMemory>
-    ensures { OnOk result (seen nets.new.items ≡ seen nets.old.items ++ option_to_list (net_in item.now)) }
+    ensures { OnOk result (seen nets.new.items
+        ≡ seen nets.old.items ++ option_to_list (net_in item.now)) }
 {
     match item {
         ContentsItem::Net(net) => {

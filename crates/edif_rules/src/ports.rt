@@ -30,7 +30,9 @@ fn port_refusal(
     ident_taken: bool,
     name_taken: bool,
 ) -> Result<Option<Refusal>, NoMemory>
-    ensures { IfOk result (λ found. found ≡ lowest (port_refusals_by cell.now ident_taken name_taken (port_ident port.now) (port_name port.now) (size_of port.now.name))) }
+    ensures { IfOk result (λ found. found
+        ≡ lowest (port_refusals_by cell.now ident_taken name_taken (port_ident port.now)
+        (port_name port.now) (size_of port.now.name))) }
 {
     if ident_taken {
         let told = two_names(alloc, b"port", port_ident(port))?;
@@ -56,7 +58,8 @@ pub fn ports_refusal(
     cell: &[u8],
     ports: &[&Port],
 ) -> Result<Option<Refusal>, NoMemory>
-    ensures { IfOk result (λ found. found ≡ lowest (in_order (port_refusals cell.now) (seen ports.now))) }
+    ensures { IfOk result (λ found. found
+        ≡ lowest (in_order (port_refusals cell.now) (seen ports.now))) }
 {
     let mut best = unbroken();
     let mut idents = NameSet::new(alloc);

@@ -52,7 +52,9 @@ fn no_instance(
     names: &NetNames<'_>,
     spelling: &Option<Ident>,
 ) -> Result<Option<Refusal>, NoMemory>
-    ensures { IfOk result (λ found. found ≡ lowest (if_some spelling.now (λ s. broken true Rule.E7 names.now.cell.now (names.now.net.now ∷ (s ∷ []))))) }
+    ensures { IfOk result (λ found. found
+        ≡ lowest (if_some spelling.now
+        (λ s. broken true Rule.E7 names.now.cell.now (names.now.net.now ∷ (s ∷ []))))) }
 {
     match spelling {
         None => Ok(unbroken()),
@@ -70,7 +72,8 @@ fn several_instances(
     names: &NetNames<'_>,
     spelling: &Option<Ident>,
 ) -> Result<Option<Refusal>, NoMemory>
-    ensures { IfOk result (λ found. found ≡ lowest (if_some spelling.now (λ s. broken true Rule.E6 names.now.cell.now (s ∷ [])))) }
+    ensures { IfOk result (λ found. found
+        ≡ lowest (if_some spelling.now (λ s. broken true Rule.E6 names.now.cell.now (s ∷ [])))) }
 {
     match spelling {
         None => Ok(unbroken()),
@@ -90,7 +93,9 @@ fn no_port(
     instance: Option<u32>,
     spelling: &Ident,
 ) -> Result<Option<Refusal>, NoMemory>
-    ensures { IfOk result (λ found. found ≡ lowest (broken true Rule.E8 names.now.cell.now (names_of (lists_of scope.now) names.now.net.now instance spelling.now))) }
+    ensures { IfOk result (λ found. found
+        ≡ lowest (broken true Rule.E8 names.now.cell.now
+        (names_of (lists_of scope.now) names.now.net.now instance spelling.now))) }
 {
     let told = port_names(
         alloc,
@@ -108,7 +113,8 @@ fn several_ports(
     names: &NetNames<'_>,
     spelling: &Ident,
 ) -> Result<Option<Refusal>, NoMemory>
-    ensures { IfOk result (λ found. found ≡ lowest (broken true Rule.E6 names.now.cell.now (spelling.now ∷ []))) }
+    ensures { IfOk result (λ found. found
+        ≡ lowest (broken true Rule.E6 names.now.cell.now (spelling.now ∷ []))) }
 {
     let told = one_name(alloc, spelling.bytes())?;
     let found = refused(alloc, Rule::E6, names.cell, told)?;
@@ -179,7 +185,8 @@ fn told_names(
     instance: Option<u32>,
     meant: &Port,
 ) -> Result<Seq<Text>, NoMemory>
-    ensures { IfOk result (λ told. told ≡ names_of (lists_of scope.now) names.now.net.now instance (port_name meant.now)) }
+    ensures { IfOk result (λ told. told
+        ≡ names_of (lists_of scope.now) names.now.net.now instance (port_name meant.now)) }
 {
     let told = port_names(
         alloc,
@@ -199,7 +206,11 @@ fn taken_bit(
     taken: &TakenBits,
     spot: BitSpot,
 ) -> Result<Option<Refusal>, NoMemory>
-    ensures { IfOk result (λ found. found ≡ lowest (taken_refusals names.now.cell.now (names_of (lists_of scope.now) names.now.net.now spot.instance (port_name meant.now)) meant.now taken.now (node_of_bit spot.instance spot.port) spot.bit)) }
+    ensures { IfOk result (λ found. found
+        ≡ lowest (taken_refusals names.now.cell.now
+        (names_of (lists_of scope.now) names.now.net.now spot.instance
+        (port_name meant.now)) meant.now taken.now
+        (node_of_bit spot.instance spot.port) spot.bit)) }
 {
     if !taken.has(spot) {
         return Ok(unbroken());
@@ -222,7 +233,10 @@ fn bit_refusal(
     port: u32,
     member: Option<i64>,
 ) -> Result<Option<Refusal>, NoMemory>
-    ensures { IfOk result (λ found. found ≡ lowest (bit_refusals_by names.now.cell.now (names_of (lists_of scope.now) names.now.net.now instance (port_name meant.now)) meant.now taken.now (node_of_bit instance port) member)) }
+    ensures { IfOk result (λ found. found
+        ≡ lowest (bit_refusals_by names.now.cell.now
+        (names_of (lists_of scope.now) names.now.net.now instance
+        (port_name meant.now)) meant.now taken.now (node_of_bit instance port) member)) }
 {
     match bit_of(port_size(meant), member) {
         None => {
@@ -252,7 +266,10 @@ fn port_refusal(
     port: u32,
     member: Option<i64>,
 ) -> Result<Option<Refusal>, NoMemory>
-    ensures { IfOk result (λ found. found ≡ lowest (port_refusals_at (lists_of scope.now) names.now.cell.now names.now.net.now taken.now instance port member (port_at (lists_of scope.now) instance port))) }
+    ensures { IfOk result (λ found. found
+        ≡ lowest (port_refusals_at
+        (lists_of scope.now) names.now.cell.now names.now.net.now taken.now instance port member
+        (port_at (lists_of scope.now) instance port))) }
 {
     match port_at(scope, instance, port) {
         None => Ok(unbroken()),
@@ -273,7 +290,9 @@ pub(crate) fn found_refusal(
     reference: &PortRef,
     found: Target,
 ) -> Result<Option<Refusal>, NoMemory>
-    ensures { IfOk result (λ made. made ≡ lowest (found_refusals (lists_of scope.now) names.now.cell.now names.now.net.now taken.now reference.now found)) }
+    ensures { IfOk result (λ made. made
+        ≡ lowest (found_refusals
+        (lists_of scope.now) names.now.cell.now names.now.net.now taken.now reference.now found)) }
 {
     match found {
         Target::Port(instance, port) => {

@@ -18,7 +18,8 @@ use std::marker::Model;
 /// The numbers and the identifiers of ports.
 fn port_entries<'a>(alloc: Global, ports: &[&'a Port]) -> Result<Vec<(u32, &'a [u8])>, NoMemory>
     requires { length ports.now ≤ 268435456 }
-    ensures { IfOk result (λ made. written made.items ≡ named port_ident (numbered (seen ports.now))) }
+    ensures { IfOk result (λ made. written made.items
+        ≡ named port_ident (numbered (seen ports.now))) }
 {
     let mut made = Vec::new(alloc);
     for (number, port) in ports.iter().enumerate() {
@@ -82,7 +83,8 @@ impl<'a> PortTable<'a> {
 
     /// The port of this number.
     pub fn get(&self, number: u32) -> Option<&'a Port>
-        ensures { MatchOption result (slice_get self.now number ≡ None) (λ port. slice_get self.now number ≡ Some port.now) }
+        ensures { MatchOption result (slice_get self.now number
+            ≡ None) (λ port. slice_get self.now number ≡ Some port.now) }
     {
         match self.ports.get(number as usize) {
             None => None,
@@ -97,7 +99,8 @@ fn instance_entries<'a>(
     instances: &[&'a Instance],
 ) -> Result<Vec<(u32, &'a [u8])>, NoMemory>
     requires { length instances.now ≤ 268435456 }
-    ensures { IfOk result (λ made. written made.items ≡ named instance_ident (numbered (seen instances.now))) }
+    ensures { IfOk result (λ made. written made.items
+        ≡ named instance_ident (numbered (seen instances.now))) }
 {
     let mut made = Vec::new(alloc);
     for (number, instance) in instances.iter().enumerate() {
@@ -163,7 +166,8 @@ impl<'a> InstanceTable<'a> {
 
     /// The instance of this number.
     pub fn get(&self, number: u32) -> Option<&'a Instance>
-        ensures { MatchOption result (slice_get self.now number ≡ None) (λ instance. slice_get self.now number ≡ Some instance.now) }
+        ensures { MatchOption result (slice_get self.now number
+            ≡ None) (λ instance. slice_get self.now number ≡ Some instance.now) }
     {
         match self.instances.get(number as usize) {
             None => None,

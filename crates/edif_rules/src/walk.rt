@@ -46,9 +46,15 @@ fn meet_instance<'a>(
     met: &mut Met<'a>,
     instance: &'a Instance,
 ) -> Result<Option<Refusal>, NoMemory>
-    ensures refusal { IfOk result (λ found. found ≡ lowest (instance_refusals_by tables.now home cell.now (is_in (instance_ident instance.now) met.old.instances) (is_in (instance_original instance.now) met.old.originals) instance.now)) }
-    ensures ident { OnOk result (AddsName met.old.instances (instance_ident instance.now) met.new.instances) }
-    ensures original { OnOk result (AddsName met.old.originals (instance_original instance.now) met.new.originals) }
+    ensures refusal { IfOk result
+        (λ found. found ≡ lowest
+        (instance_refusals_by tables.now home cell.now
+        (is_in (instance_ident instance.now) met.old.instances)
+        (is_in (instance_original instance.now) met.old.originals) instance.now)) }
+    ensures ident { OnOk result
+        (AddsName met.old.instances (instance_ident instance.now) met.new.instances) }
+    ensures original { OnOk result
+        (AddsName met.old.originals (instance_original instance.now) met.new.originals) }
     ensures nets { OnOk result (met.new.nets ≡ met.old.nets) }
     ensures taken { OnOk result (met.new.taken ≡ met.old.taken) }
 {
@@ -66,9 +72,14 @@ fn meet_net<'a>(
     met: &mut Met<'a>,
     net: &'a Net,
 ) -> Result<Option<Refusal>, NoMemory>
-    ensures refusal { IfOk result (λ found. found ≡ lowest (net_refusals_by (lists_of scope.now) cell.now (is_in (net_ident net.now) met.old.nets) met.old.taken net.now)) }
+    ensures refusal { IfOk result
+        (λ found. found ≡ lowest
+        (net_refusals_by (lists_of scope.now) cell.now
+        (is_in (net_ident net.now) met.old.nets) met.old.taken net.now)) }
     ensures ident { OnOk result (AddsName met.old.nets (net_ident net.now) met.new.nets) }
-    ensures bits { OnOk result (AddsBits met.old.taken (filter_map (ref_node (lists_of scope.now)) net.now.joined) met.new.taken) }
+    ensures bits { OnOk result
+        (AddsBits met.old.taken
+        (filter_map (ref_node (lists_of scope.now)) net.now.joined) met.new.taken) }
     ensures instances { OnOk result (met.new.instances ≡ met.old.instances) }
     ensures originals { OnOk result (met.new.originals ≡ met.old.originals) }
 {
@@ -95,8 +106,14 @@ fn meet_item<'a>(
     item: &'a ContentsItem,
 ) -> Result<Option<Refusal>, NoMemory>
     requires { IsScope (linked_cell tables.now (place_in home cell.now)) (lists_of scope.now) }
-    ensures refusal { IfOk result (λ found. (before : List ContentsItem) → HasMet (linked_cell tables.now (place_in home cell.now)) before met.old → found ≡ lowest (contents_refusals tables.now (place_in home cell.now) before item.now)) }
-    ensures met { OnOk result ((before : List ContentsItem) → HasMet (linked_cell tables.now (place_in home cell.now)) before met.old → HasMet (linked_cell tables.now (place_in home cell.now)) (before ++ item.now ∷ []) met.new) }
+    ensures refusal { IfOk result
+        (λ found. (before : List ContentsItem)
+        → HasMet (linked_cell tables.now (place_in home cell.now)) before met.old
+        → found ≡ lowest (contents_refusals tables.now (place_in home cell.now) before item.now)) }
+    ensures met { OnOk result ((before : List ContentsItem)
+        → HasMet (linked_cell tables.now (place_in home cell.now)) before met.old
+        → HasMet (linked_cell tables.now (place_in home cell.now)) (before ++ item.now
+        ∷ []) met.new) }
 {
     match item {
         ContentsItem::Instance(instance) => {
@@ -121,7 +138,9 @@ fn contents_refusal(
     items: &[&ContentsItem],
 ) -> Result<Option<Refusal>, NoMemory>
     requires { IsScope (linked_cell tables.now (place_in home cell.now)) (lists_of scope.now) }
-    ensures { IfOk result (λ found. found ≡ lowest (in_order (contents_refusals tables.now (place_in home cell.now)) (seen items.now))) }
+    ensures { IfOk result (λ found. found
+        ≡ lowest (in_order (contents_refusals tables.now (place_in home cell.now))
+        (seen items.now))) }
 {
     let mut best = unbroken();
     let mut met = Met {
@@ -150,7 +169,8 @@ pub fn cell_refusal(
     requires port_tables { port_tables.now ≡ map ports (file_cells tables.now) }
     requires below { below.now ≡ numbers_meant tables.now (place_in home cell.now) }
     requires few { cell_size cell.now ≤ 268435456 }
-    ensures { IfOk result (λ found. found ≡ lowest (cell_refusals tables.now (place_in home cell.now))) }
+    ensures { IfOk result (λ found. found
+        ≡ lowest (cell_refusals tables.now (place_in home cell.now))) }
 {
     let items = contents_of(alloc, cell)?;
     let own = PortTable::of(alloc, cell)?;

@@ -167,7 +167,8 @@ pub fn plain_ident(
     requires can { is_own ≡ true → can_be_own_text name.now ≡ true }
     requires stem { has_stem_text name.now ≡ false }
     requires few { from < 2 ^ 32 }
-    ensures { (idents : List (List ℕ)) → is_own_behind idents name.now ≡ is_own → IsPlain idents from
+    ensures { (idents : List (List ℕ)) → is_own_behind idents name.now ≡ is_own
+        → IsPlain idents from
         → IfOk result (λ found. IsPlainStep idents from name.now found.0 found.1) }
 {
     if is_own {

@@ -43,7 +43,8 @@ impl Space {
 
     /// Gives the name an identifier: its own where it can be one and no other is alike, else `id` and the least number that is free.
     pub fn ident(&mut self, alloc: Global, name: &[u8]) -> Result<Ident, NoMemory>
-        ensures own { can_be_own_text name.now ≡ true → is_alike_any name.now self.old ≡ false → IfOk result (λ ident. ident ≡ name.now) }
+        ensures own { can_be_own_text name.now ≡ true → is_alike_any name.now self.old ≡ false
+            → IfOk result (λ ident. ident ≡ name.now) }
         ensures new { IfOk result (λ ident. is_alike_any ident self.old ≡ false) }
         ensures added { IfOk result (λ ident. self.new ≡ self.old ++ ident ∷ []) }
         ensures kept { OnErr result (self.new ≡ self.old) }

@@ -20,7 +20,8 @@ pub fn read_note<S: Source>(
     keyword: Keyword,
     source: &mut S,
 ) -> Result<Note, ReadError>
-    ensures reads { Reads edif same (note keyword) result cursor.old cursor.new (S.supply source.old) (S.supply source.new) }
+    ensures reads { Reads edif same (note keyword) result cursor.old cursor.new
+        (S.supply source.old) (S.supply source.new) }
     ensures value { IfOk result IsNote }
     ensures size { IfOk result (λ n. note_size n + room cursor.new < room cursor.old) }
 {

@@ -21,7 +21,8 @@ pub fn read_status<S: Source>(
     cursor: &mut Cursor,
     source: &mut S,
 ) -> Result<Status, ReadError>
-    ensures reads { Reads edif same status result cursor.old cursor.new (S.supply source.old) (S.supply source.new) }
+    ensures reads { Reads edif same status result cursor.old cursor.new
+        (S.supply source.old) (S.supply source.new) }
     ensures value { IfOk result IsStatus }
     ensures size { IfOk result (λ s. status_size s + room cursor.new < room cursor.old) }
 {
@@ -36,9 +37,11 @@ fn read_status_items<S: Source>(
     cursor: &mut Cursor,
     source: &mut S,
 ) -> Result<Seq<StatusItem>, ReadError>
-    ensures reads { Reads edif same (status_rest []) result cursor.old cursor.new (S.supply source.old) (S.supply source.new) }
+    ensures reads { Reads edif same (status_rest []) result cursor.old cursor.new
+        (S.supply source.old) (S.supply source.new) }
     ensures value { IfOk result (λ is. AllByRecursion IsStatusItem is) }
-    ensures size { IfOk result (λ is. list_size status_item_size is + room cursor.new < room cursor.old) }
+    ensures size { IfOk result
+        (λ is. list_size status_item_size is + room cursor.new < room cursor.old) }
 {
     let mut items = Seq::empty(alloc);
     while cursor.at_form(alloc, source)? {
@@ -56,7 +59,8 @@ fn read_status_item<S: Source>(
     cursor: &mut Cursor,
     source: &mut S,
 ) -> Result<StatusItem, ReadError>
-    ensures reads { Reads edif same status_part result cursor.old cursor.new (S.supply source.old) (S.supply source.new) }
+    ensures reads { Reads edif same status_part result cursor.old cursor.new
+        (S.supply source.old) (S.supply source.new) }
     ensures value { IfOk result IsStatusItem }
     ensures size { IfOk result (λ i. status_item_size i + room cursor.new < room cursor.old) }
 {
@@ -73,7 +77,8 @@ fn read_status_form<S: Source>(
     keyword: Keyword,
     source: &mut S,
 ) -> Result<StatusItem, ReadError>
-    ensures reads { Reads edif same (status_item keyword) result cursor.old cursor.new (S.supply source.old) (S.supply source.new) }
+    ensures reads { Reads edif same (status_item keyword) result cursor.old cursor.new
+        (S.supply source.old) (S.supply source.new) }
     ensures value { IfOk result IsStatusItem }
     ensures size { IfOk result (λ i. status_item_size i + room cursor.new < room cursor.old) }
 {

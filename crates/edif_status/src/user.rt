@@ -19,9 +19,11 @@ pub fn read_user<S: Source>(
     cursor: &mut Cursor,
     source: &mut S,
 ) -> Result<UserData, ReadError>
-    ensures reads { Reads edif same user result cursor.old cursor.new (S.supply source.old) (S.supply source.new) }
+    ensures reads { Reads edif same user result cursor.old cursor.new
+        (S.supply source.old) (S.supply source.new) }
     ensures value { IfOk result IsUserData }
-    ensures size { IfOk result (λ u. list_size tree_size u.trees + room cursor.new < room cursor.old) }
+    ensures size { IfOk result
+        (λ u. list_size tree_size u.trees + room cursor.new < room cursor.old) }
 {
     let name = cursor.word(alloc, source)?;
     let trees = read_trees(alloc, cursor, 64, source)?;
@@ -37,7 +39,8 @@ fn read_trees<S: Source>(
     levels: u8,
     source: &mut S,
 ) -> Result<Seq<UserTree>, ReadError>
-    ensures reads { Reads edif same (trees levels []) result cursor.old cursor.new (S.supply source.old) (S.supply source.new) }
+    ensures reads { Reads edif same (trees levels []) result cursor.old cursor.new
+        (S.supply source.old) (S.supply source.new) }
     ensures value { IfOk result (AreTrees levels) }
     ensures size { IfOk result (λ ts. list_size tree_size ts + room cursor.new < room cursor.old) }
 {
@@ -59,7 +62,8 @@ fn read_tree<S: Source>(
     levels: u8,
     source: &mut S,
 ) -> Result<UserTree, ReadError>
-    ensures reads { Reads edif same (user_tree levels) result cursor.old cursor.new (S.supply source.old) (S.supply source.new) }
+    ensures reads { Reads edif same (user_tree levels) result cursor.old cursor.new
+        (S.supply source.old) (S.supply source.new) }
     ensures value { IfOk result (IsTree levels) }
     ensures size { IfOk result (λ t. tree_size t + room cursor.new < room cursor.old) }
 {
@@ -81,7 +85,8 @@ fn read_list<S: Source>(
     levels: u8,
     source: &mut S,
 ) -> Result<UserTree, ReadError>
-    ensures reads { Reads edif same (user_list levels) result cursor.old cursor.new (S.supply source.old) (S.supply source.new) }
+    ensures reads { Reads edif same (user_list levels) result cursor.old cursor.new
+        (S.supply source.old) (S.supply source.new) }
     ensures value { IfOk result (IsTree (levels + 1)) }
     ensures size { IfOk result (λ t. tree_size t + room cursor.new < room cursor.old) }
 {
@@ -97,7 +102,8 @@ fn read_leaf<S: Source>(
     cursor: &mut Cursor,
     source: &mut S,
 ) -> Result<UserTree, ReadError>
-    ensures reads { Reads edif same leaf result cursor.old cursor.new (S.supply source.old) (S.supply source.new) }
+    ensures reads { Reads edif same leaf result cursor.old cursor.new
+        (S.supply source.old) (S.supply source.new) }
     ensures value { IfOk result (IsTree 0) }
     ensures size { IfOk result (λ t. tree_size t + room cursor.new < room cursor.old) }
 {
@@ -115,7 +121,8 @@ fn read_plain<S: Source>(
     cursor: &mut Cursor,
     source: &mut S,
 ) -> Result<UserTree, ReadError>
-    ensures reads { Reads edif same plain result cursor.old cursor.new (S.supply source.old) (S.supply source.new) }
+    ensures reads { Reads edif same plain result cursor.old cursor.new
+        (S.supply source.old) (S.supply source.new) }
     ensures value { IfOk result (IsTree 0) }
     ensures size { IfOk result (λ t. tree_size t + room cursor.new < room cursor.old) }
 {
@@ -130,7 +137,8 @@ fn read_plain<S: Source>(
 /// Whether there is a next token that begins a tree. It takes nothing.
 #[tactic(auto, using(crate::proofs::Trees::trees_next))]
 fn at_tree<S: Source>(alloc: Global, cursor: &mut Cursor, source: &mut S) -> Result<bool, ReadError>
-    ensures { LooksFor edif begins_tree result cursor.old cursor.new (S.supply source.old) (S.supply source.new) }
+    ensures { LooksFor edif begins_tree result cursor.old cursor.new
+        (S.supply source.old) (S.supply source.new) }
 {
     cursor.look(alloc, source)?;
     if let Some(found) = cursor.ahead() {
@@ -146,7 +154,8 @@ fn at_number<S: Source>(
     cursor: &mut Cursor,
     source: &mut S,
 ) -> Result<bool, ReadError>
-    ensures { LooksFor edif has_number result cursor.old cursor.new (S.supply source.old) (S.supply source.new) }
+    ensures { LooksFor edif has_number result cursor.old cursor.new
+        (S.supply source.old) (S.supply source.new) }
 {
     cursor.look(alloc, source)?;
     if let Some(found) = cursor.ahead() {

@@ -20,7 +20,8 @@ pub(crate) fn read_written<S: Source>(
     cursor: &mut Cursor,
     source: &mut S,
 ) -> Result<Written, ReadError>
-    ensures reads { Reads edif same written result cursor.old cursor.new (S.supply source.old) (S.supply source.new) }
+    ensures reads { Reads edif same written result cursor.old cursor.new
+        (S.supply source.old) (S.supply source.new) }
     ensures value { IfOk result IsWritten }
     ensures size { IfOk result (λ w. written_size w + room cursor.new < room cursor.old) }
 {
@@ -37,7 +38,8 @@ fn read_stamp<S: Source>(
     cursor: &mut Cursor,
     source: &mut S,
 ) -> Result<Stamp, ReadError>
-    ensures reads { Reads edif same stamp result cursor.old cursor.new (S.supply source.old) (S.supply source.new) }
+    ensures reads { Reads edif same stamp result cursor.old cursor.new
+        (S.supply source.old) (S.supply source.new) }
     ensures value { IfOk result IsStamp }
 {
     let year = cursor.int(alloc, source)?;
@@ -59,7 +61,8 @@ fn read_clock<S: Source>(
     requires year { IsInteger year }
     requires month { IsInteger month }
     requires day { IsInteger day }
-    ensures reads { Reads edif same (clock year month day) result cursor.old cursor.new (S.supply source.old) (S.supply source.new) }
+    ensures reads { Reads edif same (clock year month day) result cursor.old cursor.new
+        (S.supply source.old) (S.supply source.new) }
     ensures value { IfOk result IsStamp }
 {
     let hour = cursor.int(alloc, source)?;
@@ -83,9 +86,11 @@ fn read_written_items<S: Source>(
     cursor: &mut Cursor,
     source: &mut S,
 ) -> Result<Seq<WrittenItem>, ReadError>
-    ensures reads { Reads edif same (written_rest []) result cursor.old cursor.new (S.supply source.old) (S.supply source.new) }
+    ensures reads { Reads edif same (written_rest []) result cursor.old cursor.new
+        (S.supply source.old) (S.supply source.new) }
     ensures value { IfOk result (λ is. AllByRecursion IsWrittenItem is) }
-    ensures size { IfOk result (λ is. list_size written_item_size is + room cursor.new < room cursor.old) }
+    ensures size { IfOk result
+        (λ is. list_size written_item_size is + room cursor.new < room cursor.old) }
 {
     let mut items = Seq::empty(alloc);
     while cursor.at_form(alloc, source)? {
@@ -103,7 +108,8 @@ fn read_written_item<S: Source>(
     cursor: &mut Cursor,
     source: &mut S,
 ) -> Result<WrittenItem, ReadError>
-    ensures reads { Reads edif same written_part result cursor.old cursor.new (S.supply source.old) (S.supply source.new) }
+    ensures reads { Reads edif same written_part result cursor.old cursor.new
+        (S.supply source.old) (S.supply source.new) }
     ensures value { IfOk result IsWrittenItem }
     ensures size { IfOk result (λ i. written_item_size i + room cursor.new < room cursor.old) }
 {
@@ -126,7 +132,8 @@ fn read_written_form<S: Source>(
     keyword: Keyword,
     source: &mut S,
 ) -> Result<WrittenItem, ReadError>
-    ensures reads { Reads edif same (written_item keyword) result cursor.old cursor.new (S.supply source.old) (S.supply source.new) }
+    ensures reads { Reads edif same (written_item keyword) result cursor.old cursor.new
+        (S.supply source.old) (S.supply source.new) }
     ensures value { IfOk result IsWrittenItem }
     ensures size { IfOk result (λ i. written_item_size i + room cursor.new < room cursor.old) }
 {
@@ -150,7 +157,8 @@ fn read_author<S: Source>(
     cursor: &mut Cursor,
     source: &mut S,
 ) -> Result<WrittenItem, ReadError>
-    ensures reads { Reads edif same author result cursor.old cursor.new (S.supply source.old) (S.supply source.new) }
+    ensures reads { Reads edif same author result cursor.old cursor.new
+        (S.supply source.old) (S.supply source.new) }
     ensures value { IfOk result IsWrittenItem }
     ensures size { IfOk result (λ i. written_item_size i + room cursor.new < room cursor.old) }
 {
@@ -166,7 +174,8 @@ fn read_program<S: Source>(
     cursor: &mut Cursor,
     source: &mut S,
 ) -> Result<WrittenItem, ReadError>
-    ensures reads { Reads edif same program result cursor.old cursor.new (S.supply source.old) (S.supply source.new) }
+    ensures reads { Reads edif same program result cursor.old cursor.new
+        (S.supply source.old) (S.supply source.new) }
     ensures value { IfOk result IsWrittenItem }
     ensures size { IfOk result (λ i. written_item_size i + room cursor.new < room cursor.old) }
 {
@@ -182,7 +191,8 @@ fn read_data_origin<S: Source>(
     cursor: &mut Cursor,
     source: &mut S,
 ) -> Result<WrittenItem, ReadError>
-    ensures reads { Reads edif same data_origin result cursor.old cursor.new (S.supply source.old) (S.supply source.new) }
+    ensures reads { Reads edif same data_origin result cursor.old cursor.new
+        (S.supply source.old) (S.supply source.new) }
     ensures value { IfOk result IsWrittenItem }
     ensures size { IfOk result (λ i. written_item_size i + room cursor.new < room cursor.old) }
 {
@@ -198,7 +208,8 @@ fn read_version<S: Source>(
     cursor: &mut Cursor,
     source: &mut S,
 ) -> Result<Option<Text>, ReadError>
-    ensures reads { Reads edif same maybe_version result cursor.old cursor.new (S.supply source.old) (S.supply source.new) }
+    ensures reads { Reads edif same maybe_version result cursor.old cursor.new
+        (S.supply source.old) (S.supply source.new) }
     ensures value { IfOk result IsVersion }
 {
     if cursor.at_form(alloc, source)? {
@@ -215,7 +226,8 @@ fn read_version_text<S: Source>(
     cursor: &mut Cursor,
     source: &mut S,
 ) -> Result<Option<Text>, ReadError>
-    ensures reads { Reads edif same version_text result cursor.old cursor.new (S.supply source.old) (S.supply source.new) }
+    ensures reads { Reads edif same version_text result cursor.old cursor.new
+        (S.supply source.old) (S.supply source.new) }
     ensures value { IfOk result IsVersion }
 {
     let text = cursor.string(alloc, source)?;
@@ -231,7 +243,8 @@ fn no_version<S: Source>(
     cursor: &mut Cursor,
     source: &mut S,
 ) -> Result<Option<Text>, ReadError>
-    ensures reads { Reads edif same no_version result cursor.old cursor.new (S.supply source.old) (S.supply source.new) }
+    ensures reads { Reads edif same no_version result cursor.old cursor.new
+        (S.supply source.old) (S.supply source.new) }
     ensures value { IfOk result IsVersion }
 {
     cursor.finish_form(alloc, source)?;

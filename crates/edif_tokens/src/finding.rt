@@ -21,12 +21,14 @@ pub fn found<S: Source>(
     alloc: Global,
     source: &mut S,
 ) -> Result<Option<Found>, ReadError>
-    ensures finds { Finds edif bytes.old bytes.new (S.supply source.old).left (S.supply source.new).left result }
+    ensures finds { Finds edif bytes.old bytes.new
+        (S.supply source.old).left (S.supply source.new).left result }
     ensures limit { IfOk result (λ t. IfSome t (λ _. bytes.new.place.offset ≤ LIMIT)) }
     ensures never_spent { IsErrOf result ReadError.Spent → ⊥ }
     ensures bounded { OnText result (λ t. bytes.new.place.offset ≤ t.stop) }
     ensures count { (S.supply source.old).faults ≤ (S.supply source.new).faults }
-    ensures cause { IsErrOf result ReadError.ReadFault → Rose (S.supply source.old).faults (S.supply source.new).faults }
+    ensures cause { IsErrOf result ReadError.ReadFault
+        → Rose (S.supply source.old).faults (S.supply source.new).faults }
     ensures proper { IfOk result (λ t. IfSome t (λ x. IsProper x.token)) }
 {
     let next = bytes.skip(Class::Space, source)?;

@@ -35,9 +35,11 @@ fn begin<S: Source>(
     requires begins { place ≡ bytes.old.place }
     requires within { place.offset ≤ LIMIT }
     requires empty { text.old.items ≡ [] }
-    ensures begins { Begins class lead byte place bytes.old bytes.new (S.supply source.old).left (S.supply source.new).left text.new.items result }
+    ensures begins { Begins class lead byte place bytes.old bytes.new
+        (S.supply source.old).left (S.supply source.new).left text.new.items result }
     ensures count { (S.supply source.old).faults ≤ (S.supply source.new).faults }
-    ensures cause { IsErrOf result ReadError.ReadFault → Rose (S.supply source.old).faults (S.supply source.new).faults }
+    ensures cause { IsErrOf result ReadError.ReadFault
+        → Rose (S.supply source.old).faults (S.supply source.new).faults }
     ensures never_spent { IsErrOf result ReadError.Spent → ⊥ }
     ensures bounded { OnText result (λ t. bytes.new.place.offset ≤ t.stop) }
 {
@@ -80,9 +82,11 @@ fn pieced_text<S: Source>(
     requires ahead { (rest : List ℕ) × (bytes.old.held ≡ byte ∷ rest) }
     requires begins { place ≡ bytes.old.place }
     requires within { place.offset ≤ LIMIT }
-    ensures text { ReadsText class lead place bytes.old bytes.new (S.supply source.old).left (S.supply source.new).left result }
+    ensures text { ReadsText class lead place bytes.old bytes.new
+        (S.supply source.old).left (S.supply source.new).left result }
     ensures count { (S.supply source.old).faults ≤ (S.supply source.new).faults }
-    ensures cause { IsErrOf result ReadError.ReadFault → Rose (S.supply source.old).faults (S.supply source.new).faults }
+    ensures cause { IsErrOf result ReadError.ReadFault
+        → Rose (S.supply source.old).faults (S.supply source.new).faults }
     ensures never_spent { IsErrOf result ReadError.Spent → ⊥ }
     ensures bounded { OnText result (λ t. bytes.new.place.offset ≤ t.stop) }
     ensures ended { IfOk result (λ x. bytes.new.place.offset ≤ x.stop) }
@@ -117,9 +121,11 @@ fn pieced_word<S: Source>(
     requires ahead { (rest : List ℕ) × (bytes.old.held ≡ byte ∷ rest) }
     requires begins { begins_word lead byte ≡ true }
     requires within { bytes.old.place.offset ≤ LIMIT }
-    ensures reads { Reads (word_spelled lead) bytes.old.place bytes.old bytes.new (S.supply source.old).left (S.supply source.new).left result }
+    ensures reads { Reads (word_spelled lead) bytes.old.place bytes.old bytes.new
+        (S.supply source.old).left (S.supply source.new).left result }
     ensures count { (S.supply source.old).faults ≤ (S.supply source.new).faults }
-    ensures cause { IsErrOf result ReadError.ReadFault → Rose (S.supply source.old).faults (S.supply source.new).faults }
+    ensures cause { IsErrOf result ReadError.ReadFault
+        → Rose (S.supply source.old).faults (S.supply source.new).faults }
     ensures never_spent { IsErrOf result ReadError.Spent → ⊥ }
     ensures bounded { OnText result (λ t. bytes.new.place.offset ≤ t.stop) }
     ensures ended { IfOk result (λ f. bytes.new.place.offset ≤ f.stop) }
@@ -170,9 +176,11 @@ fn pieced_number<S: Source>(
     requires ahead { (rest : List ℕ) × (bytes.old.held ≡ byte ∷ rest) }
     requires begins { place ≡ bytes.old.place }
     requires within { place.offset ≤ LIMIT }
-    ensures reads { Reads (number_spelled lead) place bytes.old bytes.new (S.supply source.old).left (S.supply source.new).left result }
+    ensures reads { Reads (number_spelled lead) place bytes.old bytes.new
+        (S.supply source.old).left (S.supply source.new).left result }
     ensures count { (S.supply source.old).faults ≤ (S.supply source.new).faults }
-    ensures cause { IsErrOf result ReadError.ReadFault → Rose (S.supply source.old).faults (S.supply source.new).faults }
+    ensures cause { IsErrOf result ReadError.ReadFault
+        → Rose (S.supply source.old).faults (S.supply source.new).faults }
     ensures never_spent { IsErrOf result ReadError.Spent → ⊥ }
     ensures bounded { OnText result (λ t. bytes.new.place.offset ≤ t.stop) }
     ensures ended { IfOk result (λ f. bytes.new.place.offset ≤ f.stop) }
@@ -200,9 +208,11 @@ fn pieced_token<S: Source>(
 ) -> Result<Found, ReadError>
     requires ahead { (rest : List ℕ) × (bytes.old.held ≡ byte ∷ rest) }
     requires within { bytes.old.place.offset ≤ LIMIT }
-    ensures reads { Reads (token_by (start_of byte)) bytes.old.place bytes.old bytes.new (S.supply source.old).left (S.supply source.new).left result }
+    ensures reads { Reads (token_by (start_of byte)) bytes.old.place bytes.old bytes.new
+        (S.supply source.old).left (S.supply source.new).left result }
     ensures count { (S.supply source.old).faults ≤ (S.supply source.new).faults }
-    ensures cause { IsErrOf result ReadError.ReadFault → Rose (S.supply source.old).faults (S.supply source.new).faults }
+    ensures cause { IsErrOf result ReadError.ReadFault
+        → Rose (S.supply source.old).faults (S.supply source.new).faults }
     ensures never_spent { IsErrOf result ReadError.Spent → ⊥ }
     ensures bounded { OnText result (λ t. bytes.new.place.offset ≤ t.stop) }
     ensures ended { IfOk result (λ f. bytes.new.place.offset ≤ f.stop) }
@@ -242,9 +252,11 @@ pub fn token<S: Source>(
 ) -> Result<Found, ReadError>
     requires ahead { (rest : List ℕ) × (bytes.old.held ≡ byte ∷ rest) }
     requires within { bytes.old.place.offset ≤ LIMIT }
-    ensures reads { Reads (token_by (start_of byte)) bytes.old.place bytes.old bytes.new (S.supply source.old).left (S.supply source.new).left result }
+    ensures reads { Reads (token_by (start_of byte)) bytes.old.place bytes.old bytes.new
+        (S.supply source.old).left (S.supply source.new).left result }
     ensures count { (S.supply source.old).faults ≤ (S.supply source.new).faults }
-    ensures cause { IsErrOf result ReadError.ReadFault → Rose (S.supply source.old).faults (S.supply source.new).faults }
+    ensures cause { IsErrOf result ReadError.ReadFault
+        → Rose (S.supply source.old).faults (S.supply source.new).faults }
     ensures never_spent { IsErrOf result ReadError.Spent → ⊥ }
     ensures bounded { OnText result (λ t. bytes.new.place.offset ≤ t.stop) }
     ensures limit { IfOk result (λ f. f.stop ≤ LIMIT) }

@@ -128,9 +128,11 @@ pub fn span<S: Source>(
     requires lead { length text.old.items ≤ 2 }
     requires begins { bytes.old.place ≡ place_past place text.old.items }
     requires within { place.offset ≤ LIMIT }
-    ensures spans { Spans class place bytes.old bytes.new (S.supply source.old).left (S.supply source.new).left text.old.items text.new.items result }
+    ensures spans { Spans class place bytes.old bytes.new
+        (S.supply source.old).left (S.supply source.new).left text.old.items text.new.items result }
     ensures count { (S.supply source.old).faults ≤ (S.supply source.new).faults }
-    ensures cause { IsErrOf result ReadError.ReadFault → Rose (S.supply source.old).faults (S.supply source.new).faults }
+    ensures cause { IsErrOf result ReadError.ReadFault
+        → Rose (S.supply source.old).faults (S.supply source.new).faults }
     ensures never_spent { IsErrOf result ReadError.Spent → ⊥ }
     ensures bounded { OnText result (λ t. bytes.new.place.offset ≤ t.stop) }
     ensures ended { IfOk result (λ stop. bytes.new.place.offset ≤ stop) }

@@ -18,9 +18,11 @@ use std::alloc::Global;
 
 /// Reads the further digits of a code that has a value so far. It answers no value where the next digit takes it above 255.
 pub fn code<S: Source>(bytes: &mut Bytes, begun: u8, source: &mut S) -> Result<Option<u8>, Halt>
-    ensures codes { Codes begun bytes.old bytes.new (S.supply source.old).left (S.supply source.new).left result }
+    ensures codes { Codes begun bytes.old bytes.new
+        (S.supply source.old).left (S.supply source.new).left result }
     ensures count { (S.supply source.old).faults ≤ (S.supply source.new).faults }
-    ensures cause { IsErrOf result Halt.Failed → Rose (S.supply source.old).faults (S.supply source.new).faults }
+    ensures cause { IsErrOf result Halt.Failed
+        → Rose (S.supply source.old).faults (S.supply source.new).faults }
 {
     let mut code = begun;
     loop {
@@ -52,9 +54,13 @@ fn add_code<S: Source>(
     value: &mut Vec<u8>,
     source: &mut S,
 ) -> Result<(), ReadError>
-    ensures reads { ReadsPart (λ s. Code s begun) (λ s. Escape s true) place start bytes.old bytes.new (S.supply source.old).left (S.supply source.new).left value.old.items value.new.items result }
+    ensures reads { ReadsPart (λ s. Code s begun)
+        (λ s. Escape s true) place start bytes.old bytes.new
+        (S.supply source.old).left
+        (S.supply source.new).left value.old.items value.new.items result }
     ensures count { (S.supply source.old).faults ≤ (S.supply source.new).faults }
-    ensures cause { IsErrOf result ReadError.ReadFault → Rose (S.supply source.old).faults (S.supply source.new).faults }
+    ensures cause { IsErrOf result ReadError.ReadFault
+        → Rose (S.supply source.old).faults (S.supply source.new).faults }
     ensures never_spent { IsErrOf result ReadError.Spent → ⊥ }
     ensures bounded { OnText result (λ t. bytes.new.place.offset ≤ t.stop) }
     ensures short { OnOk result (length value.new.items ≤ 1048576) }
@@ -80,9 +86,12 @@ fn escape<S: Source>(
     source: &mut S,
 ) -> Result<(), ReadError>
     requires { length value.old.items ≤ 1048576 }
-    ensures reads { ReadsPart (λ s. Escape s false) (λ s. Parts) place start bytes.old bytes.new (S.supply source.old).left (S.supply source.new).left value.old.items value.new.items result }
+    ensures reads { ReadsPart (λ s. Escape s false) (λ s. Parts) place start bytes.old bytes.new
+        (S.supply source.old).left
+        (S.supply source.new).left value.old.items value.new.items result }
     ensures count { (S.supply source.old).faults ≤ (S.supply source.new).faults }
-    ensures cause { IsErrOf result ReadError.ReadFault → Rose (S.supply source.old).faults (S.supply source.new).faults }
+    ensures cause { IsErrOf result ReadError.ReadFault
+        → Rose (S.supply source.old).faults (S.supply source.new).faults }
     ensures never_spent { IsErrOf result ReadError.Spent → ⊥ }
     ensures bounded { OnText result (λ t. bytes.new.place.offset ≤ t.stop) }
     ensures short { OnOk result (length value.new.items ≤ 1048576) }
@@ -115,11 +124,14 @@ fn parts<S: Source>(
     source: &mut S,
 ) -> Result<(), ReadError>
     requires { length value.old.items ≤ 1048576 }
-    ensures reads { ReadsPart (λ s. Parts) (λ s. Parts) place place bytes.old bytes.new (S.supply source.old).left (S.supply source.new).left value.old.items value.new.items result }
+    ensures reads { ReadsPart (λ s. Parts) (λ s. Parts) place place bytes.old bytes.new
+        (S.supply source.old).left
+        (S.supply source.new).left value.old.items value.new.items result }
     ensures quote { OnOk result ((rest : List ℕ) × (bytes.new.held ≡ 34 ∷ rest)) }
     ensures within { OnOk result (bytes.new.place.offset ≤ LIMIT) }
     ensures count { (S.supply source.old).faults ≤ (S.supply source.new).faults }
-    ensures cause { IsErrOf result ReadError.ReadFault → Rose (S.supply source.old).faults (S.supply source.new).faults }
+    ensures cause { IsErrOf result ReadError.ReadFault
+        → Rose (S.supply source.old).faults (S.supply source.new).faults }
     ensures never_spent { IsErrOf result ReadError.Spent → ⊥ }
     ensures bounded { OnText result (λ t. bytes.new.place.offset ≤ t.stop) }
     ensures short { OnOk result (length value.new.items ≤ 1048576) }
@@ -175,9 +187,11 @@ pub fn string<S: Source>(
     requires ahead { (rest : List ℕ) × (bytes.old.held ≡ 34 ∷ rest) }
     requires begins { place ≡ bytes.old.place }
     requires within { place.offset ≤ LIMIT }
-    ensures reads { Reads string_spelled place bytes.old bytes.new (S.supply source.old).left (S.supply source.new).left result }
+    ensures reads { Reads string_spelled place bytes.old bytes.new
+        (S.supply source.old).left (S.supply source.new).left result }
     ensures count { (S.supply source.old).faults ≤ (S.supply source.new).faults }
-    ensures cause { IsErrOf result ReadError.ReadFault → Rose (S.supply source.old).faults (S.supply source.new).faults }
+    ensures cause { IsErrOf result ReadError.ReadFault
+        → Rose (S.supply source.old).faults (S.supply source.new).faults }
     ensures never_spent { IsErrOf result ReadError.Spent → ⊥ }
     ensures bounded { OnText result (λ t. bytes.new.place.offset ≤ t.stop) }
     ensures ended { IfOk result (λ f. bytes.new.place.offset ≤ f.stop) }

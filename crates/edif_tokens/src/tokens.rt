@@ -86,8 +86,12 @@ impl Tokens {
     #[inline(always)]
     pub fn take_mark(&mut self)
         requires { (mark : ℕ) × (held_mark self.old.window ≡ Some mark) }
-        ensures left { self.new ≡ record { window = past_mark self.old.window; spent = self.old.spent } }
-        ensures reads { (mark : ℕ) → held_mark self.old.window ≡ Some mark → IsFalse self.old.spent → (i : Supply) → (x : Found) × (x.token ≡ mark_token mark) × ReadsToken edif (Ok (Some x)) self.old.window self.old.spent self.new.window self.new.spent i i }
+        ensures left { self.new
+            ≡ record { window = past_mark self.old.window; spent = self.old.spent } }
+        ensures reads { (mark : ℕ) → held_mark self.old.window ≡ Some mark → IsFalse self.old.spent
+            → (i : Supply) → (x : Found) × (x.token ≡ mark_token mark)
+            × ReadsToken edif (Ok
+            (Some x)) self.old.window self.old.spent self.new.window self.new.spent i i }
         ensures limit { self.new.window.place.offset ≤ LIMIT }
     {
         // The buffer holds at most 4,096 bytes, as its call says.
@@ -113,8 +117,12 @@ impl Tokens {
     pub fn take_word(&mut self, count: usize)
         requires some { 0 < count }
         requires word { count ≡ length (held_word self.old.window) }
-        ensures left { self.new ≡ record { window = past_word self.old.window; spent = self.old.spent } }
-        ensures reads { IsFalse self.old.spent → (i : Supply) → (x : Found) × (x.token ≡ Word (held_word self.old.window)) × ReadsToken edif (Ok (Some x)) self.old.window self.old.spent self.new.window self.new.spent i i }
+        ensures left { self.new
+            ≡ record { window = past_word self.old.window; spent = self.old.spent } }
+        ensures reads { IsFalse self.old.spent → (i : Supply) → (x : Found)
+            × (x.token ≡ Word (held_word self.old.window))
+            × ReadsToken edif (Ok
+            (Some x)) self.old.window self.old.spent self.new.window self.new.spent i i }
         ensures limit { self.new.window.place.offset ≤ LIMIT }
     {
         // The buffer holds at most 4,096 bytes, as its call says.
@@ -152,8 +160,11 @@ impl Tokens {
     pub fn take_form(&mut self, at: FormAt)
         requires some { 0 < at.count }
         requires form { at ≡ form_at self.old.window }
-        ensures left { self.new ≡ record { window = past_word (past_mark self.old.window); spent = self.old.spent } }
-        ensures reads { IsFalse self.old.spent → (i : Supply) → ReadsForm (held_word (past_mark self.old.window)) self.old (record { window = past_mark self.old.window; spent = self.old.spent }) self.new i }
+        ensures left { self.new
+            ≡ record { window = past_word (past_mark self.old.window); spent = self.old.spent } }
+        ensures reads { IsFalse self.old.spent → (i : Supply)
+            → ReadsForm (held_word (past_mark self.old.window)) self.old
+            (record { window = past_mark self.old.window; spent = self.old.spent }) self.new i }
         ensures limit { self.new.window.place.offset ≤ LIMIT }
     {
         // The buffer holds at most 4,096 bytes, as its call says.

@@ -23,8 +23,13 @@ use std::alloc::Global;
 pub fn mark<S: Source>(bytes: &mut Bytes, byte: u8, token: Token, source: &S) -> Found
     requires ahead { (rest : List ℕ) × (bytes.old.held ≡ byte ∷ rest) }
     requires within { bytes.old.place.offset ≤ LIMIT }
-    ensures found { result ≡ record { place = bytes.old.place; stop = bytes.old.place.offset + 1; token = token } }
-    ensures uses { Uses bytes.old bytes.new (S.supply source.now).left (S.supply source.now).left (byte ∷ []) }
+    ensures found { result ≡ record {
+      place = bytes.old.place;
+      stop = bytes.old.place.offset + 1;
+      token = token;
+    } }
+    ensures uses { Uses bytes.old bytes.new (S.supply source.now).left (S.supply source.now).left
+        (byte ∷ []) }
     ensures kept { given bytes.new ≡ given bytes.old }
 {
     let place = bytes.place();
@@ -41,11 +46,14 @@ pub fn mark<S: Source>(bytes: &mut Bytes, byte: u8, token: Token, source: &S) ->
 pub fn mark_found<S: Source>(bytes: &mut Bytes, byte: u8, source: &S) -> Option<Found>
     requires ahead { (rest : List ℕ) × (bytes.old.held ≡ byte ∷ rest) }
     requires within { bytes.old.place.offset ≤ LIMIT }
-    ensures reads { IfSome result (λ f. Reads (token_by (start_of byte)) bytes.old.place bytes.old bytes.new (S.supply source.now).left (S.supply source.now).left (Ok f)) }
+    ensures reads { IfSome result
+        (λ f. Reads (token_by (start_of byte)) bytes.old.place bytes.old bytes.new
+        (S.supply source.now).left (S.supply source.now).left (Ok f)) }
     ensures limit { IfSome result (λ f. f.stop ≤ LIMIT) }
     ensures ended { IfSome result (λ f. bytes.new.place.offset ≤ f.stop) }
     ensures proper { IfSome result (λ f. IsProper f.token) }
-    ensures comes { IsSome result ↔ (IsTrue (is_parenthesis byte) × (bytes.old.place.offset < LIMIT)) }
+    ensures comes { IsSome result
+        ↔ (IsTrue (is_parenthesis byte) × (bytes.old.place.offset < LIMIT)) }
     ensures none { IsNone result → bytes.new ≡ bytes.old }
 {
     if bytes.place().offset == LIMIT {
@@ -95,7 +103,8 @@ pub fn held_word<S: Source>(
     requires begins { begins_word false byte ≡ true }
     requires some { 0 < count }
     requires whole { IsWhole Class.WordByte bytes.old count }
-    ensures reads { Reads (word_spelled false) bytes.old.place bytes.old bytes.new (S.supply source.now).left (S.supply source.now).left result }
+    ensures reads { Reads (word_spelled false) bytes.old.place bytes.old bytes.new
+        (S.supply source.now).left (S.supply source.now).left result }
     ensures limit { IfOk result (λ f. f.stop ≤ LIMIT) }
     ensures ended { IfOk result (λ f. bytes.new.place.offset ≤ f.stop) }
     ensures proper { IfOk result (λ f. IsProper f.token) }
@@ -123,7 +132,8 @@ pub fn held_number<S: Source>(
     requires ahead { (rest : List ℕ) × (bytes.old.held ≡ byte ∷ rest) }
     requires some { 0 < count }
     requires whole { IsWhole Class.Digit bytes.old count }
-    ensures reads { Reads (number_spelled false) bytes.old.place bytes.old bytes.new (S.supply source.now).left (S.supply source.now).left result }
+    ensures reads { Reads (number_spelled false) bytes.old.place bytes.old bytes.new
+        (S.supply source.now).left (S.supply source.now).left result }
     ensures limit { IfOk result (λ f. f.stop ≤ LIMIT) }
     ensures never_fails { IsErrOf result ReadError.ReadFault → ⊥ }
     ensures never_spent { IsErrOf result ReadError.Spent → ⊥ }
@@ -168,7 +178,8 @@ pub fn held_string<S: Source>(
 ) -> Result<Found, ReadError>
     requires ahead { (rest : List ℕ) × (bytes.old.held ≡ 34 ∷ rest) }
     requires quoted { IsQuoted bytes.old count }
-    ensures reads { Reads string_spelled bytes.old.place bytes.old bytes.new (S.supply source.now).left (S.supply source.now).left result }
+    ensures reads { Reads string_spelled bytes.old.place bytes.old bytes.new
+        (S.supply source.now).left (S.supply source.now).left result }
     ensures limit { IfOk result (λ f. f.stop ≤ LIMIT) }
     ensures ended { IfOk result (λ f. bytes.new.place.offset ≤ f.stop) }
     ensures proper { IfOk result (λ f. IsProper f.token) }

@@ -49,7 +49,8 @@ fn lay_contents<O: Sink>(
     sink: &mut O,
 )
     requires { indent + 6 ≤ 16 }
-    ensures { Puts (laid indent (Deep k.Contents none (all contents_item_block items.now))) (state O.receipt sink.old output.old) (state O.receipt sink.new output.new) }
+    ensures { Puts (laid indent (Deep k.Contents none (all contents_item_block items.now)))
+        (state O.receipt sink.old output.old) (state O.receipt sink.new output.new) }
 {
     put_line(indent, b"(contents\n", output, sink);
     lay_each(items.items(), indent + 2, output, sink);
@@ -64,7 +65,8 @@ fn lay_interface<O: Sink>(
     sink: &mut O,
 )
     requires { indent + 2 ≤ 16 }
-    ensures { Puts (laid indent (Deep k.Interface none (all interface_item_block items.now))) (state O.receipt sink.old output.old) (state O.receipt sink.new output.new) }
+    ensures { Puts (laid indent (Deep k.Interface none (all interface_item_block items.now)))
+        (state O.receipt sink.old output.old) (state O.receipt sink.new output.new) }
 {
     put_line(indent, b"(interface\n", output, sink);
     lay_each(items.items(), indent + 2, output, sink);
@@ -118,7 +120,8 @@ impl OnLines for CellItem {
 /// The type of a cell.
 fn lay_kind<O: Sink>(kind: CellKind, indent: usize, output: &mut Output, sink: &mut O)
     requires { indent ≤ 16 }
-    ensures { Puts (laid indent (Flat (with_part k.CellType (kind_form kind)))) (state O.receipt sink.old output.old) (state O.receipt sink.new output.new) }
+    ensures { Puts (laid indent (Flat (with_part k.CellType (kind_form kind))))
+        (state O.receipt sink.old output.old) (state O.receipt sink.new output.new) }
 {
     match kind {
         CellKind::Generic => put_line(indent, b"(cellType GENERIC)\n", output, sink),

@@ -28,7 +28,8 @@ impl OnLine for Scale {
 /// The technology of a library, on a line of its own.
 fn lay_technology<O: Sink>(library: &Library, indent: usize, output: &mut Output, sink: &mut O)
     requires { indent ≤ 16 }
-    ensures { Puts (laid indent (Flat (technology_form library.now))) (state O.receipt sink.old output.old) (state O.receipt sink.new output.new) }
+    ensures { Puts (laid indent (Flat (technology_form library.now)))
+        (state O.receipt sink.old output.old) (state O.receipt sink.new output.new) }
 {
     put_indent(indent, output, sink);
     output.put(b"(technology (numberDefinition", sink);
@@ -41,7 +42,8 @@ fn lay_technology<O: Sink>(library: &Library, indent: usize, output: &mut Output
 /// The level of an EDIF text and of a library.
 fn lay_level<O: Sink>(indent: usize, output: &mut Output, sink: &mut O)
     requires { indent ≤ 16 }
-    ensures { Puts (laid indent (Flat level_form)) (state O.receipt sink.old output.old) (state O.receipt sink.new output.new) }
+    ensures { Puts (laid indent (Flat level_form))
+        (state O.receipt sink.old output.old) (state O.receipt sink.new output.new) }
 {
     put_line(indent, b"(edifLevel 0)\n", output, sink);
 }
@@ -63,7 +65,10 @@ impl OnLines for LibraryItem {
 /// The first line of a library.
 fn open_library<O: Sink>(library: &Library, indent: usize, output: &mut Output, sink: &mut O)
     requires { indent ≤ 16 }
-    ensures { Puts (λ rest. blanks indent ++ (40 ∷ (spelling (library_keyword library.now.external) ++ (32 ∷ inline (name_form library.now.name) (10 ∷ rest))))) (state O.receipt sink.old output.old) (state O.receipt sink.new output.new) }
+    ensures { Puts (λ rest. blanks indent
+        ++ (40 ∷ (spelling (library_keyword library.now.external)
+        ++ (32 ∷ inline (name_form library.now.name) (10 ∷ rest)))))
+        (state O.receipt sink.old output.old) (state O.receipt sink.new output.new) }
 {
     if library.external {
         open_block(indent, b"(external ", &library.name, output, sink);
@@ -132,7 +137,9 @@ impl OnLines for FileItem {
 /// The version, the level and the keyword map.
 fn lay_header<O: Sink>(indent: usize, output: &mut Output, sink: &mut O)
     requires { indent ≤ 16 }
-    ensures { Puts (λ rest. laid indent (Flat version_form) (laid indent (Flat level_form) (laid indent (Flat map_form) rest))) (state O.receipt sink.old output.old) (state O.receipt sink.new output.new) }
+    ensures { Puts (λ rest. laid indent (Flat version_form)
+        (laid indent (Flat level_form) (laid indent (Flat map_form) rest)))
+        (state O.receipt sink.old output.old) (state O.receipt sink.new output.new) }
 {
     put_line(indent, b"(edifVersion 2 0 0)\n", output, sink);
     lay_level(indent, output, sink);

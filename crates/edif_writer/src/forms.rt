@@ -30,7 +30,8 @@ pub trait OnLine {
 
     /// Puts the text of the form.
     fn write<O: Sink>(&self, output: &mut Output, sink: &mut O)
-        ensures { Puts (inline (form self.now)) (state O.receipt sink.old output.old) (state O.receipt sink.new output.new) };
+        ensures { Puts (inline (form self.now))
+            (state O.receipt sink.old output.old) (state O.receipt sink.new output.new) };
 }
 
 /// What stands on lines of its own.
@@ -44,7 +45,8 @@ pub trait OnLines {
     /// Puts the lines, at an indent of so many blanks.
     fn lay<O: Sink>(&self, indent: usize, output: &mut Output, sink: &mut O)
         requires { indent + depth ≤ 16 }
-        ensures { Puts (laid indent (block self.now)) (state O.receipt sink.old output.old) (state O.receipt sink.new output.new) };
+        ensures { Puts (laid indent (block self.now))
+            (state O.receipt sink.old output.old) (state O.receipt sink.new output.new) };
 }
 
 // What begins or ends a line is always inlined: its indent and its bytes are then of a known number.
@@ -53,7 +55,8 @@ pub trait OnLines {
 #[inline(always)]
 pub(crate) fn put_indent<O: Sink>(indent: usize, output: &mut Output, sink: &mut O)
     requires { indent ≤ 16 }
-    ensures { Puts (λ rest. blanks indent ++ rest) (state O.receipt sink.old output.old) (state O.receipt sink.new output.new) }
+    ensures { Puts (λ rest. blanks indent ++ rest)
+        (state O.receipt sink.old output.old) (state O.receipt sink.new output.new) }
 {
     let (blanks, _) = BLANKS.split_at(indent);
     output.put(blanks, sink);
@@ -63,7 +66,8 @@ pub(crate) fn put_indent<O: Sink>(indent: usize, output: &mut Output, sink: &mut
 #[inline(always)]
 pub(crate) fn put_close<O: Sink>(indent: usize, output: &mut Output, sink: &mut O)
     requires { indent ≤ 16 }
-    ensures { Puts (λ rest. blanks indent ++ (codes ")\n" ++ rest)) (state O.receipt sink.old output.old) (state O.receipt sink.new output.new) }
+    ensures { Puts (λ rest. blanks indent ++ (codes ")\n" ++ rest))
+        (state O.receipt sink.old output.old) (state O.receipt sink.new output.new) }
 {
     let (_, line) = CLOSE.split_at(16 - indent);
     output.put(line, sink);
@@ -73,7 +77,9 @@ pub(crate) fn put_close<O: Sink>(indent: usize, output: &mut Output, sink: &mut 
 #[inline(always)]
 pub(crate) fn open_port_ref<O: Sink>(indent: usize, output: &mut Output, sink: &mut O)
     requires { indent ≤ 16 }
-    ensures { Puts (λ rest. blanks indent ++ (codes "(portRef " ++ rest)) (state O.receipt sink.old output.old) (state O.receipt sink.new output.new) }
+    ensures { Puts (λ rest. blanks indent
+        ++ (codes "(portRef " ++ rest))
+        (state O.receipt sink.old output.old) (state O.receipt sink.new output.new) }
 {
     let (_, line) = PORT_REF.split_at(16 - indent);
     output.put(line, sink);
@@ -83,7 +89,9 @@ pub(crate) fn open_port_ref<O: Sink>(indent: usize, output: &mut Output, sink: &
 #[inline(always)]
 pub(crate) fn open_property<O: Sink>(indent: usize, output: &mut Output, sink: &mut O)
     requires { indent ≤ 16 }
-    ensures { Puts (λ rest. blanks indent ++ (codes "(property " ++ rest)) (state O.receipt sink.old output.old) (state O.receipt sink.new output.new) }
+    ensures { Puts (λ rest. blanks indent
+        ++ (codes "(property " ++ rest))
+        (state O.receipt sink.old output.old) (state O.receipt sink.new output.new) }
 {
     let (_, line) = PROPERTY.split_at(16 - indent);
     output.put(line, sink);
@@ -93,7 +101,9 @@ pub(crate) fn open_property<O: Sink>(indent: usize, output: &mut Output, sink: &
 #[inline(always)]
 pub(crate) fn open_view_ref<O: Sink>(indent: usize, output: &mut Output, sink: &mut O)
     requires { indent ≤ 16 }
-    ensures { Puts (λ rest. blanks indent ++ (codes "(viewRef " ++ rest)) (state O.receipt sink.old output.old) (state O.receipt sink.new output.new) }
+    ensures { Puts (λ rest. blanks indent
+        ++ (codes "(viewRef " ++ rest))
+        (state O.receipt sink.old output.old) (state O.receipt sink.new output.new) }
 {
     let (_, line) = VIEW_REF.split_at(16 - indent);
     output.put(line, sink);
@@ -103,7 +113,8 @@ pub(crate) fn open_view_ref<O: Sink>(indent: usize, output: &mut Output, sink: &
 #[inline(always)]
 pub(crate) fn put_line<O: Sink>(indent: usize, bytes: &[u8], output: &mut Output, sink: &mut O)
     requires { indent ≤ 16 }
-    ensures { Puts (λ rest. blanks indent ++ (bytes.now ++ rest)) (state O.receipt sink.old output.old) (state O.receipt sink.new output.new) }
+    ensures { Puts (λ rest. blanks indent ++ (bytes.now ++ rest))
+        (state O.receipt sink.old output.old) (state O.receipt sink.new output.new) }
 {
     put_indent(indent, output, sink);
     output.put(bytes, sink);
@@ -119,7 +130,8 @@ pub(crate) fn open_block<O: Sink>(
     sink: &mut O,
 )
     requires { indent ≤ 16 }
-    ensures { Puts (λ rest. blanks indent ++ (bytes.now ++ inline (name_form name.now) (10 ∷ rest))) (state O.receipt sink.old output.old) (state O.receipt sink.new output.new) }
+    ensures { Puts (λ rest. blanks indent ++ (bytes.now ++ inline (name_form name.now) (10 ∷ rest)))
+        (state O.receipt sink.old output.old) (state O.receipt sink.new output.new) }
 {
     put_indent(indent, output, sink);
     output.put(bytes, sink);
@@ -134,7 +146,8 @@ pub(crate) fn write_line<T: OnLine, O: Sink>(
     sink: &mut O,
 )
     requires { indent ≤ 16 }
-    ensures { Puts (laid indent (Flat (T.form form.now))) (state O.receipt sink.old output.old) (state O.receipt sink.new output.new) }
+    ensures { Puts (laid indent (Flat (T.form form.now)))
+        (state O.receipt sink.old output.old) (state O.receipt sink.new output.new) }
 {
     put_indent(indent, output, sink);
     form.write(output, sink);
@@ -143,7 +156,8 @@ pub(crate) fn write_line<T: OnLine, O: Sink>(
 
 /// Forms, each after a blank.
 pub(crate) fn write_each<T: OnLine, O: Sink>(items: &[T], output: &mut Output, sink: &mut O)
-    ensures { Puts (spaced (each T.form items.now)) (state O.receipt sink.old output.old) (state O.receipt sink.new output.new) }
+    ensures { Puts (spaced (each T.form items.now))
+        (state O.receipt sink.old output.old) (state O.receipt sink.new output.new) }
 {
     for item in items {
         output.put(b" ", sink);
@@ -159,7 +173,8 @@ pub(crate) fn lay_each<T: OnLines, O: Sink>(
     sink: &mut O,
 )
     requires { indent + T.depth ≤ 16 }
-    ensures { Puts (lines indent (all T.block items.now)) (state O.receipt sink.old output.old) (state O.receipt sink.new output.new) }
+    ensures { Puts (lines indent (all T.block items.now))
+        (state O.receipt sink.old output.old) (state O.receipt sink.new output.new) }
 {
     for item in items {
         item.lay(indent, output, sink);

@@ -32,7 +32,8 @@ impl OnLine for NameDef {
 /// A name, at the end of its line.
 #[inline(always)]
 pub(crate) fn write_name_line<O: Sink>(name: &NameDef, output: &mut Output, sink: &mut O)
-    ensures { Puts (λ rest. inline (name_form name.now) (10 ∷ rest)) (state O.receipt sink.old output.old) (state O.receipt sink.new output.new) }
+    ensures { Puts (λ rest. inline (name_form name.now) (10 ∷ rest))
+        (state O.receipt sink.old output.old) (state O.receipt sink.new output.new) }
 {
     match &name.text {
         None => {
@@ -68,7 +69,8 @@ impl OnLine for PortName {
 
 /// Strings in a comment.
 pub(crate) fn write_comment<O: Sink>(texts: &Seq<Text>, output: &mut Output, sink: &mut O)
-    ensures { Puts (inline (comment_form texts.now)) (state O.receipt sink.old output.old) (state O.receipt sink.new output.new) }
+    ensures { Puts (inline (comment_form texts.now))
+        (state O.receipt sink.old output.old) (state O.receipt sink.new output.new) }
 {
     output.put(b"(comment", sink);
     write_each(texts.items(), output, sink);
@@ -105,7 +107,9 @@ impl OnLine for Property {
 /// The name and the value of a property, of which the `)` of the value is still to come.
 #[inline(always)]
 fn write_named_value<O: Sink>(property: &Property, output: &mut Output, sink: &mut O)
-    ensures { PutsUntil (λ rest. inline (name_form property.now.name) (32 ∷ inline (value_form property.now.value) rest)) (λ rest. 41 ∷ rest) (state O.receipt sink.old output.old) (state O.receipt sink.new output.new) }
+    ensures { PutsUntil (λ rest. inline (name_form property.now.name) (32
+        ∷ inline (value_form property.now.value) rest)) (λ rest. 41 ∷ rest)
+        (state O.receipt sink.old output.old) (state O.receipt sink.new output.new) }
 {
     property.name.write(output, sink);
     write_value(&property.value, output, sink);
@@ -114,7 +118,8 @@ fn write_named_value<O: Sink>(property: &Property, output: &mut Output, sink: &m
 /// What follows the value of a property, with the `)` of both, at the end of its line.
 #[inline(always)]
 fn end_property<O: Sink>(tail: &[PropTail], output: &mut Output, sink: &mut O)
-    ensures { Puts (λ rest. 41 ∷ spaced (each tail_form tail.now) (41 ∷ 10 ∷ rest)) (state O.receipt sink.old output.old) (state O.receipt sink.new output.new) }
+    ensures { Puts (λ rest. 41 ∷ spaced (each tail_form tail.now) (41 ∷ 10 ∷ rest))
+        (state O.receipt sink.old output.old) (state O.receipt sink.new output.new) }
 {
     if let [_first, _others @ ..] = tail {
         output.put(b")", sink);
@@ -134,7 +139,8 @@ pub(crate) fn lay_property<O: Sink>(
     sink: &mut O,
 )
     requires { indent ≤ 16 }
-    ensures { Puts (laid indent (Flat (property_form property.now))) (state O.receipt sink.old output.old) (state O.receipt sink.new output.new) }
+    ensures { Puts (laid indent (Flat (property_form property.now)))
+        (state O.receipt sink.old output.old) (state O.receipt sink.new output.new) }
 {
     open_property(indent, output, sink);
     write_named_value(property, output, sink);

@@ -16,7 +16,8 @@ use nl_output::Output;
 
 /// A direction.
 fn write_direction<O: Sink>(dir: Dir, output: &mut Output, sink: &mut O)
-    ensures { Puts (inline (with_part k.Direction (dir_form dir))) (state O.receipt sink.old output.old) (state O.receipt sink.new output.new) }
+    ensures { Puts (inline (with_part k.Direction (dir_form dir)))
+        (state O.receipt sink.old output.old) (state O.receipt sink.new output.new) }
 {
     match dir {
         Dir::Input => output.put(b"(direction INPUT)", sink),
@@ -27,7 +28,8 @@ fn write_direction<O: Sink>(dir: Dir, output: &mut Output, sink: &mut O)
 
 /// A designator.
 pub(crate) fn write_designator<O: Sink>(text: &Text, output: &mut Output, sink: &mut O)
-    ensures { Puts (inline (designator_form text.now)) (state O.receipt sink.old output.old) (state O.receipt sink.new output.new) }
+    ensures { Puts (inline (designator_form text.now))
+        (state O.receipt sink.old output.old) (state O.receipt sink.new output.new) }
 {
     output.put(b"(designator ", sink);
     text.write(output, sink);
@@ -61,7 +63,8 @@ impl OnLine for Port {
 /// The cell of which an instance is, of a library if one is named, at the end of its line.
 #[inline(always)]
 fn end_view_ref<O: Sink>(cell: &Ident, library: &Option<Ident>, output: &mut Output, sink: &mut O)
-    ensures { Puts (λ rest. 32 ∷ inline (cell_ref_form cell.now library.now) (41 ∷ 10 ∷ rest)) (state O.receipt sink.old output.old) (state O.receipt sink.new output.new) }
+    ensures { Puts (λ rest. 32 ∷ inline (cell_ref_form cell.now library.now) (41 ∷ 10 ∷ rest))
+        (state O.receipt sink.old output.old) (state O.receipt sink.new output.new) }
 {
     match library {
         None => {
@@ -96,7 +99,8 @@ impl OnLines for InstanceItem {
 /// A designator on a line of its own.
 pub(crate) fn lay_designator<O: Sink>(text: &Text, indent: usize, output: &mut Output, sink: &mut O)
     requires { indent ≤ 16 }
-    ensures { Puts (laid indent (Flat (designator_form text.now))) (state O.receipt sink.old output.old) (state O.receipt sink.new output.new) }
+    ensures { Puts (laid indent (Flat (designator_form text.now)))
+        (state O.receipt sink.old output.old) (state O.receipt sink.new output.new) }
 {
     put_indent(indent, output, sink);
     write_designator(text, output, sink);
@@ -107,7 +111,8 @@ pub(crate) fn lay_designator<O: Sink>(text: &Text, indent: usize, output: &mut O
 #[inline(always)]
 fn lay_view_ref<O: Sink>(instance: &Instance, indent: usize, output: &mut Output, sink: &mut O)
     requires { indent ≤ 16 }
-    ensures { Puts (laid indent (Flat (view_ref_form instance.now))) (state O.receipt sink.old output.old) (state O.receipt sink.new output.new) }
+    ensures { Puts (laid indent (Flat (view_ref_form instance.now)))
+        (state O.receipt sink.old output.old) (state O.receipt sink.new output.new) }
 {
     open_view_ref(indent, output, sink);
     instance.view.write(output, sink);
@@ -130,7 +135,8 @@ impl OnLines for Instance {
 /// A port, or a member of an array of ports.
 #[inline(always)]
 fn write_member<O: Sink>(port: &Ident, member: &Option<Int>, output: &mut Output, sink: &mut O)
-    ensures { Puts (inline (member_form port.now member.now)) (state O.receipt sink.old output.old) (state O.receipt sink.new output.new) }
+    ensures { Puts (inline (member_form port.now member.now))
+        (state O.receipt sink.old output.old) (state O.receipt sink.new output.new) }
 {
     match member {
         None => port.write(output, sink),
@@ -146,7 +152,8 @@ fn write_member<O: Sink>(port: &Ident, member: &Option<Int>, output: &mut Output
 
 /// A reference to an instance, after a blank, if one is named.
 fn write_instance_ref<O: Sink>(instance: &Option<Ident>, output: &mut Output, sink: &mut O)
-    ensures { Puts (spaced (instance_ref_forms instance.now)) (state O.receipt sink.old output.old) (state O.receipt sink.new output.new) }
+    ensures { Puts (spaced (instance_ref_forms instance.now))
+        (state O.receipt sink.old output.old) (state O.receipt sink.new output.new) }
 {
     if let Some(name) = instance {
         output.put(b" (instanceRef ", sink);
@@ -158,7 +165,8 @@ fn write_instance_ref<O: Sink>(instance: &Option<Ident>, output: &mut Output, si
 /// A reference to an instance, after a blank, if one is named, at the end of the line of a reference to a port.
 #[inline(always)]
 fn end_port_ref<O: Sink>(instance: &Option<Ident>, output: &mut Output, sink: &mut O)
-    ensures { Puts (λ rest. spaced (instance_ref_forms instance.now) (41 ∷ 10 ∷ rest)) (state O.receipt sink.old output.old) (state O.receipt sink.new output.new) }
+    ensures { Puts (λ rest. spaced (instance_ref_forms instance.now) (41 ∷ 10 ∷ rest))
+        (state O.receipt sink.old output.old) (state O.receipt sink.new output.new) }
 {
     match instance {
         None => output.put(b")\n", sink),

@@ -11,7 +11,8 @@ use nl_output::Output;
 
 /// A blank, where one is due.
 fn put_blank<O: Sink>(due: bool, output: &mut Output, sink: &mut O)
-    ensures { Puts (blank_where due) (state O.receipt sink.old output.old) (state O.receipt sink.new output.new) }
+    ensures { Puts (blank_where due)
+        (state O.receipt sink.old output.old) (state O.receipt sink.new output.new) }
 {
     if due {
         output.put(b" ", sink);
@@ -21,7 +22,8 @@ fn put_blank<O: Sink>(due: bool, output: &mut Output, sink: &mut O)
 /// Trees with blanks between them, and one before the first where it is due.
 #[cycle(trees)]
 fn write_trees<O: Sink>(trees: &[UserTree], blank: bool, output: &mut Output, sink: &mut O)
-    ensures { Puts (between blank (each tree_form trees.now)) (state O.receipt sink.old output.old) (state O.receipt sink.new output.new) }
+    ensures { Puts (between blank (each tree_form trees.now))
+        (state O.receipt sink.old output.old) (state O.receipt sink.new output.new) }
 {
     let mut due = blank;
     for tree in trees {
@@ -34,7 +36,8 @@ fn write_trees<O: Sink>(trees: &[UserTree], blank: bool, output: &mut Output, si
 /// A list of trees.
 #[cycle(trees)]
 fn write_list<O: Sink>(trees: &[UserTree], output: &mut Output, sink: &mut O)
-    ensures { Puts (inline (Group (each tree_form trees.now))) (state O.receipt sink.old output.old) (state O.receipt sink.new output.new) }
+    ensures { Puts (inline (Group (each tree_form trees.now)))
+        (state O.receipt sink.old output.old) (state O.receipt sink.new output.new) }
 {
     output.put(b"(", sink);
     write_trees(trees, false, output, sink);
@@ -44,7 +47,8 @@ fn write_list<O: Sink>(trees: &[UserTree], output: &mut Output, sink: &mut O)
 /// A tree.
 #[cycle(trees)]
 fn write_tree<O: Sink>(tree: &UserTree, output: &mut Output, sink: &mut O)
-    ensures { Puts (inline (tree_form tree.now)) (state O.receipt sink.old output.old) (state O.receipt sink.new output.new) }
+    ensures { Puts (inline (tree_form tree.now))
+        (state O.receipt sink.old output.old) (state O.receipt sink.new output.new) }
 {
     match tree {
         UserTree::Word(word) => word.write(output, sink),

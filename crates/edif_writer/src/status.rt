@@ -35,7 +35,8 @@ fn write_with_version<O: Sink>(
     output: &mut Output,
     sink: &mut O,
 )
-    ensures { Puts (spaced (with_version text.now version.now)) (state O.receipt sink.old output.old) (state O.receipt sink.new output.new) }
+    ensures { Puts (spaced (with_version text.now version.now))
+        (state O.receipt sink.old output.old) (state O.receipt sink.new output.new) }
 {
     output.put(b" ", sink);
     text.write(output, sink);

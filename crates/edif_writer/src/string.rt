@@ -40,7 +40,8 @@ fn other_front(bytes: &[u8]) -> usize
 
 /// Further codes of an escape.
 fn write_codes<O: Sink>(bytes: &[u8], output: &mut Output, sink: &mut O)
-    ensures { Puts (codes_text bytes.now) (state O.receipt sink.old output.old) (state O.receipt sink.new output.new) }
+    ensures { Puts (codes_text bytes.now)
+        (state O.receipt sink.old output.old) (state O.receipt sink.new output.new) }
 {
     for byte in bytes {
         output.put(b" ", sink);
@@ -50,7 +51,8 @@ fn write_codes<O: Sink>(bytes: &[u8], output: &mut Output, sink: &mut O)
 
 /// An escape of these bytes, if there are any.
 fn write_escape<O: Sink>(bytes: &[u8], output: &mut Output, sink: &mut O)
-    ensures { Puts (escape_text bytes.now) (state O.receipt sink.old output.old) (state O.receipt sink.new output.new) }
+    ensures { Puts (escape_text bytes.now)
+        (state O.receipt sink.old output.old) (state O.receipt sink.new output.new) }
 {
     if let [first, others @ ..] = bytes {
         output.put(b"%", sink);
@@ -64,7 +66,8 @@ fn write_escape<O: Sink>(bytes: &[u8], output: &mut Output, sink: &mut O)
 fn write_run<'a, O: Sink>(bytes: &'a [u8], output: &mut Output, sink: &mut O) -> &'a [u8]
     requires { 0 < length bytes.now }
     ensures shorter { length result.now < length bytes.now }
-    ensures puts { PutsUntil (written false bytes.now) (written false result.now) (state O.receipt sink.old output.old) (state O.receipt sink.new output.new) }
+    ensures puts { PutsUntil (written false bytes.now) (written false result.now)
+        (state O.receipt sink.old output.old) (state O.receipt sink.new output.new) }
 {
     let (plain, behind) = bytes.split_at(plain_front(bytes));
     output.put(plain, sink);
@@ -75,7 +78,8 @@ fn write_run<'a, O: Sink>(bytes: &'a [u8], output: &mut Output, sink: &mut O) ->
 
 /// The bytes of a string, of which the quote at its end is still to come.
 pub(crate) fn write_runs<O: Sink>(bytes: &[u8], output: &mut Output, sink: &mut O)
-    ensures { PutsUntil (written false bytes.now) (λ rest. 34 ∷ rest) (state O.receipt sink.old output.old) (state O.receipt sink.new output.new) }
+    ensures { PutsUntil (written false bytes.now) (λ rest. 34 ∷ rest)
+        (state O.receipt sink.old output.old) (state O.receipt sink.new output.new) }
 {
     let mut rest = bytes;
     while !rest.is_empty() {
@@ -85,7 +89,8 @@ pub(crate) fn write_runs<O: Sink>(bytes: &[u8], output: &mut Output, sink: &mut 
 
 /// A string in quotes (EDIF 2 0 0, stringToken).
 pub fn write_string<O: Sink>(bytes: &[u8], output: &mut Output, sink: &mut O)
-    ensures { Puts (quoted bytes.now) (state O.receipt sink.old output.old) (state O.receipt sink.new output.new) }
+    ensures { Puts (quoted bytes.now)
+        (state O.receipt sink.old output.old) (state O.receipt sink.new output.new) }
 {
     output.put(b"\"", sink);
     write_runs(bytes, output, sink);

@@ -52,7 +52,8 @@ impl OnLine for Scaled {
 
 /// `(true)` or `(false)`.
 fn write_flag<O: Sink>(flag: bool, output: &mut Output, sink: &mut O)
-    ensures { Puts (inline (flag_form flag)) (state O.receipt sink.old output.old) (state O.receipt sink.new output.new) }
+    ensures { Puts (inline (flag_form flag))
+        (state O.receipt sink.old output.old) (state O.receipt sink.new output.new) }
 {
     if flag {
         output.put(b"(true)", sink);
@@ -63,7 +64,8 @@ fn write_flag<O: Sink>(flag: bool, output: &mut Output, sink: &mut O)
 
 /// The value of a property, after a blank; its `)` is still to come.
 pub(crate) fn write_value<O: Sink>(value: &PropValue, output: &mut Output, sink: &mut O)
-    ensures { PutsUntil (λ rest. 32 ∷ inline (value_form value.now) rest) (λ rest. 41 ∷ rest) (state O.receipt sink.old output.old) (state O.receipt sink.new output.new) }
+    ensures { PutsUntil (λ rest. 32 ∷ inline (value_form value.now) rest) (λ rest. 41 ∷ rest)
+        (state O.receipt sink.old output.old) (state O.receipt sink.new output.new) }
 {
     match value {
         PropValue::Str(text) => {

@@ -37,7 +37,8 @@ impl Adjacency {
         requires { length cell.now.joins ≤ 33554432 }
         ensures neighbours { IfOk result (AreNeighbours cell.now) }
         ensures count { IfOk result (λ adjacency. length adjacency.nodes ≡ joined_count cell.now) }
-        ensures degrees { IfOk result (λ adjacency. sum_by length adjacency.lists ≡ 2 * length cell.now.joins) }
+        ensures degrees { IfOk result
+            (λ adjacency. sum_by length adjacency.lists ≡ 2 * length cell.now.joins) }
     {
         let joins = cell.joins.items();
         let Joined { nodes, numbers } = joined_ends(alloc, joins)?;

@@ -116,7 +116,9 @@ fn nodes_at<L: Ledger>(
     steps: &mut Steps<L>,
 ) -> Result<Vec<Node>, NoMemory>
     requires { All (λ place. place < length adjacency.now.nodes) places.now }
-    ensures nodes { IfOk result (λ nodes. nodes.items ≡ map (λ place. slice_index_or adjacency.now.nodes place Zero) places.now) }
+    ensures nodes { IfOk result
+        (λ nodes. nodes.items ≡ map
+        (λ place. slice_index_or adjacency.now.nodes place Zero) places.now) }
     ensures cost { steps.new ≤ steps.old + length places.now }
 {
     let mut nodes = Vec::with_capacity(alloc, places.len())?;

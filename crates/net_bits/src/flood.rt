@@ -15,8 +15,11 @@ fn number_node(
     class: u32,
 ) -> Result<(), NoMemory>
     requires { node < length numbers.old }
-    ensures known { OnOk result ((c : ℕ) → number numbers.old node ≡ Some c → (numbers.new ≡ numbers.old) × (work.new.items ≡ work.old.items)) }
-    ensures unknown { OnOk result (number numbers.old node ≡ None → (numbers.new ≡ slice_set numbers.old node (Some class)) × (work.new.items ≡ work.old.items ++ node ∷ [])) }
+    ensures known { OnOk result ((c : ℕ) → number numbers.old node ≡ Some c
+        → (numbers.new ≡ numbers.old) × (work.new.items ≡ work.old.items)) }
+    ensures unknown { OnOk result (number numbers.old node ≡ None
+        → (numbers.new ≡ slice_set numbers.old node (Some class))
+        × (work.new.items ≡ work.old.items ++ node ∷ [])) }
     ensures kept { OnErr result (numbers.new ≡ numbers.old) }
 {
     if numbers[node as usize].is_some() {
@@ -44,8 +47,10 @@ fn flood<L: Ledger>(
     requires idle { work.old.items ≡ [] }
     requires numbered { IsNumbered (IsNext adjacency.now.lists) numbers.old root class [] }
     ensures idle { OnOk result (work.new.items ≡ []) }
-    ensures numbered { OnOk result (IsNumbered (IsNext adjacency.now.lists) numbers.new (root + 1) (class + 1) []) }
-    ensures cost { steps.new + unspent numbers.new adjacency.now.lists ≤ steps.old + unspent numbers.old adjacency.now.lists }
+    ensures numbered { OnOk result
+        (IsNumbered (IsNext adjacency.now.lists) numbers.new (root + 1) (class + 1) []) }
+    ensures cost { steps.new + unspent numbers.new adjacency.now.lists
+        ≤ steps.old + unspent numbers.old adjacency.now.lists }
 {
     number_node(numbers, work, root, class)?;
     while let Some(node) = work.pop() {
@@ -81,7 +86,8 @@ pub fn number_classes<L: Ledger>(
     requires nodes { length adjacency.now.nodes ≡ length adjacency.now.lists }
     requires lists { AreMutual adjacency.now.lists }
     ensures len { IfOk result (λ r. length r.0.items ≡ length adjacency.now.lists) }
-    ensures numbers { IfOk result (λ r. AreNumbered (IsNext adjacency.now.lists) (map Some r.0.items) r.1) }
+    ensures numbers { IfOk result
+        (λ r. AreNumbered (IsNext adjacency.now.lists) (map Some r.0.items) r.1) }
     ensures cost { steps.new ≤ steps.old + sum_by length adjacency.now.lists }
 {
     let (classes, count) = flood_all(alloc, adjacency, steps)?;
@@ -107,9 +113,11 @@ fn flood_root<L: Ledger>(
     requires numbered { IsNumbered (IsNext adjacency.now.lists) numbers.old root class [] }
     requires idle { work.old.items ≡ [] }
     ensures idle { OnOk result (work.new.items ≡ []) }
-    ensures numbered { IfOk result (λ count. IsNumbered (IsNext adjacency.now.lists) numbers.new (root + 1) count []) }
+    ensures numbered { IfOk result
+        (λ count. IsNumbered (IsNext adjacency.now.lists) numbers.new (root + 1) count []) }
     ensures few { IfOk result (λ count. count ≤ root + 1) }
-    ensures cost { steps.new + unspent numbers.new adjacency.now.lists ≤ steps.old + unspent numbers.old adjacency.now.lists }
+    ensures cost { steps.new + unspent numbers.new adjacency.now.lists
+        ≤ steps.old + unspent numbers.old adjacency.now.lists }
 {
     if numbers[root as usize].is_some() {
         return Ok(class);

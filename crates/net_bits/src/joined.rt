@@ -48,7 +48,8 @@ fn number_end(
     requires place { place < length numbers.old.items }
     requires few { length nodes.old.items < 2 ^ 32 }
     ensures nodes { OnOk result (nodes.new.items ≡ with_last nodes.old.items node) }
-    ensures numbers { OnOk result (numbers.new.items ≡ slice_set numbers.old.items place (length (with_last nodes.old.items node) - 1)) }
+    ensures numbers { OnOk result (numbers.new.items
+        ≡ slice_set numbers.old.items place (length (with_last nodes.old.items node) - 1)) }
 {
     add_node(nodes, node)?;
     numbers[place] = (nodes.len() - 1) as u32;
@@ -60,7 +61,8 @@ fn numbered(alloc: Global, joins: &[Join], keys: &[u128]) -> Result<Joined, NoMe
     requires few { length joins.now ≤ 33554432 }
     requires sorted { IsNonDecreasing keys.now }
     requires keys { AreKeys (ends joins.now) keys.now }
-    ensures { IfOk result (λ joined. AreEndNumbers (ends joins.now) joined.nodes.items joined.numbers.items) }
+    ensures { IfOk result (λ joined. AreEndNumbers
+        (ends joins.now) joined.nodes.items joined.numbers.items) }
 {
     let mut nodes = Vec::with_capacity(alloc, keys.len())?;
     let mut numbers = vec![in alloc; 0; keys.len()]?;
@@ -75,7 +77,8 @@ fn numbered(alloc: Global, joins: &[Join], keys: &[u128]) -> Result<Joined, NoMe
 /// The nodes at the ends of the joins, each once and in order, and the numbers of the ends.
 pub(crate) fn joined_ends(alloc: Global, joins: &[Join]) -> Result<Joined, NoMemory>
     requires { length joins.now ≤ 33554432 }
-    ensures { IfOk result (λ joined. AreEndNumbers (ends joins.now) joined.nodes.items joined.numbers.items) }
+    ensures { IfOk result (λ joined. AreEndNumbers
+        (ends joins.now) joined.nodes.items joined.numbers.items) }
 {
     let keys = sorted_keys(alloc, joins)?;
     let joined = numbered(alloc, joins, keys.as_slice())?;

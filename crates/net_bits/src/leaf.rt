@@ -14,7 +14,8 @@ use nl_base::Dir;
 pub fn is_leaf(hier: &Hier, cell: u32, classes: &Classes) -> bool
     requires cell { cell < length hier.now.cells }
     requires classes { AreClassesAt hier.now.cells cell classes.now }
-    ensures { (value : CellValue) → IsCell hier.now.cells cell value → (IsTrue result ↔ IsLeaf value) }
+    ensures { (value : CellValue) → IsCell hier.now.cells cell value
+        → (IsTrue result ↔ IsLeaf value) }
 {
     hier.cells()[cell as usize].instances.is_empty() && are_apart(classes)
 }
@@ -24,8 +25,10 @@ pub fn is_leaf(hier: &Hier, cell: u32, classes: &Classes) -> bool
 pub fn constant_of(hier: &Hier, cell: u32, classes: &Classes, constants: &Constants) -> Option<bool>
     requires cell { cell < length hier.now.cells }
     requires classes { AreClassesAt hier.now.cells cell classes.now }
-    ensures zero { (value : CellValue) → IsCell hier.now.cells cell value → ((result ≡ Some false) ↔ IsConstantCell constants.now false value) }
-    ensures one { (value : CellValue) → IsCell hier.now.cells cell value → ((result ≡ Some true) ↔ IsConstantCell constants.now true value) }
+    ensures zero { (value : CellValue) → IsCell hier.now.cells cell value
+        → ((result ≡ Some false) ↔ IsConstantCell constants.now false value) }
+    ensures one { (value : CellValue) → IsCell hier.now.cells cell value
+        → ((result ≡ Some true) ↔ IsConstantCell constants.now true value) }
 {
     if !is_leaf(hier, cell, classes) {
         return None;

@@ -183,7 +183,8 @@ pub(crate) fn levels_fall(graph: &[Seq<u32>], levels: &[u32]) -> bool
 /// The first number from which some step does not lead to a lesser level; nothing exactly where there is none.
 pub(crate) fn first_kept(graph: &[Seq<u32>], levels: &[u32]) -> Option<u32>
     requires { length graph.now < 2 ^ 32 }
-    ensures { MatchOption result ((number : ℕ) → FallsAt graph.now levels.now number) (IsFirstKept graph.now levels.now) }
+    ensures { MatchOption result ((number : ℕ)
+        → FallsAt graph.now levels.now number) (IsFirstKept graph.now levels.now) }
 {
     for number in 0..graph.len() as u32 {
         let level = level_of(levels, number);

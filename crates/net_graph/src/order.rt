@@ -22,8 +22,12 @@ pub fn postorder(
 ) -> Result<Option<Vec<u32>>, NoMemory>
     requires in_range { IsInRange graph.now }
     requires within { start < length graph.now }
-    ensures order { IfOk result (λ found. MatchOption found ((number : ℕ) × ReachesItself graph.now number) (λ order. IsPostorder graph.now start order.items)) }
-    ensures free { IfOk result (λ found. IsSome found → (number : ℕ) → IsReached graph.now start number → ¬ ReachesItself graph.now number) }
+    ensures order { IfOk result
+        (λ found. MatchOption found ((number : ℕ)
+        × ReachesItself graph.now number) (λ order. IsPostorder graph.now start order.items)) }
+    ensures free { IfOk result
+        (λ found. IsSome found → (number : ℕ) → IsReached graph.now start number
+        → ¬ ReachesItself graph.now number) }
 {
     let mut order = Vec::new(alloc);
     let mut seen = vec![in alloc; false; graph.len()]?;

@@ -11,8 +11,11 @@ use std::alloc::Global;
 // Marks the number, and lets it wait where it had no mark.
 fn mark(marks: &mut Vec<bool>, waiting: &mut Vec<u32>, number: u32) -> Result<(), NoMemory>
     requires { number < vec_len marks.old }
-    ensures known { OnOk result (is_marked marks.old.items number ≡ true → (marks.new.items ≡ marks.old.items) × (waiting.new.items ≡ waiting.old.items)) }
-    ensures unknown { OnOk result (is_marked marks.old.items number ≡ false → (marks.new.items ≡ slice_set marks.old.items number true) × (waiting.new.items ≡ waiting.old.items ++ number ∷ [])) }
+    ensures known { OnOk result (is_marked marks.old.items number ≡ true
+        → (marks.new.items ≡ marks.old.items) × (waiting.new.items ≡ waiting.old.items)) }
+    ensures unknown { OnOk result (is_marked marks.old.items number ≡ false
+        → (marks.new.items ≡ slice_set marks.old.items number true)
+        × (waiting.new.items ≡ waiting.old.items ++ number ∷ [])) }
 {
     let place = number as usize;
     if marks[place] {
@@ -30,7 +33,8 @@ fn mark_numbers(
     numbers: &[u32],
 ) -> Result<(), NoMemory>
     requires { All (λ number. number < vec_len marks.old) numbers.now }
-    ensures { OnOk result (MarksNumbers marks.old.items waiting.old.items numbers.now marks.new.items waiting.new.items) }
+    ensures { OnOk result
+        (MarksNumbers marks.old.items waiting.old.items numbers.now marks.new.items waiting.new.items) }
 {
     for number in numbers {
         mark(marks, waiting, *number)?;
@@ -51,7 +55,8 @@ pub fn mark_reached(
     requires closed { AreClosed graph.now marks.old.items }
     ensures long { OnOk result (vec_len marks.new ≡ length graph.now) }
     ensures closed { OnOk result (AreClosed graph.now marks.new.items) }
-    ensures marks { OnOk result ((number : ℕ) → (is_marked marks.new.items number ≡ true) ↔ ((is_marked marks.old.items number ≡ true) ⊎ IsReached graph.now start number)) }
+    ensures marks { OnOk result ((number : ℕ) → (is_marked marks.new.items number ≡ true)
+        ↔ ((is_marked marks.old.items number ≡ true) ⊎ IsReached graph.now start number)) }
 {
     let mut waiting = Vec::new(alloc);
     mark(marks, &mut waiting, start)?;
@@ -66,7 +71,9 @@ pub fn reached_from(alloc: Global, graph: &[Seq<u32>], start: u32) -> Result<Vec
     requires within { start < length graph.now }
     requires in_range { IsInRange graph.now }
     ensures long { IfOk result (λ marks. vec_len marks ≡ length graph.now) }
-    ensures reached { IfOk result (λ marks. (number : ℕ) → (is_marked marks.items number ≡ true) ↔ IsReached graph.now start number) }
+    ensures reached { IfOk result
+        (λ marks. (number : ℕ) → (is_marked marks.items number ≡ true)
+        ↔ IsReached graph.now start number) }
     ensures marks { IfOk result (λ marks. marks.items ≡ marks_of graph.now start) }
 {
     let mut marks = vec![in alloc; false; graph.len()]?;

@@ -19,7 +19,8 @@ pub struct Recursion {
 fn closing_place(alloc: Global, graph: &[Seq<u32>], number: u32) -> Result<Option<usize>, NoMemory>
     requires in_range { IsInRange graph.now }
     requires within { number < length graph.now }
-    ensures { IfOk result (λ found. MatchOption found (¬ ReachesItself graph.now number) (λ place. IsClosing graph.now number place)) }
+    ensures { IfOk result (λ found. MatchOption found (¬ ReachesItself graph.now number)
+        (λ place. IsClosing graph.now number place)) }
 {
     let numbers = numbers_below(graph, number);
     let mut marks = vec![in alloc; false; graph.len()]?;
@@ -40,7 +41,8 @@ fn recursion_at(
 ) -> Result<Option<Recursion>, NoMemory>
     requires in_range { IsInRange graph.now }
     requires within { number < length graph.now }
-    ensures { IfOk result (λ found. MatchOption found (¬ ReachesItself graph.now number) (λ recursion. IsRecursionAt graph.now number recursion.number recursion.place)) }
+    ensures { IfOk result (λ found. MatchOption found (¬ ReachesItself graph.now number)
+        (λ recursion. IsRecursionAt graph.now number recursion.number recursion.place)) }
 {
     let Some(place) = closing_place(alloc, graph, number)? else {
         return Ok(None);
@@ -52,7 +54,9 @@ fn recursion_at(
 fn search_recursion(alloc: Global, graph: &[Seq<u32>]) -> Result<Option<Recursion>, NoMemory>
     requires in_range { IsInRange graph.now }
     requires short { length graph.now < 2 ^ 32 }
-    ensures { IfOk result (λ found. MatchOption found ((number : ℕ) → ¬ ReachesItself graph.now number) (λ recursion. IsFirstRecursion graph.now recursion.number recursion.place)) }
+    ensures { IfOk result (λ found. MatchOption found ((number : ℕ)
+        → ¬ ReachesItself graph.now number)
+        (λ recursion. IsFirstRecursion graph.now recursion.number recursion.place)) }
 {
     for number in 0..graph.len() as u32 {
         if let Some(recursion) = recursion_at(alloc, graph, number)? {
@@ -73,7 +77,9 @@ pub fn first_recursion(
     requires in_range { IsInRange graph.now }
     requires within { start < length graph.now }
     requires short { length graph.now < 2 ^ 32 }
-    ensures { IfOk result (λ found. MatchOption found ((number : ℕ) → ¬ ReachesItself graph.now number) (λ recursion. IsFirstRecursion graph.now recursion.number recursion.place)) }
+    ensures { IfOk result (λ found. MatchOption found ((number : ℕ)
+        → ¬ ReachesItself graph.now number)
+        (λ recursion. IsFirstRecursion graph.now recursion.number recursion.place)) }
 {
     let levels = levels_from(alloc, graph, start)?;
     if levels_fall(graph, levels.as_slice()) {

@@ -40,7 +40,8 @@ fn recursion_fault(alloc: Global, graph: &[Seq<u32>], top: u32) -> BuildFault
     requires in_range { IsInRange graph.now }
     requires within { top < length graph.now }
     requires short { length graph.now < 2 ^ 32 }
-    requires few { (number : ℕ) (numbers : List ℕ) → HasList graph.now number numbers → length numbers ≤ count_limit }
+    requires few { (number : ℕ) (numbers : List ℕ) → HasList graph.now number numbers
+        → length numbers ≤ count_limit }
     requires some { (number : ℕ) × ReachesItself graph.now number }
     ensures { IsRecursionFault graph.now result }
 {
@@ -57,7 +58,8 @@ fn recursion_fault(alloc: Global, graph: &[Seq<u32>], top: u32) -> BuildFault
 // The postorder of cells that fit, or why there is none.
 fn postorder_of(alloc: Global, cells: &[HCell], top: u32) -> Result<Vec<u32>, BuildFault>
     requires { CellsFit cells.now top }
-    ensures { MatchResult result (λ order. IsPostorderOf cells.now top order.items) (IsFaultOf cells.now) }
+    ensures { MatchResult result (λ order. IsPostorderOf cells.now top order.items)
+        (IsFaultOf cells.now) }
 {
     let graph = graph_of(alloc, cells)?;
     let Some(order) = postorder(alloc, graph.as_slice(), top)? else {

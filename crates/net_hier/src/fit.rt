@@ -115,7 +115,8 @@ fn port_names_differ(alloc: Global, ports: &[HPort]) -> Result<bool, NoMemory>
 }
 
 fn instance_names_differ(alloc: Global, instances: &[HInst]) -> Result<bool, NoMemory>
-    ensures { IfOk result (λ differ. IsTrue differ ↔ HaveOwnNames (λ instance. instance.name) instances.now) }
+    ensures { IfOk result (λ differ. IsTrue differ
+        ↔ HaveOwnNames (λ instance. instance.name) instances.now) }
 {
     let mut names = NameSet::new(alloc);
     for instance in instances {
@@ -127,7 +128,8 @@ fn instance_names_differ(alloc: Global, instances: &[HInst]) -> Result<bool, NoM
 }
 
 fn cell_fits(alloc: Global, cells: &[HCell], cell: &HCell) -> Result<bool, NoMemory>
-    ensures { IfOk result (λ fits. IsTrue fits ↔ ((length cell.now.instances ≤ count_limit) × IsGoodCell cells.now cell.now)) }
+    ensures { IfOk result (λ fits. IsTrue fits
+        ↔ ((length cell.now.instances ≤ count_limit) × IsGoodCell cells.now cell.now)) }
 {
     let instances = cell.instances.items();
     if instances.len() > COUNT_LIMIT || !instances_fit(cells.len(), instances) {
@@ -144,7 +146,9 @@ fn cell_fits(alloc: Global, cells: &[HCell], cell: &HCell) -> Result<bool, NoMem
 }
 
 fn each_cell_fits(alloc: Global, cells: &[HCell]) -> Result<bool, NoMemory>
-    ensures { IfOk result (λ fits. IsTrue fits ↔ Each (λ cell. (length cell.instances ≤ count_limit) × IsGoodCell cells.now cell) cells.now) }
+    ensures { IfOk result (λ fits. IsTrue fits
+        ↔ Each (λ cell. (length cell.instances ≤ count_limit)
+        × IsGoodCell cells.now cell) cells.now) }
 {
     for cell in cells {
         if !cell_fits(alloc, cells, cell)? {
@@ -155,7 +159,8 @@ fn each_cell_fits(alloc: Global, cells: &[HCell]) -> Result<bool, NoMemory>
 }
 
 fn all_marked(marks: &[bool]) -> bool
-    ensures { IsTrue result ↔ ((number : ℕ) → number < length marks.now → is_marked marks.now number ≡ true) }
+    ensures { IsTrue result ↔ ((number : ℕ) → number < length marks.now
+        → is_marked marks.now number ≡ true) }
 {
     for mark in marks {
         if !*mark {
@@ -168,7 +173,9 @@ fn all_marked(marks: &[bool]) -> bool
 fn all_reached(alloc: Global, cells: &[HCell], top: u32) -> Result<bool, NoMemory>
     requires within { top < length cells.now }
     requires in_range { IsInRange (cells_below cells.now) }
-    ensures { IfOk result (λ reached. IsTrue reached ↔ ((number : ℕ) → number < length cells.now → IsReached (cells_below cells.now) top number)) }
+    ensures { IfOk result (λ reached. IsTrue reached
+        ↔ ((number : ℕ) → number < length cells.now
+        → IsReached (cells_below cells.now) top number)) }
 {
     let graph = graph_of(alloc, cells)?;
     let marks = reached_from(alloc, graph.as_slice(), top)?;

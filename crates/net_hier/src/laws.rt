@@ -9,7 +9,9 @@ ghost use Rattle.net_hier.specs.Valid.{HaveOwnInstances, IsValid};
 
 /// Two designs that are the same cell by cell are the same design.
 pub fn same_cells_give_same_design()
-    ensures { (names : ConstantNames) (design other : Design) (n : Option ℕ) → AreConstantNames names → IsValid design → IsValid other → SameCells names design other n → SameDesign names design other }
+    ensures { (names : ConstantNames) (design other : Design) (n : Option ℕ)
+        → AreConstantNames names → IsValid design → IsValid other → SameCells names design other n
+        → SameDesign names design other }
 {}
 
 /// A cell whose port is joined to the constant zero is the same as one whose port a net joins to an added instance of `GND`, and
@@ -24,6 +26,9 @@ pub fn example_designs()
 /// The same, where less is known of the other design: that the instances of each of its cells have names of their own, and, where no instance is
 /// added, nothing at all. So a design that is made of a translated file is the same without an order of its cells.
 pub fn partners_give_same_design()
-    ensures added { (names : ConstantNames) (design other : Design) (n : Option ℕ) → AreConstantNames names → IsValid design → HaveOwnInstances other.cells → SameCells names design other n → SameDesign names design other }
-    ensures none_added { (names : ConstantNames) (design other : Design) → AreConstantNames names → IsValid design → SameCells names design other None → SameDesign names design other }
+    ensures added { (names : ConstantNames) (design other : Design) (n : Option ℕ)
+        → AreConstantNames names → IsValid design → HaveOwnInstances other.cells
+        → SameCells names design other n → SameDesign names design other }
+    ensures none_added { (names : ConstantNames) (design other : Design) → AreConstantNames names
+        → IsValid design → SameCells names design other None → SameDesign names design other }
 {}

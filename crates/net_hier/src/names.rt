@@ -32,7 +32,8 @@ impl<'a> NameSet<'a> {
 
     /// Adds the name, and answers whether it was not there before.
     pub fn add(&mut self, name: &'a [u8]) -> Result<bool, NoMemory>
-        ensures new { IfOk result (λ fresh. IsTrue fresh ↔ ((place : ℕ) → ¬ (slice_get self.old place ≡ Some name.now))) }
+        ensures new { IfOk result
+            (λ fresh. IsTrue fresh ↔ ((place : ℕ) → ¬ (slice_get self.old place ≡ Some name.now))) }
         ensures added { IfOk result (λ fresh. IsTrue fresh → self.new ≡ self.old ++ name.now ∷ []) }
     {
         if let Ok(fresh) = self.set.insert(name) {

@@ -37,7 +37,8 @@ fn index_of(bytes: &[u8]) -> Option<i32>
 
 /// Where the byte stands first.
 fn first_place(bytes: &[u8], byte: u8) -> Option<usize>
-    ensures { MatchOption result (IsFreeOf byte bytes.now) (λ at. (at < length bytes.now) × (slice_get bytes.now at ≡ Some byte) × IsFreeOf byte (take at bytes.now)) }
+    ensures { MatchOption result (IsFreeOf byte bytes.now) (λ at. (at < length bytes.now)
+        × (slice_get bytes.now at ≡ Some byte) × IsFreeOf byte (take at bytes.now)) }
 {
     for at in 0..bytes.len() {
         if bytes[at] == byte {
@@ -49,7 +50,8 @@ fn first_place(bytes: &[u8], byte: u8) -> Option<usize>
 
 /// Where the byte stands last.
 fn last_place(bytes: &[u8], byte: u8) -> Option<usize>
-    ensures { MatchOption result (IsFreeOf byte bytes.now) (λ at. (at < length bytes.now) × (slice_get bytes.now at ≡ Some byte) × IsFreeOf byte (drop (at + 1) bytes.now)) }
+    ensures { MatchOption result (IsFreeOf byte bytes.now) (λ at. (at < length bytes.now)
+        × (slice_get bytes.now at ≡ Some byte) × IsFreeOf byte (drop (at + 1) bytes.now)) }
 {
     let mut end = bytes.len();
     while end > 0 {
@@ -63,7 +65,8 @@ fn last_place(bytes: &[u8], byte: u8) -> Option<usize>
 
 /// The bytes before the first such byte, and those after it.
 fn split_at_first(bytes: &[u8], byte: u8) -> Option<(&[u8], &[u8])>
-    ensures { MatchOption result (cut_at_first byte bytes.now ≡ None) (λ sides. cut_at_first byte bytes.now ≡ Some (sides.0.now, sides.1.now)) }
+    ensures { MatchOption result (cut_at_first byte bytes.now
+        ≡ None) (λ sides. cut_at_first byte bytes.now ≡ Some (sides.0.now, sides.1.now)) }
 {
     let at = first_place(bytes, byte)?;
     Some((&bytes[..at], &bytes[at + 1..]))
@@ -71,7 +74,8 @@ fn split_at_first(bytes: &[u8], byte: u8) -> Option<(&[u8], &[u8])>
 
 /// The bytes before the last such byte, and those after it.
 fn split_at_last(bytes: &[u8], byte: u8) -> Option<(&[u8], &[u8])>
-    ensures { MatchOption result (cut_at_last byte bytes.now ≡ None) (λ sides. cut_at_last byte bytes.now ≡ Some (sides.0.now, sides.1.now)) }
+    ensures { MatchOption result (cut_at_last byte bytes.now
+        ≡ None) (λ sides. cut_at_last byte bytes.now ≡ Some (sides.0.now, sides.1.now)) }
 {
     let at = last_place(bytes, byte)?;
     Some((&bytes[..at], &bytes[at + 1..]))
@@ -93,7 +97,8 @@ fn range_of(bytes: &[u8], size: u32) -> Option<Range>
 
 /// The length of the base and the range of `size` bits, where the bytes are a base, the bracket and the range.
 fn opened(bytes: &[u8], bracket: u8, size: u32) -> Option<(usize, Range)>
-    ensures { result ≡ option_map (λ form. (length form.0, form.1)) (opened_range size bytes.now bracket) }
+    ensures { result ≡ option_map (λ form. (length form.0, form.1))
+        (opened_range size bytes.now bracket) }
 {
     let (base, inside) = split_at_last(bytes, bracket)?;
     let range = range_of(inside, size)?;
@@ -112,10 +117,12 @@ fn base_and_range(text: &[u8], size: u32) -> Option<(usize, Range)>
 /// The length of the base and the range, exactly where the text is a base and then a range of `size` bits in brackets, as `bus[7:0]`,
 /// `bus<7:0>` or `bus(7:0)`.
 pub fn split_range(text: &[u8], size: u32) -> Option<(usize, Range)>
-    ensures some { IfSome result (λ found. HasRangeForm text.now size (take found.0 text.now) found.1) }
+    ensures some { IfSome result
+        (λ found. HasRangeForm text.now size (take found.0 text.now) found.1) }
     ensures within { IfSome result (λ found. found.0 ≤ length text.now) }
     ensures none { IfNone result (HasNoRangeForm text.now size) }
-    ensures value { result ≡ option_map (λ form. (length form.0, form.1)) (range_form text.now size) }
+    ensures value { result ≡ option_map (λ form. (length form.0, form.1))
+        (range_form text.now size) }
 {
     base_and_range(text, size)
 }

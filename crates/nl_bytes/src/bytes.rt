@@ -65,7 +65,8 @@ impl Bytes {
     pub fn place(&self) -> Place
         ensures place { result ≡ self.now.place }
         ensures line { self.now.place.line ≤ self.now.place.offset + 1 }
-        ensures column { (1 ≤ self.now.place.column) × (self.now.place.column ≤ self.now.place.offset + 1) }
+        ensures column { (1 ≤ self.now.place.column)
+            × (self.now.place.column ≤ self.now.place.offset + 1) }
         ensures held { length self.now.held ≤ 4096 }
         ensures limit { self.now.place.offset ≤ LIMIT + 1 }
         ensures taken { given self.now ≤ LIMIT + 4096 }
@@ -79,8 +80,10 @@ impl Bytes {
 
     /// The byte ahead, or `None` at the end. It takes from the source only where no byte is held.
     pub fn peek<S: Source>(&mut self, source: &mut S) -> Result<Option<u8>, Halt>
-        ensures none_used { Uses self.old self.new (S.supply source.old).left (S.supply source.new).left [] }
-        ensures lazy { 0 < length self.old.held → (self.new ≡ self.old) × (source.new ≡ source.old) }
+        ensures none_used { Uses self.old self.new
+            (S.supply source.old).left (S.supply source.new).left [] }
+        ensures lazy { 0 < length self.old.held → (self.new ≡ self.old)
+            × (source.new ≡ source.old) }
         ensures used_up { IsErrOf result Halt.Failed → self.new.held ≡ [] }
         ensures ahead { IfOk result (IsAhead self.new (S.supply source.new).left) }
         ensures within { OnOk result (self.new.place.offset ≤ LIMIT) }
@@ -88,7 +91,8 @@ impl Bytes {
         ensures no_memory { IfErr result (λ e. e ≢ Halt.NoMemory) }
         ensures limit { self.new.place.offset ≤ LIMIT + 1 }
         ensures count { (S.supply source.old).faults ≤ (S.supply source.new).faults }
-        ensures cause { IsErrOf result Halt.Failed → Rose (S.supply source.old).faults (S.supply source.new).faults }
+        ensures cause { IsErrOf result Halt.Failed
+            → Rose (S.supply source.old).faults (S.supply source.new).faults }
     {
         if self.offset > LIMIT {
             return Err(Halt::TooLong);
@@ -145,7 +149,8 @@ impl Bytes {
         ensures most { result ≤ most }
         ensures within { self.now.place.offset + result ≤ LIMIT + 1 }
         ensures each { AreIn class (take result self.now.held) }
-        ensures stops { result ≡ 0 → 0 < most → in_class class (slice_index self.now.held 0) ≡ false }
+        ensures stops { result ≡ 0 → 0 < most
+            → in_class class (slice_index self.now.held 0) ≡ false }
     {
         let held = self.held();
         let room = (LIMIT + 1 - self.place().offset) as usize;
@@ -221,10 +226,13 @@ impl Bytes {
         out: &mut Vec<u8>,
         source: &mut S,
     ) -> Result<Option<u8>, Halt>
-        ensures runs { Runs class most self.old self.new (S.supply source.old).left (S.supply source.new).left out.old.items out.new.items result }
+        ensures runs { Runs class most self.old self.new
+            (S.supply source.old).left
+            (S.supply source.new).left out.old.items out.new.items result }
         ensures limit { self.new.place.offset ≤ LIMIT + 1 }
         ensures count { (S.supply source.old).faults ≤ (S.supply source.new).faults }
-        ensures cause { IsErrOf result Halt.Failed → Rose (S.supply source.old).faults (S.supply source.new).faults }
+        ensures cause { IsErrOf result Halt.Failed
+            → Rose (S.supply source.old).faults (S.supply source.new).faults }
     {
         let mut n = 0;
         loop {
@@ -246,11 +254,13 @@ impl Bytes {
     /// Uses the bytes of a class ahead. It answers the byte ahead then.
     #[inline(always)]
     pub fn skip<S: Source>(&mut self, class: Class, source: &mut S) -> Result<Option<u8>, Halt>
-        ensures skips { Skips class self.old self.new (S.supply source.old).left (S.supply source.new).left result }
+        ensures skips { Skips class self.old self.new
+            (S.supply source.old).left (S.supply source.new).left result }
         ensures no_memory { IfErr result (λ e. e ≢ Halt.NoMemory) }
         ensures limit { self.new.place.offset ≤ LIMIT + 1 }
         ensures count { (S.supply source.old).faults ≤ (S.supply source.new).faults }
-        ensures cause { IsErrOf result Halt.Failed → Rose (S.supply source.old).faults (S.supply source.new).faults }
+        ensures cause { IsErrOf result Halt.Failed
+            → Rose (S.supply source.old).faults (S.supply source.new).faults }
     {
         loop {
             let next = self.peek(source)?;

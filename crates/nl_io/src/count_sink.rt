@@ -44,7 +44,8 @@ impl Sink for CountSink {
         requires { 0 < length bytes.now }
         ensures some { IfOk result (λ n. 0 < n) }
         ensures bound { WritesAtMost result bytes.now }
-        ensures gains { IfOk result (λ n. Gains (IsCountOf self.old) (IsCountOf self.new) (take n bytes.now)) }
+        ensures gains { IfOk result
+            (λ n. Gains (IsCountOf self.old) (IsCountOf self.new) (take n bytes.now)) }
         ensures keeps { OnErr result (Keeps (IsCountOf self.old) (IsCountOf self.new)) }
         ensures cause { HasCause 0 0 result }
         ensures accepted { (n : ℕ) → ⊤ → IsOkAnd result (λ k. ⊤) }

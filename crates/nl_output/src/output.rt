@@ -42,7 +42,9 @@ fn write_at(buffer: &mut [u8], index: usize, bytes: &[u8])
 
 /// Puts bytes to the sink, unless it has failed, and answers whether it has failed then.
 fn fails_to_put<O: Sink>(failed: bool, bytes: &[u8], sink: &mut O) -> bool
-    ensures { Puts (λ rest. bytes.now ++ rest) (state O.receipt sink.old (record { bytes = []; failed = failed })) (state O.receipt sink.new (record { bytes = []; failed = result })) }
+    ensures { Puts (λ rest. bytes.now ++ rest)
+        (state O.receipt sink.old (record { bytes = []; failed = failed }))
+        (state O.receipt sink.new (record { bytes = []; failed = result })) }
 {
     if failed {
         return true;
@@ -78,7 +80,11 @@ impl Output {
     #[inline]
     fn hold(&mut self, bytes: &[u8])
         requires { length self.old.bytes + length bytes.now ≤ 4096 }
-        ensures { self.new ≡ record { bytes = self.old.bytes ++ bytes.now; failed = self.old.failed } }
+        ensures { self.new ≡ record {
+          bytes = self.old.bytes
+              ++ bytes.now;
+          failed = self.old.failed;
+        } }
     {
         write_at(&mut self.buffer, self.count, bytes);
         self.count += bytes.len();
@@ -88,7 +94,8 @@ impl Output {
     fn pass_on<O: Sink>(&mut self, bytes: &[u8], sink: &mut O)
         requires { self.old.bytes ≡ [] }
         ensures none { self.new.bytes ≡ [] }
-        ensures puts { Puts (λ rest. bytes.now ++ rest) (state O.receipt sink.old self.old) (state O.receipt sink.new self.new) }
+        ensures puts { Puts (λ rest. bytes.now ++ rest)
+            (state O.receipt sink.old self.old) (state O.receipt sink.new self.new) }
     {
         self.count = 0;
         self.failed = fails_to_put(self.failed, bytes, sink);
@@ -97,7 +104,8 @@ impl Output {
     /// Puts what is held to the sink, unless it has failed. Nothing is held then.
     fn drain<O: Sink>(&mut self, sink: &mut O)
         ensures none { self.new.bytes ≡ [] }
-        ensures puts { Drains (state O.receipt sink.old self.old) (state O.receipt sink.new self.new) }
+        ensures puts { Drains (state O.receipt sink.old self.old)
+            (state O.receipt sink.new self.new) }
     {
         let (held, _) = self.buffer.split_at(self.count);
         self.failed = fails_to_put(self.failed, held, sink);
@@ -107,7 +115,8 @@ impl Output {
     /// Puts bytes, where none are held.
     fn put_behind<O: Sink>(&mut self, bytes: &[u8], sink: &mut O)
         requires { self.old.bytes ≡ [] }
-        ensures { Puts (λ rest. bytes.now ++ rest) (state O.receipt sink.old self.old) (state O.receipt sink.new self.new) }
+        ensures { Puts (λ rest. bytes.now ++ rest)
+            (state O.receipt sink.old self.old) (state O.receipt sink.new self.new) }
     {
         if bytes.len() <= ROOM {
             self.hold(bytes);
@@ -119,7 +128,8 @@ impl Output {
     /// Puts bytes behind what is held, which goes to the sink first.
     #[inline(never)]
     fn put_full<O: Sink>(&mut self, bytes: &[u8], sink: &mut O)
-        ensures { Puts (λ rest. bytes.now ++ rest) (state O.receipt sink.old self.old) (state O.receipt sink.new self.new) }
+        ensures { Puts (λ rest. bytes.now ++ rest)
+            (state O.receipt sink.old self.old) (state O.receipt sink.new self.new) }
     {
         self.drain(sink);
         self.put_behind(bytes, sink);
@@ -128,7 +138,8 @@ impl Output {
     /// Puts the bytes, which come next in the text that is being written.
     #[inline(always)]
     pub fn put<O: Sink>(&mut self, bytes: &[u8], sink: &mut O)
-        ensures { Puts (λ rest. bytes.now ++ rest) (state O.receipt sink.old self.old) (state O.receipt sink.new self.new) }
+        ensures { Puts (λ rest. bytes.now ++ rest)
+            (state O.receipt sink.old self.old) (state O.receipt sink.new self.new) }
     {
         if bytes.len() <= ROOM - self.held() {
             self.hold(bytes);
@@ -139,7 +150,8 @@ impl Output {
 
     /// Puts the decimal text of a number, with a `-` where it is negative.
     pub fn put_int<O: Sink>(&mut self, number: &Int, sink: &mut O)
-        ensures { Puts (λ rest. signed_decimal number.now ++ rest) (state O.receipt sink.old self.old) (state O.receipt sink.new self.new) }
+        ensures { Puts (λ rest. signed_decimal number.now ++ rest)
+            (state O.receipt sink.old self.old) (state O.receipt sink.new self.new) }
     {
         let mut digits = [0; 20];
         let count = number.spell(&mut digits);
@@ -150,7 +162,8 @@ impl Output {
     /// Puts the decimal text of a number.
     #[tactic(auto, using(crate::proofs::Digits::digit_text))]
     pub fn put_u64<O: Sink>(&mut self, number: u64, sink: &mut O)
-        ensures { Puts (λ rest. decimal number ++ rest) (state O.receipt sink.old self.old) (state O.receipt sink.new self.new) }
+        ensures { Puts (λ rest. decimal number ++ rest)
+            (state O.receipt sink.old self.old) (state O.receipt sink.new self.new) }
     {
         if number < 10 {
             self.put(&[b'0' + number as u8], sink);
@@ -164,7 +177,8 @@ impl Output {
 
     /// Ends the text: what is held is put, and it is answered whether the sink took the whole text.
     pub fn finish<O: Sink>(mut self, sink: &mut O) -> Result<(), Failed>
-        ensures { Finishes (state O.receipt sink.old self) (state O.receipt sink.new nothing) result }
+        ensures { Finishes (state O.receipt sink.old self)
+            (state O.receipt sink.new nothing) result }
     {
         self.drain(sink);
         if self.failed {

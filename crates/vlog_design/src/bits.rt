@@ -90,7 +90,9 @@ fn push_constants(bit: Bit, count: u32, out: &mut Runs) -> Result<(), NoMemory>
 
 /// Adds the bits of a literal.
 fn push_literal(bits: &FilledBits, out: &mut Runs) -> Result<(), NoMemory>
-    ensures added { OnOk result (out.new ≡ out.old ++ map constant_bit (replicate bits.now.filled bits.now.fill ++ bits.now.own.items)) }
+    ensures added { OnOk result (out.new
+        ≡ out.old ++ map constant_bit (replicate bits.now.filled bits.now.fill
+        ++ bits.now.own.items)) }
 {
     push_constants(bits.fill, bits.filled, out)?;
     for bit in &bits.own {
@@ -133,7 +135,8 @@ fn push_replication(
 ) -> Result<(), NoMemory>
     requires digits { All HasDigits (flat_map literals parts.now) }
     requires numbers { All (λ signal. HasNumbers signal.slot) table.now }
-    ensures added { OnOk result (out.new ≡ out.old ++ repeated count (flat_map (bits table.now) parts.now)) }
+    ensures added { OnOk result (out.new
+        ≡ out.old ++ repeated count (flat_map (bits table.now) parts.now)) }
 {
     if count == 0 {
         return Ok(());

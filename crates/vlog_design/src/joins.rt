@@ -95,7 +95,8 @@ impl<'a> Rest<'a> {
 /// Adds the joins of a run with the bits of the other side that stand there, and answers what is left of that side.
 fn push_run_joins<'a>(left: Rest<'a>, run: Run, out: &mut Vec<Join>) -> Result<Rest<'a>, NoMemory>
     requires { IsRun run }
-    ensures added { OnOk result (out.new.items ≡ out.old.items ++ joins_between left.entry (run_bits run)) }
+    ensures added { OnOk result (out.new.items
+        ≡ out.old.items ++ joins_between left.entry (run_bits run)) }
     ensures left { IfOk result (λ rest. rest ≡ drop (run.gap + run.count) left.entry) }
 {
     let mut rest = left.skip(run.gap);
@@ -113,8 +114,10 @@ fn push_runs_joins<'a>(
     out: &mut Vec<Join>,
 ) -> Result<Rest<'a>, NoMemory>
     requires { All IsRun right.now }
-    ensures added { OnOk result (out.new.items ≡ out.old.items ++ joins_between left.entry (flat_map run_bits right.now)) }
-    ensures left { IfOk result (λ rest. rest ≡ drop (length (flat_map run_bits right.now)) left.entry) }
+    ensures added { OnOk result (out.new.items
+        ≡ out.old.items ++ joins_between left.entry (flat_map run_bits right.now)) }
+    ensures left { IfOk result
+        (λ rest. rest ≡ drop (length (flat_map run_bits right.now)) left.entry) }
 {
     let mut rest = left;
     for run in right {
@@ -129,7 +132,8 @@ pub(crate) fn push_side_joins<'a>(
     right: &Runs,
     out: &mut Vec<Join>,
 ) -> Result<Rest<'a>, NoMemory>
-    ensures added { OnOk result (out.new.items ≡ out.old.items ++ joins_between left.entry right.now) }
+    ensures added { OnOk result (out.new.items
+        ≡ out.old.items ++ joins_between left.entry right.now) }
     ensures left { IfOk result (λ rest. rest ≡ drop (length right.now) left.entry) }
 {
     let rest = push_runs_joins(left, &right.runs, out)?;
@@ -138,7 +142,8 @@ pub(crate) fn push_side_joins<'a>(
 
 /// Adds the joins of two sides. The time is in proportion to the runs of the left and the nodes of the right.
 pub fn push_joins(left: &Runs, right: &Runs, out: &mut Vec<Join>) -> Result<(), NoMemory>
-    ensures added { OnOk result (out.new.items ≡ out.old.items ++ joins_between left.now right.now) }
+    ensures added { OnOk result (out.new.items
+        ≡ out.old.items ++ joins_between left.now right.now) }
 {
     let side = behind(0, &left.runs);
     let _rest = push_side_joins(side, right, out)?;

@@ -56,7 +56,8 @@ impl<'a> NameSet<'a> {
     /// Adds the name at the end where it is new, and answers whether it was.
     pub fn add(&mut self, name: &'a [u8]) -> Result<bool, NoMemory>
         ensures new { IfOk result (λ new. new ≡ not (has_name self.old name.now)) }
-        ensures added { IfOk result (λ new. self.new ≡ self.old ++ (if new then name.now ∷ [] else [])) }
+        ensures added { IfOk result
+            (λ new. self.new ≡ self.old ++ (if new then name.now ∷ [] else [])) }
         ensures kept { OnErr result (self.new ≡ self.old) }
     {
         if let Ok(new) = self.set.insert(name) {

@@ -25,8 +25,10 @@ fn push_selected_joins(
     out: &mut Vec<Join>,
 ) -> Result<Row, NoMemory>
     requires { HasNumbers slot }
-    ensures added { OnOk result (out.new.items ≡ out.old.items ++ joins_between left (signal_bits (Some slot) select)) }
-    ensures left { IfOk result (λ rest. rest ≡ drop (length (signal_bits (Some slot) select)) left) }
+    ensures added { OnOk result (out.new.items
+        ≡ out.old.items ++ joins_between left (signal_bits (Some slot) select)) }
+    ensures left { IfOk result
+        (λ rest. rest ≡ drop (length (signal_bits (Some slot) select)) left) }
 {
     match select_span(slot.range, select) {
         None => Ok(left),
@@ -44,7 +46,8 @@ fn push_made_joins(
 ) -> Result<Row, NoMemory>
     requires digits { All HasDigits (literals expr.now) }
     requires numbers { All (λ signal. HasNumbers signal.slot) table.now }
-    ensures added { OnOk result (out.new.items ≡ out.old.items ++ joins_between left (bits table.now expr.now)) }
+    ensures added { OnOk result (out.new.items
+        ≡ out.old.items ++ joins_between left (bits table.now expr.now)) }
     ensures left { IfOk result (λ rest. rest ≡ drop (length (bits table.now expr.now)) left) }
 {
     let mut made = Runs::empty(alloc);
@@ -68,7 +71,8 @@ fn push_part_joins(
 ) -> Result<Row, NoMemory>
     requires digits { All HasDigits (literals expr.now) }
     requires numbers { All (λ signal. HasNumbers signal.slot) table.now }
-    ensures added { OnOk result (out.new.items ≡ out.old.items ++ joins_between left (bits table.now expr.now)) }
+    ensures added { OnOk result (out.new.items
+        ≡ out.old.items ++ joins_between left (bits table.now expr.now)) }
     ensures left { IfOk result (λ rest. rest ≡ drop (length (bits table.now expr.now)) left) }
 {
     if let Expr::Ref { name, select } = expr {
@@ -90,8 +94,10 @@ fn push_parts_joins(
 ) -> Result<Row, NoMemory>
     requires digits { All HasDigits (flat_map literals parts.now) }
     requires numbers { All (λ signal. HasNumbers signal.slot) table.now }
-    ensures added { OnOk result (out.new.items ≡ out.old.items ++ joins_between left (flat_map (bits table.now) parts.now)) }
-    ensures left { IfOk result (λ rest. rest ≡ drop (length (flat_map (bits table.now) parts.now)) left) }
+    ensures added { OnOk result (out.new.items
+        ≡ out.old.items ++ joins_between left (flat_map (bits table.now) parts.now)) }
+    ensures left { IfOk result
+        (λ rest. rest ≡ drop (length (flat_map (bits table.now) parts.now)) left) }
 {
     let mut rest = left;
     for part in parts {
@@ -110,7 +116,8 @@ fn push_expr_joins(
 ) -> Result<Row, NoMemory>
     requires digits { All HasDigits (literals expr.now) }
     requires numbers { All (λ signal. HasNumbers signal.slot) table.now }
-    ensures added { OnOk result (out.new.items ≡ out.old.items ++ joins_between left (bits table.now expr.now)) }
+    ensures added { OnOk result (out.new.items
+        ≡ out.old.items ++ joins_between left (bits table.now expr.now)) }
     ensures left { IfOk result (λ rest. rest ≡ drop (length (bits table.now expr.now)) left) }
 {
     if let Expr::Cat(parts) = expr {
@@ -131,7 +138,8 @@ pub fn push_node_joins(
     requires fits { node_number first + count ≤ 2 ^ 32 }
     requires digits { All HasDigits (literals expr.now) }
     requires numbers { All (λ signal. HasNumbers signal.slot) table.now }
-    ensures added { OnOk result (out.new.items ≡ out.old.items ++ joins_between (nodes_from first count) (bits table.now expr.now)) }
+    ensures added { OnOk result (out.new.items
+        ≡ out.old.items ++ joins_between (nodes_from first count) (bits table.now expr.now)) }
 {
     let row = Row { first, count };
     let _rest = push_expr_joins(alloc, table, row, expr, out)?;

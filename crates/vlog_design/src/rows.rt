@@ -37,7 +37,9 @@ fn push_later_pairs(
     requires left { node_number left + count ≤ 2 ^ 32 }
     requires right { node_number right + count ≤ 2 ^ 32 }
     requires some { 1 ≤ count }
-    ensures added { OnOk result (out.new.items ≡ out.old.items ++ joins_between (nodes_from (node_after left 1) (count - 1)) (nodes_from (node_after right 1) (count - 1))) }
+    ensures added { OnOk result (out.new.items
+        ≡ out.old.items ++ joins_between (nodes_from (node_after left 1) (count - 1))
+        (nodes_from (node_after right 1) (count - 1))) }
 {
     for i in 1..count {
         out.push(Join {
@@ -52,7 +54,8 @@ fn push_later_pairs(
 fn push_pairs(left: Node, right: Node, count: u32, out: &mut Vec<Join>) -> Result<(), NoMemory>
     requires left { node_number left + count ≤ 2 ^ 32 }
     requires right { node_number right + count ≤ 2 ^ 32 }
-    ensures added { OnOk result (out.new.items ≡ out.old.items ++ joins_between (nodes_from left count) (nodes_from right count)) }
+    ensures added { OnOk result (out.new.items
+        ≡ out.old.items ++ joins_between (nodes_from left count) (nodes_from right count)) }
 {
     if count == 0 {
         return Ok(());
@@ -88,7 +91,8 @@ pub(crate) fn push_row_joins(
     out: &mut Vec<Join>,
 ) -> Result<Row, NoMemory>
     requires { node_number first + count ≤ 2 ^ 32 }
-    ensures added { OnOk result (out.new.items ≡ out.old.items ++ joins_between row (nodes_from first count)) }
+    ensures added { OnOk result (out.new.items
+        ≡ out.old.items ++ joins_between row (nodes_from first count)) }
     ensures left { IfOk result (λ rest. rest ≡ drop count row) }
 {
     push_pairs(row.first, first, row.count.min(count), out)?;

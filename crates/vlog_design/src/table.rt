@@ -73,7 +73,9 @@ impl<'a> Table<'a> {
     /// Adds a name at the end, and answers whether it was new.
     pub fn add(&mut self, name: &'a [u8], slot: Slot) -> Result<bool, NoMemory>
         ensures answer { IfOk result (λ new. new ≡ is_none (signal_named self.old name.now)) }
-        ensures added { IfOk result (λ new. self.new ≡ self.old ++ (if new then record { name = name.now; slot = slot } ∷ [] else [])) }
+        ensures added { IfOk result
+            (λ new. self.new ≡ self.old
+            ++ (if new then record { name = name.now; slot = slot } ∷ [] else [])) }
         ensures kept { OnErr result (self.new ≡ self.old) }
     {
         if self.slots.contains_key(name) {

@@ -37,7 +37,8 @@ pub fn push_uses<'a>(expr: &'a Expr, out: &mut Vec<UseOf<'a>>) -> Result<(), NoM
 
 #[cycle(uses)]
 fn push_all_uses<'a>(parts: &'a [Expr], out: &mut Vec<UseOf<'a>>) -> Result<(), NoMemory>
-    ensures added { OnOk result (uses_of out.new.items ≡ uses_of out.old.items ++ flat_map uses parts.now) }
+    ensures added { OnOk result (uses_of out.new.items
+        ≡ uses_of out.old.items ++ flat_map uses parts.now) }
 {
     for part in parts {
         push_uses(part, out)?;
@@ -46,7 +47,8 @@ fn push_all_uses<'a>(parts: &'a [Expr], out: &mut Vec<UseOf<'a>>) -> Result<(), 
 }
 
 fn push_value_uses<'a>(value: &'a Option<Expr>, out: &mut Vec<UseOf<'a>>) -> Result<(), NoMemory>
-    ensures added { OnOk result (uses_of out.new.items ≡ uses_of out.old.items ++ flat_map uses (option_to_list value.now)) }
+    ensures added { OnOk result (uses_of out.new.items
+        ≡ uses_of out.old.items ++ flat_map uses (option_to_list value.now)) }
 {
     match value {
         None => Ok(()),
@@ -55,7 +57,9 @@ fn push_value_uses<'a>(value: &'a Option<Expr>, out: &mut Vec<UseOf<'a>>) -> Res
 }
 
 fn push_named_uses<'a>(conns: &'a [NamedConn], out: &mut Vec<UseOf<'a>>) -> Result<(), NoMemory>
-    ensures added { OnOk result (uses_of out.new.items ≡ uses_of out.old.items ++ flat_map uses (flat_map (λ conn. option_to_list conn.value) conns.now)) }
+    ensures added { OnOk result (uses_of out.new.items
+        ≡ uses_of out.old.items
+        ++ flat_map uses (flat_map (λ conn. option_to_list conn.value) conns.now)) }
 {
     for conn in conns {
         push_value_uses(&conn.value, out)?;
@@ -67,7 +71,8 @@ fn push_ordered_uses<'a>(
     values: &'a [Option<Expr>],
     out: &mut Vec<UseOf<'a>>,
 ) -> Result<(), NoMemory>
-    ensures added { OnOk result (uses_of out.new.items ≡ uses_of out.old.items ++ flat_map uses (flat_map option_to_list values.now)) }
+    ensures added { OnOk result (uses_of out.new.items
+        ≡ uses_of out.old.items ++ flat_map uses (flat_map option_to_list values.now)) }
 {
     for value in values {
         push_value_uses(value, out)?;
@@ -76,7 +81,8 @@ fn push_ordered_uses<'a>(
 }
 
 fn push_instance_uses<'a>(instance: &'a VInst, out: &mut Vec<UseOf<'a>>) -> Result<(), NoMemory>
-    ensures added { OnOk result (uses_of out.new.items ≡ uses_of out.old.items ++ flat_map uses (conn_exprs instance.now.conns)) }
+    ensures added { OnOk result (uses_of out.new.items
+        ≡ uses_of out.old.items ++ flat_map uses (conn_exprs instance.now.conns)) }
 {
     match &instance.conns {
         Conns::Named(conns) => push_named_uses(conns.items(), out),
@@ -89,7 +95,9 @@ pub fn push_instances_uses<'a>(
     instances: &'a [VInst],
     out: &mut Vec<UseOf<'a>>,
 ) -> Result<(), NoMemory>
-    ensures added { OnOk result (uses_of out.new.items ≡ uses_of out.old.items ++ flat_map uses (flat_map (λ instance. conn_exprs instance.conns) instances.now)) }
+    ensures added { OnOk result (uses_of out.new.items
+        ≡ uses_of out.old.items
+        ++ flat_map uses (flat_map (λ instance. conn_exprs instance.conns) instances.now)) }
 {
     for instance in instances {
         push_instance_uses(instance, out)?;
@@ -98,7 +106,9 @@ pub fn push_instances_uses<'a>(
 }
 
 fn push_assign_uses<'a>(sets: &'a [Assignment], out: &mut Vec<UseOf<'a>>) -> Result<(), NoMemory>
-    ensures added { OnOk result (uses_of out.new.items ≡ uses_of out.old.items ++ flat_map uses (flat_map (λ set. set.left ∷ set.right ∷ []) sets.now)) }
+    ensures added { OnOk result (uses_of out.new.items
+        ≡ uses_of out.old.items
+        ++ flat_map uses (flat_map (λ set. set.left ∷ set.right ∷ []) sets.now)) }
 {
     for set in sets {
         push_uses(&set.left, out)?;
@@ -108,7 +118,8 @@ fn push_assign_uses<'a>(sets: &'a [Assignment], out: &mut Vec<UseOf<'a>>) -> Res
 }
 
 fn push_item_uses<'a>(item: &'a ItemV, out: &mut Vec<UseOf<'a>>) -> Result<(), NoMemory>
-    ensures added { OnOk result (uses_of out.new.items ≡ uses_of out.old.items ++ flat_map uses (item_exprs item.now)) }
+    ensures added { OnOk result (uses_of out.new.items
+        ≡ uses_of out.old.items ++ flat_map uses (item_exprs item.now)) }
 {
     match item {
         ItemV::Assign(statement) => push_assign_uses(statement.sets.items(), out),
@@ -121,7 +132,8 @@ fn push_item_uses<'a>(item: &'a ItemV, out: &mut Vec<UseOf<'a>>) -> Result<(), N
 }
 
 fn push_items_uses<'a>(items: &'a [ItemV], out: &mut Vec<UseOf<'a>>) -> Result<(), NoMemory>
-    ensures added { OnOk result (uses_of out.new.items ≡ uses_of out.old.items ++ flat_map uses (flat_map item_exprs items.now)) }
+    ensures added { OnOk result (uses_of out.new.items
+        ≡ uses_of out.old.items ++ flat_map uses (flat_map item_exprs items.now)) }
 {
     for item in items {
         push_item_uses(item, out)?;

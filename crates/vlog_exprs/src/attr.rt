@@ -22,7 +22,8 @@ fn takes_group<S: Source>(
     cursor: &mut VCursor,
     source: &mut S,
 ) -> Result<bool, ReadError>
-    ensures { TakesNext vlog stands (λ _ x. say.at_group x.token) result cursor.old cursor.new (S.supply source.old) (S.supply source.new) }
+    ensures { TakesNext vlog stands (λ _ x. say.at_group x.token) result cursor.old cursor.new
+        (S.supply source.old) (S.supply source.new) }
 {
     let held = cursor.held_word();
     let count = held.len();
@@ -52,7 +53,8 @@ fn takes_group_token<S: Source>(
     cursor: &mut VCursor,
     source: &mut S,
 ) -> Result<bool, ReadError>
-    ensures { TakesNext vlog stands (λ _ x. say.at_group x.token) result cursor.old cursor.new (S.supply source.old) (S.supply source.new) }
+    ensures { TakesNext vlog stands (λ _ x. say.at_group x.token) result cursor.old cursor.new
+        (S.supply source.old) (S.supply source.new) }
 {
     let next = cursor.next_out(alloc, source)?;
     let Some(VFound { place, stop, token }) = next else {
@@ -68,7 +70,8 @@ fn take_group_end<S: Source>(
     cursor: &mut VCursor,
     source: &mut S,
 ) -> Result<(), ReadError>
-    ensures { Reads vlog same group_end result cursor.old cursor.new (S.supply source.old) (S.supply source.new) }
+    ensures { Reads vlog same group_end result cursor.old cursor.new
+        (S.supply source.old) (S.supply source.new) }
 {
     if let Some(plain) = cursor.held_plain() {
         if let Plain::AttrStop = plain {
@@ -86,7 +89,8 @@ fn take_group_end_token<S: Source>(
     cursor: &mut VCursor,
     source: &mut S,
 ) -> Result<(), ReadError>
-    ensures { Reads vlog same group_end result cursor.old cursor.new (S.supply source.old) (S.supply source.new) }
+    ensures { Reads vlog same group_end result cursor.old cursor.new
+        (S.supply source.old) (S.supply source.new) }
 {
     let VFound { place, stop, token } = cursor.take(alloc, source)?;
     let said = group_end_of(alloc, token);
@@ -100,7 +104,8 @@ fn read_attr_value<S: Source>(
     cursor: &mut VCursor,
     source: &mut S,
 ) -> Result<Const, ReadError>
-    ensures reads { ReadsMaybe vlog same attr_value result cursor.old cursor.new (S.supply source.old) (S.supply source.new) }
+    ensures reads { ReadsMaybe vlog same attr_value result cursor.old cursor.new
+        (S.supply source.old) (S.supply source.new) }
     ensures value { IfOk result IsConst }
 {
     if cursor.takes(alloc, b'=', source)? {
@@ -116,7 +121,8 @@ fn read_attr<S: Source>(
     cursor: &mut VCursor,
     source: &mut S,
 ) -> Result<Attr, ReadError>
-    ensures reads { Reads vlog same attr result cursor.old cursor.new (S.supply source.old) (S.supply source.new) }
+    ensures reads { Reads vlog same attr result cursor.old cursor.new
+        (S.supply source.old) (S.supply source.new) }
     ensures value { IfOk result IsAttr }
 {
     let name = cursor.name(alloc, source)?;
@@ -133,9 +139,11 @@ fn read_group<S: Source>(
     source: &mut S,
 ) -> Result<Seq<Attr>, ReadError>
     requires { AreAttrs attrs }
-    ensures reads { Reads vlog same (group attrs) result cursor.old cursor.new (S.supply source.old) (S.supply source.new) }
+    ensures reads { Reads vlog same (group attrs) result cursor.old cursor.new
+        (S.supply source.old) (S.supply source.new) }
     ensures value { IfOk result AreAttrs }
-    ensures size { IfOk result (λ all. length all + room cursor.new < length attrs + room cursor.old) }
+    ensures size { IfOk result
+        (λ all. length all + room cursor.new < length attrs + room cursor.old) }
 {
     let attr = read_attr(alloc, cursor, source)?;
     cursor.add(&mut attrs, attr)?;
@@ -154,7 +162,8 @@ pub fn read_attrs<S: Source>(
     cursor: &mut VCursor,
     source: &mut S,
 ) -> Result<Seq<Attr>, ReadError>
-    ensures reads { ReadsMaybe vlog same attrs result cursor.old cursor.new (S.supply source.old) (S.supply source.new) }
+    ensures reads { ReadsMaybe vlog same attrs result cursor.old cursor.new
+        (S.supply source.old) (S.supply source.new) }
     ensures value { IfOk result AreAttrs }
     ensures size { IfOk result (λ attrs. length attrs + room cursor.new ≤ room cursor.old) }
 {

@@ -19,7 +19,8 @@ fn read_bound_number<S: Source>(
     cursor: &mut VCursor,
     source: &mut S,
 ) -> Result<i32, ReadError>
-    ensures reads { Reads vlog same bound_number result cursor.old cursor.new (S.supply source.old) (S.supply source.new) }
+    ensures reads { Reads vlog same bound_number result cursor.old cursor.new
+        (S.supply source.old) (S.supply source.new) }
     ensures bound { IfOk result (λ n. nat_abs n < 2 ^ 31) }
 {
     let VFound { place, stop, token } = cursor.take(alloc, source)?;
@@ -35,7 +36,8 @@ fn read_signed_bound<S: Source>(
     cursor: &mut VCursor,
     source: &mut S,
 ) -> Result<i32, ReadError>
-    ensures reads { Reads vlog same bound result cursor.old cursor.new (S.supply source.old) (S.supply source.new) }
+    ensures reads { Reads vlog same bound result cursor.old cursor.new
+        (S.supply source.old) (S.supply source.new) }
     ensures bound { IfOk result (λ n. nat_abs n < 2 ^ 31) }
 {
     if cursor.takes(alloc, b'-', source)? {
@@ -53,7 +55,8 @@ pub fn read_bound<S: Source>(
     cursor: &mut VCursor,
     source: &mut S,
 ) -> Result<i32, ReadError>
-    ensures reads { Reads vlog same bound result cursor.old cursor.new (S.supply source.old) (S.supply source.new) }
+    ensures reads { Reads vlog same bound result cursor.old cursor.new
+        (S.supply source.old) (S.supply source.new) }
     ensures bound { IfOk result (λ n. nat_abs n < 2 ^ 31) }
 {
     if let Some(plain) = cursor.held_plain() {
@@ -74,7 +77,8 @@ pub fn read_range_rest<S: Source>(
     cursor: &mut VCursor,
     source: &mut S,
 ) -> Result<Range, ReadError>
-    ensures reads { Reads vlog same range_rest result cursor.old cursor.new (S.supply source.old) (S.supply source.new) }
+    ensures reads { Reads vlog same range_rest result cursor.old cursor.new
+        (S.supply source.old) (S.supply source.new) }
     ensures value { IfOk result IsRange }
 {
     let left = read_bound(alloc, cursor, source)?;
@@ -91,7 +95,8 @@ pub fn read_range<S: Source>(
     cursor: &mut VCursor,
     source: &mut S,
 ) -> Result<Range, ReadError>
-    ensures reads { Reads vlog same range result cursor.old cursor.new (S.supply source.old) (S.supply source.new) }
+    ensures reads { Reads vlog same range result cursor.old cursor.new
+        (S.supply source.old) (S.supply source.new) }
     ensures value { IfOk result IsRange }
 {
     cursor.mark(alloc, b'[', source)?;
@@ -106,7 +111,8 @@ pub fn read_range_if_any<S: Source>(
     cursor: &mut VCursor,
     source: &mut S,
 ) -> Result<Option<Range>, ReadError>
-    ensures reads { ReadsMaybe vlog same maybe_range result cursor.old cursor.new (S.supply source.old) (S.supply source.new) }
+    ensures reads { ReadsMaybe vlog same maybe_range result cursor.old cursor.new
+        (S.supply source.old) (S.supply source.new) }
     ensures value { IfOk result (λ range. IfSome range IsRange) }
 {
     if cursor.takes(alloc, b'[', source)? {
@@ -125,7 +131,8 @@ fn read_select_rest<S: Source>(
     source: &mut S,
 ) -> Result<Select, ReadError>
     requires { IsBound left }
-    ensures reads { Reads vlog same (select_rest left) result cursor.old cursor.new (S.supply source.old) (S.supply source.new) }
+    ensures reads { Reads vlog same (select_rest left) result cursor.old cursor.new
+        (S.supply source.old) (S.supply source.new) }
     ensures value { IfOk result IsSelect }
 {
     if cursor.takes(alloc, b':', source)? {
@@ -144,7 +151,8 @@ pub fn read_select<S: Source>(
     cursor: &mut VCursor,
     source: &mut S,
 ) -> Result<Select, ReadError>
-    ensures reads { ReadsMaybe vlog same select result cursor.old cursor.new (S.supply source.old) (S.supply source.new) }
+    ensures reads { ReadsMaybe vlog same select result cursor.old cursor.new
+        (S.supply source.old) (S.supply source.new) }
     ensures value { IfOk result IsSelect }
 {
     if cursor.takes(alloc, b'[', source)? {

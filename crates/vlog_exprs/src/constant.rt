@@ -23,7 +23,9 @@ pub(crate) fn takes_digits<S: Source>(
     number: Int,
     source: &mut S,
 ) -> Result<Option<Literal>, ReadError>
-    ensures reads { TakesNext vlog same (λ _ x. say.at_digits number x.token) result cursor.old cursor.new (S.supply source.old) (S.supply source.new) }
+    ensures reads { TakesNext vlog same
+        (λ _ x. say.at_digits number x.token) result cursor.old cursor.new
+        (S.supply source.old) (S.supply source.new) }
     ensures value { IfOk result (λ literal. IfSome literal IsLiteral) }
 {
     if let Some(_mark) = cursor.held_mark() {
@@ -42,7 +44,8 @@ fn take_const_start<S: Source>(
     cursor: &mut VCursor,
     source: &mut S,
 ) -> Result<ConstStart, ReadError>
-    ensures reads { Reads vlog same const_start result cursor.old cursor.new (S.supply source.old) (S.supply source.new) }
+    ensures reads { Reads vlog same const_start result cursor.old cursor.new
+        (S.supply source.old) (S.supply source.new) }
     ensures value { IfOk result IsConstStart }
 {
     if let Some(plain) = cursor.held_plain() {
@@ -61,7 +64,8 @@ fn take_const_token<S: Source>(
     cursor: &mut VCursor,
     source: &mut S,
 ) -> Result<ConstStart, ReadError>
-    ensures reads { Reads vlog same const_start result cursor.old cursor.new (S.supply source.old) (S.supply source.new) }
+    ensures reads { Reads vlog same const_start result cursor.old cursor.new
+        (S.supply source.old) (S.supply source.new) }
     ensures value { IfOk result IsConstStart }
 {
     let VFound { place, stop, token } = cursor.take(alloc, source)?;
@@ -76,7 +80,8 @@ fn take_signed<S: Source>(
     negative: bool,
     source: &mut S,
 ) -> Result<Const, ReadError>
-    ensures reads { Reads vlog same (signed negative) result cursor.old cursor.new (S.supply source.old) (S.supply source.new) }
+    ensures reads { Reads vlog same (signed negative) result cursor.old cursor.new
+        (S.supply source.old) (S.supply source.new) }
     ensures value { IfOk result IsConst }
 {
     let VFound { place, stop, token } = cursor.take(alloc, source)?;
@@ -93,7 +98,8 @@ fn read_sized_const<S: Source>(
     source: &mut S,
 ) -> Result<Const, ReadError>
     requires { IsNumber number }
-    ensures reads { ReadsMaybe vlog same (sized_const number) result cursor.old cursor.new (S.supply source.old) (S.supply source.new) }
+    ensures reads { ReadsMaybe vlog same (sized_const number) result cursor.old cursor.new
+        (S.supply source.old) (S.supply source.new) }
     ensures value { IfOk result IsConst }
 {
     match takes_digits(alloc, cursor, number, source)? {
@@ -112,7 +118,8 @@ fn read_const_rest<S: Source>(
 ) -> Result<Const, ReadError>
     requires unspent { IsFalse cursor.old.spent }
     requires start { IsConstStart start }
-    ensures reads { ReadsMaybe vlog same (const_rest start) result cursor.old cursor.new (S.supply source.old) (S.supply source.new) }
+    ensures reads { ReadsMaybe vlog same (const_rest start) result cursor.old cursor.new
+        (S.supply source.old) (S.supply source.new) }
     ensures value { IfOk result IsConst }
 {
     match start {
@@ -135,7 +142,8 @@ pub fn read_const<S: Source>(
     cursor: &mut VCursor,
     source: &mut S,
 ) -> Result<Const, ReadError>
-    ensures reads { Reads vlog same constant result cursor.old cursor.new (S.supply source.old) (S.supply source.new) }
+    ensures reads { Reads vlog same constant result cursor.old cursor.new
+        (S.supply source.old) (S.supply source.new) }
     ensures value { IfOk result IsConst }
 {
     let start = take_const_start(alloc, cursor, source)?;

@@ -47,7 +47,12 @@ impl Model for VCursor {
 impl VCursor {
     /// A cursor at the next token of a reader of tokens, spent exactly where that is. It takes no memory.
     pub fn new(alloc: Global, tokens: VTokens) -> VCursor
-        ensures { result ≡ record { window = tokens.window; ahead = None; context = tt; spent = tokens.spent } }
+        ensures { result ≡ record {
+          window = tokens.window;
+          ahead = None;
+          context = tt;
+          spent = tokens.spent;
+        } }
     {
         let spent = tokens.is_spent();
         VCursor {
@@ -179,7 +184,13 @@ impl VCursor {
     fn take_ahead(&mut self) -> VFound
         requires { IsSome self.old.ahead }
         ensures token { self.old.ahead ≡ Some result }
-        ensures left { self.new ≡ record { window = self.old.window; ahead = None; context = self.old.context; spent = self.old.spent } }
+        ensures left { self.new
+            ≡ record {
+              window = self.old.window;
+              ahead = None;
+              context = self.old.context;
+              spent = self.old.spent;
+            } }
         ensures near { IsNear self.new.window result.stop }
         ensures proper { IsProper result.token }
     {
@@ -192,7 +203,8 @@ impl VCursor {
     /// Takes the next token. At the end of the input a token is missing.
     #[inline(always)]
     pub fn take<S: Source>(&mut self, alloc: Global, source: &mut S) -> Result<VFound, ReadError>
-        ensures reads { Reads vlog same any result self.old self.new (S.supply source.old) (S.supply source.new) }
+        ensures reads { Reads vlog same any result self.old self.new
+            (S.supply source.old) (S.supply source.new) }
         ensures near { IfOk result (λ x. IsNear self.new.window x.stop) }
         ensures proper { IfOk result (λ x. IsProper x.token) }
     {
@@ -248,7 +260,9 @@ impl VCursor {
     /// Refuses the token ahead. The cursor is spent from then on.
     pub fn refuse(&mut self, reason: Reason) -> ReadError
         requires { IsSome self.old.ahead }
-        ensures error { IfSome self.old.ahead (λ x. (result ≡ ReadError.Text (fault_at vlog (proper x) reason)) × IsNear self.old.window x.stop) }
+        ensures error { IfSome self.old.ahead
+            (λ x. (result ≡ ReadError.Text (fault_at vlog (proper x) reason))
+            × IsNear self.old.window x.stop) }
         ensures spoilt { self.new ≡ spoilt self.old }
     {
         match self.ahead.take() {
@@ -259,7 +273,8 @@ impl VCursor {
 
     /// Refuses a token of this place and stop that was just taken. The cursor is spent from then on.
     pub fn refuse_at(&mut self, place: Place, stop: u64, reason: Reason) -> ReadError
-        ensures error { result ≡ ReadError.Text (record { place = place; stop = stop; reason = reason }) }
+        ensures error { result
+            ≡ ReadError.Text (record { place = place; stop = stop; reason = reason }) }
         ensures spoilt { self.new ≡ spoilt self.old }
     {
         self.spent = true;
@@ -318,7 +333,8 @@ impl VCursor {
         alloc: Global,
         source: &mut S,
     ) -> Result<Option<VFound>, ReadError>
-        ensures reads { LooksOut result self.old self.new (S.supply source.old) (S.supply source.new) }
+        ensures reads { LooksOut result self.old self.new
+            (S.supply source.old) (S.supply source.new) }
         ensures proper { IfOk result (λ next. IfSome next (λ x. IsProper x.token)) }
     {
         self.look(alloc, source)?;
@@ -332,7 +348,8 @@ impl VCursor {
         alloc: Global,
         source: &mut S,
     ) -> Result<(), ReadError>
-        ensures { Ends vlog trailing result self.old self.new (S.supply source.old) (S.supply source.new) }
+        ensures { Ends vlog trailing result self.old self.new
+            (S.supply source.old) (S.supply source.new) }
     {
         let next = self.next_out(alloc, source)?;
         let Some(VFound { place, stop, token }) = next else {

@@ -31,7 +31,8 @@ fn take_expr_start<S: Source>(
     levels: u8,
     source: &mut S,
 ) -> Result<ExprStart, ReadError>
-    ensures reads { Reads vlog same (expr_start left levels) result cursor.old cursor.new (S.supply source.old) (S.supply source.new) }
+    ensures reads { Reads vlog same (expr_start left levels) result cursor.old cursor.new
+        (S.supply source.old) (S.supply source.new) }
     ensures room { IfOk result (λ start. start ≡ ExprStart.Brace → 0 < levels) }
     ensures value { IfOk result (IsStart left levels) }
 {
@@ -51,7 +52,8 @@ fn take_expr_token<S: Source>(
     levels: u8,
     source: &mut S,
 ) -> Result<ExprStart, ReadError>
-    ensures reads { Reads vlog same (expr_start left levels) result cursor.old cursor.new (S.supply source.old) (S.supply source.new) }
+    ensures reads { Reads vlog same (expr_start left levels) result cursor.old cursor.new
+        (S.supply source.old) (S.supply source.new) }
     ensures room { IfOk result (λ start. start ≡ ExprStart.Brace → 0 < levels) }
     ensures value { IfOk result (IsStart left levels) }
 {
@@ -66,7 +68,8 @@ fn takes_expr_start<S: Source>(
     cursor: &mut VCursor,
     source: &mut S,
 ) -> Result<Option<ExprStart>, ReadError>
-    ensures reads { TakesNext vlog same (λ _ x. say.at_expr x.token) result cursor.old cursor.new (S.supply source.old) (S.supply source.new) }
+    ensures reads { TakesNext vlog same (λ _ x. say.at_expr x.token) result cursor.old cursor.new
+        (S.supply source.old) (S.supply source.new) }
     ensures value { IfOk result (λ start. IfSome start (IsStart false 64)) }
 {
     let held = cursor.held_name(alloc)?;
@@ -82,7 +85,8 @@ fn takes_expr_token<S: Source>(
     cursor: &mut VCursor,
     source: &mut S,
 ) -> Result<Option<ExprStart>, ReadError>
-    ensures reads { TakesNext vlog same (λ _ x. say.at_expr x.token) result cursor.old cursor.new (S.supply source.old) (S.supply source.new) }
+    ensures reads { TakesNext vlog same (λ _ x. say.at_expr x.token) result cursor.old cursor.new
+        (S.supply source.old) (S.supply source.new) }
     ensures value { IfOk result (λ start. IfSome start (IsStart false 64)) }
 {
     if let Some(mark) = cursor.held_mark() {
@@ -108,7 +112,8 @@ fn read_sized<S: Source>(
     source: &mut S,
 ) -> Result<Expr, ReadError>
     requires { IsCount number }
-    ensures reads { ReadsMaybe vlog same (sized number) result cursor.old cursor.new (S.supply source.old) (S.supply source.new) }
+    ensures reads { ReadsMaybe vlog same (sized number) result cursor.old cursor.new
+        (S.supply source.old) (S.supply source.new) }
     ensures value { IfOk result (λ e. (levels : ℕ) → IsExprWithin levels e) }
     ensures size { IfOk result (λ e. expr_size e ≡ 0) }
 {
@@ -132,7 +137,9 @@ fn read_rest<S: Source>(
     requires unspent { IsFalse cursor.old.spent }
     requires room { start ≡ ExprStart.Brace → 0 < levels }
     requires start { IsStart left levels start }
-    ensures reads { ReadsMaybe vlog same (expr_rest (inside left levels) start) result cursor.old cursor.new (S.supply source.old) (S.supply source.new) }
+    ensures reads { ReadsMaybe vlog same
+        (expr_rest (inside left levels) start) result cursor.old cursor.new
+        (S.supply source.old) (S.supply source.new) }
     ensures value { IfOk result (IsGood left levels) }
     ensures size { IfOk result (λ e. expr_size e + room cursor.new ≤ room cursor.old) }
 {
@@ -163,7 +170,8 @@ fn read_expr_in<S: Source>(
     levels: u8,
     source: &mut S,
 ) -> Result<Expr, ReadError>
-    ensures reads { Reads vlog same (expr left levels) result cursor.old cursor.new (S.supply source.old) (S.supply source.new) }
+    ensures reads { Reads vlog same (expr left levels) result cursor.old cursor.new
+        (S.supply source.old) (S.supply source.new) }
     ensures value { IfOk result (IsGood left levels) }
     ensures size { IfOk result (λ e. expr_size e + room cursor.new < room cursor.old) }
 {
@@ -185,9 +193,12 @@ fn read_list<S: Source>(
 ) -> Result<Seq<Expr>, ReadError>
     requires unspent { IsFalse cursor.old.spent }
     requires value { IsGood left levels first }
-    ensures reads { Reads vlog same (commas (expr left levels) (mark 125) (first ∷ [])) result cursor.old cursor.new (S.supply source.old) (S.supply source.new) }
+    ensures reads { Reads vlog same
+        (commas (expr left levels) (mark 125) (first ∷ [])) result cursor.old cursor.new
+        (S.supply source.old) (S.supply source.new) }
     ensures value { IfOk result (AreSome (IsGood left levels)) }
-    ensures size { IfOk result (λ es. list_size expr_size es + room cursor.new ≤ expr_size first + room cursor.old) }
+    ensures size { IfOk result
+        (λ es. list_size expr_size es + room cursor.new ≤ expr_size first + room cursor.old) }
 {
     let mut exprs = seq_with_room(alloc, USUAL);
     cursor.add(&mut exprs, first)?;
@@ -212,7 +223,8 @@ fn read_replicated<S: Source>(
 ) -> Result<Expr, ReadError>
     requires right { left ≡ false }
     requires count { IsCount count }
-    ensures reads { Reads vlog same (rep_rest (expr left levels) count) result cursor.old cursor.new (S.supply source.old) (S.supply source.new) }
+    ensures reads { Reads vlog same (rep_rest (expr left levels) count) result cursor.old cursor.new
+        (S.supply source.old) (S.supply source.new) }
     ensures value { IfOk result (IsGood left (suc levels)) }
     ensures size { IfOk result (λ e. expr_size e + room cursor.new < room cursor.old) }
 {
@@ -235,7 +247,10 @@ fn read_counted<S: Source>(
 ) -> Result<Expr, ReadError>
     requires right { left ≡ false }
     requires count { IsCount number }
-    ensures reads { Reads vlog same (braced (expr left levels) (inside left levels) (ExprStart.Number number)) result cursor.old cursor.new (S.supply source.old) (S.supply source.new) }
+    ensures reads { Reads vlog same
+        (braced (expr left levels) (inside left levels)
+        (ExprStart.Number number)) result cursor.old cursor.new
+        (S.supply source.old) (S.supply source.new) }
     ensures value { IfOk result (IsGood left (suc levels)) }
     ensures size { IfOk result (λ e. expr_size e + room cursor.new ≤ room cursor.old) }
 {
@@ -262,7 +277,9 @@ fn read_braced<S: Source>(
     requires unspent { IsFalse cursor.old.spent }
     requires room { start ≡ ExprStart.Brace → 0 < levels }
     requires start { IsStart left levels start }
-    ensures reads { Reads vlog same (braced (expr left levels) (inside left levels) start) result cursor.old cursor.new (S.supply source.old) (S.supply source.new) }
+    ensures reads { Reads vlog same
+        (braced (expr left levels) (inside left levels) start) result cursor.old cursor.new
+        (S.supply source.old) (S.supply source.new) }
     ensures value { IfOk result (IsGood left (suc levels)) }
     ensures size { IfOk result (λ e. expr_size e + room cursor.new ≤ room cursor.old) }
 {
@@ -286,7 +303,8 @@ fn read_inside<S: Source>(
     source: &mut S,
 ) -> Result<Expr, ReadError>
     requires { 0 < levels }
-    ensures reads { Reads vlog same (inside left levels) result cursor.old cursor.new (S.supply source.old) (S.supply source.new) }
+    ensures reads { Reads vlog same (inside left levels) result cursor.old cursor.new
+        (S.supply source.old) (S.supply source.new) }
     ensures value { IfOk result (IsGood left levels) }
     ensures size { IfOk result (λ e. expr_size e + room cursor.new < room cursor.old) }
 {
@@ -302,7 +320,8 @@ pub fn read_expr<S: Source>(
     left_side: bool,
     source: &mut S,
 ) -> Result<Expr, ReadError>
-    ensures reads { Reads vlog same (expr left_side 64) result cursor.old cursor.new (S.supply source.old) (S.supply source.new) }
+    ensures reads { Reads vlog same (expr left_side 64) result cursor.old cursor.new
+        (S.supply source.old) (S.supply source.new) }
     ensures value { IfOk result IsExpr }
     ensures left { IfOk result (λ e. left_side ≡ true → is_left e ≡ true) }
     ensures size { IfOk result (λ e. expr_size e + room cursor.new < room cursor.old) }
@@ -318,7 +337,8 @@ pub fn read_expr_if_any<S: Source>(
     cursor: &mut VCursor,
     source: &mut S,
 ) -> Result<Option<Expr>, ReadError>
-    ensures reads { ReadsMaybe vlog same maybe_expr result cursor.old cursor.new (S.supply source.old) (S.supply source.new) }
+    ensures reads { ReadsMaybe vlog same maybe_expr result cursor.old cursor.new
+        (S.supply source.old) (S.supply source.new) }
     ensures value { IfOk result (λ e. IfSome e IsExpr) }
     ensures size { IfOk result (λ e. maybe_size e + room cursor.new ≤ room cursor.old) }
 {

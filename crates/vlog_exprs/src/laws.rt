@@ -8,7 +8,8 @@ ghost use Rattle.vlog_exprs.specs.Grammar.{expr, constant};
 
 /// The tokens that read as an expression, or a left side, with at most `room` braces in one another are those that the extended BNF has for it.
 pub fn expression_texts()
-    ensures { (left : Bool) (room : ℕ) (ts : Tokens) (e : Expr) → Spells tt (expr left room) ts e ↔ ExprText left room ts e }
+    ensures { (left : Bool) (room : ℕ) (ts : Tokens) (e : Expr) → Spells tt (expr left room) ts e
+        ↔ ExprText left room ts e }
 {}
 
 /// The tokens that read as a constant are those that the extended BNF has for it.

@@ -19,7 +19,8 @@ use vlog_tokens::{VFound, is_keyword};
 impl VCursor {
     /// Takes a token: a name.
     pub fn name<S: Source>(&mut self, alloc: Global, source: &mut S) -> Result<Text, ReadError>
-        ensures reads { Reads vlog same name result self.old self.new (S.supply source.old) (S.supply source.new) }
+        ensures reads { Reads vlog same name result self.old self.new
+            (S.supply source.old) (S.supply source.new) }
         ensures value { IfOk result IsName }
     {
         let held = self.held_name(alloc)?;
@@ -32,7 +33,8 @@ impl VCursor {
     /// Takes any token, which has to be a name.
     #[inline(never)]
     fn name_token<S: Source>(&mut self, alloc: Global, source: &mut S) -> Result<Text, ReadError>
-        ensures reads { Reads vlog same name result self.old self.new (S.supply source.old) (S.supply source.new) }
+        ensures reads { Reads vlog same name result self.old self.new
+            (S.supply source.old) (S.supply source.new) }
         ensures value { IfOk result IsName }
     {
         let VFound { place, stop, token } = self.take(alloc, source)?;
@@ -42,7 +44,8 @@ impl VCursor {
 
     /// Takes a token: a number.
     pub fn number<S: Source>(&mut self, alloc: Global, source: &mut S) -> Result<Int, ReadError>
-        ensures reads { Reads vlog same number result self.old self.new (S.supply source.old) (S.supply source.new) }
+        ensures reads { Reads vlog same number result self.old self.new
+            (S.supply source.old) (S.supply source.new) }
         ensures value { IfOk result IsCount }
     {
         let VFound { place, stop, token } = self.take(alloc, source)?;
@@ -58,7 +61,8 @@ impl VCursor {
         due: u8,
         source: &mut S,
     ) -> Result<(), ReadError>
-        ensures { Reads vlog same (mark due) result self.old self.new (S.supply source.old) (S.supply source.new) }
+        ensures { Reads vlog same (mark due) result self.old self.new
+            (S.supply source.old) (S.supply source.new) }
     {
         if let Some(mark) = self.held_mark() {
             if mark == due {
@@ -77,7 +81,8 @@ impl VCursor {
         due: u8,
         source: &mut S,
     ) -> Result<(), ReadError>
-        ensures { Reads vlog same (mark due) result self.old self.new (S.supply source.old) (S.supply source.new) }
+        ensures { Reads vlog same (mark due) result self.old self.new
+            (S.supply source.old) (S.supply source.new) }
     {
         let VFound { place, stop, token } = self.take(alloc, source)?;
         let said = mark_of(alloc, due, token);
@@ -91,7 +96,8 @@ impl VCursor {
         due: &[u8],
         source: &mut S,
     ) -> Result<(), ReadError>
-        ensures { Reads vlog same (keyword due.now) result self.old self.new (S.supply source.old) (S.supply source.new) }
+        ensures { Reads vlog same (keyword due.now) result self.old self.new
+            (S.supply source.old) (S.supply source.new) }
     {
         let VFound { place, stop, token } = self.take(alloc, source)?;
         let said = keyword_of(alloc, due, token);
@@ -105,7 +111,8 @@ impl VCursor {
         words: &[(&[u8], T)],
         source: &mut S,
     ) -> Result<T, ReadError>
-        ensures { Reads vlog same (choice (say.rows words.now)) result self.old self.new (S.supply source.old) (S.supply source.new) }
+        ensures { Reads vlog same (choice (say.rows words.now)) result self.old self.new
+            (S.supply source.old) (S.supply source.new) }
     {
         let held = self.held_word();
         let count = held.len();
@@ -128,7 +135,8 @@ impl VCursor {
         words: &[(&[u8], T)],
         source: &mut S,
     ) -> Result<T, ReadError>
-        ensures { Reads vlog same (choice (say.rows words.now)) result self.old self.new (S.supply source.old) (S.supply source.new) }
+        ensures { Reads vlog same (choice (say.rows words.now)) result self.old self.new
+            (S.supply source.old) (S.supply source.new) }
     {
         let VFound { place, stop, token } = self.take(alloc, source)?;
         let said = choice_of(alloc, words, token);
@@ -143,7 +151,8 @@ impl VCursor {
         mark: u8,
         source: &mut S,
     ) -> Result<bool, ReadError>
-        ensures { TakesNext vlog stands (λ _ x. say.at_mark mark x.token) result self.old self.new (S.supply source.old) (S.supply source.new) }
+        ensures { TakesNext vlog stands (λ _ x. say.at_mark mark x.token) result self.old self.new
+            (S.supply source.old) (S.supply source.new) }
     {
         if let Some(next) = self.held_mark() {
             if next != mark {
@@ -163,7 +172,8 @@ impl VCursor {
         mark: u8,
         source: &mut S,
     ) -> Result<bool, ReadError>
-        ensures { TakesNext vlog stands (λ _ x. say.at_mark mark x.token) result self.old self.new (S.supply source.old) (S.supply source.new) }
+        ensures { TakesNext vlog stands (λ _ x. say.at_mark mark x.token) result self.old self.new
+            (S.supply source.old) (S.supply source.new) }
     {
         let held = self.held_word();
         let count = held.len();
@@ -184,7 +194,8 @@ impl VCursor {
         mark: u8,
         source: &mut S,
     ) -> Result<bool, ReadError>
-        ensures { TakesNext vlog stands (λ _ x. say.at_mark mark x.token) result self.old self.new (S.supply source.old) (S.supply source.new) }
+        ensures { TakesNext vlog stands (λ _ x. say.at_mark mark x.token) result self.old self.new
+            (S.supply source.old) (S.supply source.new) }
     {
         let next = self.next_out(alloc, source)?;
         let Some(VFound { place, stop, token }) = next else {
@@ -200,7 +211,8 @@ impl VCursor {
         alloc: Global,
         source: &mut S,
     ) -> Result<Option<Text>, ReadError>
-        ensures reads { TakesNext vlog same (λ _ x. say.at_name x.token) result self.old self.new (S.supply source.old) (S.supply source.new) }
+        ensures reads { TakesNext vlog same (λ _ x. say.at_name x.token) result self.old self.new
+            (S.supply source.old) (S.supply source.new) }
         ensures value { IfOk result (λ name. IfSome name IsName) }
     {
         if self.at_held_keyword() {
@@ -220,7 +232,8 @@ impl VCursor {
         alloc: Global,
         source: &mut S,
     ) -> Result<Option<Text>, ReadError>
-        ensures reads { TakesNext vlog same (λ _ x. say.at_name x.token) result self.old self.new (S.supply source.old) (S.supply source.new) }
+        ensures reads { TakesNext vlog same (λ _ x. say.at_name x.token) result self.old self.new
+            (S.supply source.old) (S.supply source.new) }
         ensures value { IfOk result (λ name. IfSome name IsName) }
     {
         if let Some(_mark) = self.held_mark() {
@@ -240,7 +253,9 @@ impl VCursor {
         words: &[(&[u8], T)],
         source: &mut S,
     ) -> Result<Option<T>, ReadError>
-        ensures reads { TakesNext vlog same (λ _ x. say.at_choice (say.rows words.now) x.token) result self.old self.new (S.supply source.old) (S.supply source.new) }
+        ensures reads { TakesNext vlog same
+            (λ _ x. say.at_choice (say.rows words.now) x.token) result self.old self.new
+            (S.supply source.old) (S.supply source.new) }
         ensures value { IfOk result (λ value. IfSome value (say.IsMeant (say.rows words.now))) }
     {
         let held = self.held_word();

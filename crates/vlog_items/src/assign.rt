@@ -20,7 +20,8 @@ fn read_assignment<S: Source>(
     cursor: &mut VCursor,
     source: &mut S,
 ) -> Result<Assignment, ReadError>
-    ensures reads { Reads vlog same assignment result cursor.old cursor.new (S.supply source.old) (S.supply source.new) }
+    ensures reads { Reads vlog same assignment result cursor.old cursor.new
+        (S.supply source.old) (S.supply source.new) }
     ensures value { IfOk result IsAssignment }
     ensures size { IfOk result (λ set. assignment_size set + room cursor.new < room cursor.old) }
 {
@@ -37,9 +38,11 @@ fn read_assignments<S: Source>(
     cursor: &mut VCursor,
     source: &mut S,
 ) -> Result<Seq<Assignment>, ReadError>
-    ensures reads { Reads vlog same (list assignment (mark 59)) result cursor.old cursor.new (S.supply source.old) (S.supply source.new) }
+    ensures reads { Reads vlog same (list assignment (mark 59)) result cursor.old cursor.new
+        (S.supply source.old) (S.supply source.new) }
     ensures value { IfOk result (AreSome IsAssignment) }
-    ensures size { IfOk result (λ sets. list_size assignment_size sets + room cursor.new < room cursor.old) }
+    ensures size { IfOk result
+        (λ sets. list_size assignment_size sets + room cursor.new < room cursor.old) }
 {
     let mut sets = Seq::empty(alloc);
     let set = read_assignment(alloc, cursor, source)?;
@@ -61,9 +64,11 @@ pub(crate) fn read_assigns<S: Source>(
     source: &mut S,
 ) -> Result<Assigns, ReadError>
     requires { AreAttrs attrs }
-    ensures reads { Reads vlog same (assigns attrs) result cursor.old cursor.new (S.supply source.old) (S.supply source.new) }
+    ensures reads { Reads vlog same (assigns attrs) result cursor.old cursor.new
+        (S.supply source.old) (S.supply source.new) }
     ensures value { IfOk result AreAssigns }
-    ensures size { IfOk result (λ s. assigns_size s + room cursor.new < room cursor.old + length attrs) }
+    ensures size { IfOk result
+        (λ s. assigns_size s + room cursor.new < room cursor.old + length attrs) }
 {
     let sets = read_assignments(alloc, cursor, source)?;
     Ok(Assigns { attrs, sets })

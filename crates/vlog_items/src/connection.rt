@@ -23,7 +23,8 @@ fn read_named_rest<S: Source>(
     cursor: &mut VCursor,
     source: &mut S,
 ) -> Result<NamedConn, ReadError>
-    ensures reads { Reads vlog same named_rest result cursor.old cursor.new (S.supply source.old) (S.supply source.new) }
+    ensures reads { Reads vlog same named_rest result cursor.old cursor.new
+        (S.supply source.old) (S.supply source.new) }
     ensures value { IfOk result IsNamedConn }
     ensures size { IfOk result (λ conn. conn_size conn + room cursor.new < room cursor.old) }
 {
@@ -41,7 +42,8 @@ fn read_named<S: Source>(
     cursor: &mut VCursor,
     source: &mut S,
 ) -> Result<NamedConn, ReadError>
-    ensures reads { Reads vlog same named result cursor.old cursor.new (S.supply source.old) (S.supply source.new) }
+    ensures reads { Reads vlog same named result cursor.old cursor.new
+        (S.supply source.old) (S.supply source.new) }
     ensures value { IfOk result IsNamedConn }
     ensures size { IfOk result (λ conn. conn_size conn + room cursor.new < room cursor.old) }
 {
@@ -59,9 +61,12 @@ fn read_more_named<S: Source>(
     source: &mut S,
 ) -> Result<Seq<NamedConn>, ReadError>
     requires { AreSome IsNamedConn conns }
-    ensures reads { Reads vlog same (commas named (mark 41) conns) result cursor.old cursor.new (S.supply source.old) (S.supply source.new) }
+    ensures reads { Reads vlog same (commas named (mark 41) conns) result cursor.old cursor.new
+        (S.supply source.old) (S.supply source.new) }
     ensures value { IfOk result (AreSome IsNamedConn) }
-    ensures size { IfOk result (λ all. list_size conn_size all + room cursor.new < room cursor.old + list_size conn_size conns) }
+    ensures size { IfOk result
+        (λ all. list_size conn_size all + room cursor.new
+        < room cursor.old + list_size conn_size conns) }
 {
     while cursor.takes(alloc, b',', source)? {
         let conn = read_named(alloc, cursor, source)?;
@@ -78,7 +83,8 @@ fn read_named_conns<S: Source>(
     cursor: &mut VCursor,
     source: &mut S,
 ) -> Result<Conns, ReadError>
-    ensures reads { Reads vlog same named_conns result cursor.old cursor.new (S.supply source.old) (S.supply source.new) }
+    ensures reads { Reads vlog same named_conns result cursor.old cursor.new
+        (S.supply source.old) (S.supply source.new) }
     ensures value { IfOk result IsConns }
     ensures size { IfOk result (λ conns. conns_size conns + room cursor.new ≤ room cursor.old) }
 {
@@ -96,9 +102,11 @@ fn read_exprs<S: Source>(
     cursor: &mut VCursor,
     source: &mut S,
 ) -> Result<Seq<Option<Expr>>, ReadError>
-    ensures reads { Reads vlog same (list maybe_expr (mark 41)) result cursor.old cursor.new (S.supply source.old) (S.supply source.new) }
+    ensures reads { Reads vlog same (list maybe_expr (mark 41)) result cursor.old cursor.new
+        (S.supply source.old) (S.supply source.new) }
     ensures value { IfOk result (AreSome (λ e. IfSome e IsExpr)) }
-    ensures size { IfOk result (λ exprs. list_size maybe_size exprs + room cursor.new ≤ room cursor.old) }
+    ensures size { IfOk result
+        (λ exprs. list_size maybe_size exprs + room cursor.new ≤ room cursor.old) }
 {
     let mut exprs = Seq::empty(alloc);
     let expr = read_expr_if_any(alloc, cursor, source)?;
@@ -128,7 +136,8 @@ fn read_ordered_conns<S: Source>(
     cursor: &mut VCursor,
     source: &mut S,
 ) -> Result<Conns, ReadError>
-    ensures reads { Reads vlog same ordered_conns result cursor.old cursor.new (S.supply source.old) (S.supply source.new) }
+    ensures reads { Reads vlog same ordered_conns result cursor.old cursor.new
+        (S.supply source.old) (S.supply source.new) }
     ensures value { IfOk result IsConns }
     ensures size { IfOk result (λ conns. conns_size conns + room cursor.new ≤ room cursor.old) }
 {
@@ -143,7 +152,8 @@ pub(crate) fn read_conns<S: Source>(
     cursor: &mut VCursor,
     source: &mut S,
 ) -> Result<Conns, ReadError>
-    ensures reads { Reads vlog same conns result cursor.old cursor.new (S.supply source.old) (S.supply source.new) }
+    ensures reads { Reads vlog same conns result cursor.old cursor.new
+        (S.supply source.old) (S.supply source.new) }
     ensures value { IfOk result IsConns }
     ensures size { IfOk result (λ conns. conns_size conns + room cursor.new ≤ room cursor.old) }
 {

@@ -23,9 +23,11 @@ pub fn read_more_names<S: Source>(
     close: u8,
     source: &mut S,
 ) -> Result<Seq<Text>, ReadError>
-    ensures reads { Reads vlog same (commas name (mark close) names) result cursor.old cursor.new (S.supply source.old) (S.supply source.new) }
+    ensures reads { Reads vlog same (commas name (mark close) names) result cursor.old cursor.new
+        (S.supply source.old) (S.supply source.new) }
     ensures value { AreSome IsName names → IfOk result (AreSome IsName) }
-    ensures size { IfOk result (λ all. length all + room cursor.new < room cursor.old + length names) }
+    ensures size { IfOk result
+        (λ all. length all + room cursor.new < room cursor.old + length names) }
 {
     while cursor.takes(alloc, b',', source)? {
         let name = cursor.name(alloc, source)?;
@@ -42,7 +44,8 @@ fn read_names<S: Source>(
     cursor: &mut VCursor,
     source: &mut S,
 ) -> Result<Seq<Text>, ReadError>
-    ensures reads { Reads vlog same (list name (mark 59)) result cursor.old cursor.new (S.supply source.old) (S.supply source.new) }
+    ensures reads { Reads vlog same (list name (mark 59)) result cursor.old cursor.new
+        (S.supply source.old) (S.supply source.new) }
     ensures value { IfOk result (AreSome IsName) }
     ensures size { IfOk result (λ names. length names + room cursor.new < room cursor.old) }
 {
@@ -60,7 +63,8 @@ pub fn read_signed<S: Source>(
     cursor: &mut VCursor,
     source: &mut S,
 ) -> Result<bool, ReadError>
-    ensures { ReadsMaybe vlog same signed result cursor.old cursor.new (S.supply source.old) (S.supply source.new) }
+    ensures { ReadsMaybe vlog same signed result cursor.old cursor.new
+        (S.supply source.old) (S.supply source.new) }
 {
     let word = cursor.takes_choice(alloc, &[(b"signed", true)], source)?;
     Ok(word.is_some())
@@ -73,7 +77,8 @@ pub fn read_port_kind<S: Source>(
     cursor: &mut VCursor,
     source: &mut S,
 ) -> Result<Option<PortKind>, ReadError>
-    ensures { ReadsMaybe vlog same port_kind result cursor.old cursor.new (S.supply source.old) (S.supply source.new) }
+    ensures { ReadsMaybe vlog same port_kind result cursor.old cursor.new
+        (S.supply source.old) (S.supply source.new) }
 {
     let kind = cursor.takes_choice(
         alloc,
@@ -93,9 +98,11 @@ pub(crate) fn read_port_item<S: Source>(
     source: &mut S,
 ) -> Result<PortDecl, ReadError>
     requires { AreAttrs attrs }
-    ensures reads { Reads vlog same (port_item attrs dir) result cursor.old cursor.new (S.supply source.old) (S.supply source.new) }
+    ensures reads { Reads vlog same (port_item attrs dir) result cursor.old cursor.new
+        (S.supply source.old) (S.supply source.new) }
     ensures value { IfOk result IsPortDecl }
-    ensures size { IfOk result (λ d. port_size d + room cursor.new < room cursor.old + length attrs) }
+    ensures size { IfOk result
+        (λ d. port_size d + room cursor.new < room cursor.old + length attrs) }
 {
     let kind = read_port_kind(alloc, cursor, source)?;
     let signed = read_signed(alloc, cursor, source)?;
@@ -121,9 +128,11 @@ pub(crate) fn read_net_item<S: Source>(
     source: &mut S,
 ) -> Result<NetDecl, ReadError>
     requires { AreAttrs attrs }
-    ensures reads { Reads vlog same (net_item attrs kind) result cursor.old cursor.new (S.supply source.old) (S.supply source.new) }
+    ensures reads { Reads vlog same (net_item attrs kind) result cursor.old cursor.new
+        (S.supply source.old) (S.supply source.new) }
     ensures value { IfOk result IsNetDecl }
-    ensures size { IfOk result (λ d. net_size d + room cursor.new < room cursor.old + length attrs) }
+    ensures size { IfOk result
+        (λ d. net_size d + room cursor.new < room cursor.old + length attrs) }
 {
     let signed = read_signed(alloc, cursor, source)?;
     let range = read_range_if_any(alloc, cursor, source)?;

@@ -22,7 +22,8 @@ fn read_def_value<S: Source>(
     source: &mut S,
 ) -> Result<DefSet, ReadError>
     requires { IsName instance }
-    ensures reads { Reads vlog same (def_value instance) result cursor.old cursor.new (S.supply source.old) (S.supply source.new) }
+    ensures reads { Reads vlog same (def_value instance) result cursor.old cursor.new
+        (S.supply source.old) (S.supply source.new) }
     ensures value { IfOk result IsDefSet }
 {
     let name = cursor.name(alloc, source)?;
@@ -42,7 +43,8 @@ fn read_def_set<S: Source>(
     cursor: &mut VCursor,
     source: &mut S,
 ) -> Result<DefSet, ReadError>
-    ensures reads { Reads vlog same def_set result cursor.old cursor.new (S.supply source.old) (S.supply source.new) }
+    ensures reads { Reads vlog same def_set result cursor.old cursor.new
+        (S.supply source.old) (S.supply source.new) }
     ensures value { IfOk result IsDefSet }
 {
     let instance = cursor.name(alloc, source)?;
@@ -58,7 +60,8 @@ fn read_def_sets<S: Source>(
     cursor: &mut VCursor,
     source: &mut S,
 ) -> Result<Seq<DefSet>, ReadError>
-    ensures reads { Reads vlog same (list def_set (mark 59)) result cursor.old cursor.new (S.supply source.old) (S.supply source.new) }
+    ensures reads { Reads vlog same (list def_set (mark 59)) result cursor.old cursor.new
+        (S.supply source.old) (S.supply source.new) }
     ensures value { IfOk result (AreSome IsDefSet) }
     ensures size { IfOk result (λ sets. length sets + room cursor.new < room cursor.old) }
 {
@@ -82,9 +85,11 @@ pub(crate) fn read_defparams<S: Source>(
     source: &mut S,
 ) -> Result<Defparams, ReadError>
     requires { AreAttrs attrs }
-    ensures reads { Reads vlog same (defparams attrs) result cursor.old cursor.new (S.supply source.old) (S.supply source.new) }
+    ensures reads { Reads vlog same (defparams attrs) result cursor.old cursor.new
+        (S.supply source.old) (S.supply source.new) }
     ensures value { IfOk result AreDefparams }
-    ensures size { IfOk result (λ s. defparams_size s + room cursor.new < room cursor.old + length attrs) }
+    ensures size { IfOk result
+        (λ s. defparams_size s + room cursor.new < room cursor.old + length attrs) }
 {
     let sets = read_def_sets(alloc, cursor, source)?;
     Ok(Defparams { attrs, sets })

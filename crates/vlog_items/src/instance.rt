@@ -22,7 +22,8 @@ fn read_instance<S: Source>(
     cursor: &mut VCursor,
     source: &mut S,
 ) -> Result<VInst, ReadError>
-    ensures reads { Reads vlog same instance result cursor.old cursor.new (S.supply source.old) (S.supply source.new) }
+    ensures reads { Reads vlog same instance result cursor.old cursor.new
+        (S.supply source.old) (S.supply source.new) }
     ensures value { IfOk result IsInstance }
     ensures size { IfOk result (λ inst. instance_size inst + room cursor.new < room cursor.old) }
 {
@@ -39,9 +40,11 @@ fn read_insts<S: Source>(
     cursor: &mut VCursor,
     source: &mut S,
 ) -> Result<Seq<VInst>, ReadError>
-    ensures reads { Reads vlog same (list instance (mark 59)) result cursor.old cursor.new (S.supply source.old) (S.supply source.new) }
+    ensures reads { Reads vlog same (list instance (mark 59)) result cursor.old cursor.new
+        (S.supply source.old) (S.supply source.new) }
     ensures value { IfOk result (AreSome IsInstance) }
-    ensures size { IfOk result (λ insts. list_size instance_size insts + room cursor.new < room cursor.old) }
+    ensures size { IfOk result
+        (λ insts. list_size instance_size insts + room cursor.new < room cursor.old) }
 {
     let mut insts = Seq::empty(alloc);
     let inst = read_instance(alloc, cursor, source)?;
@@ -61,7 +64,8 @@ fn read_override_rest<S: Source>(
     cursor: &mut VCursor,
     source: &mut S,
 ) -> Result<ParamSet, ReadError>
-    ensures reads { Reads vlog same override_rest result cursor.old cursor.new (S.supply source.old) (S.supply source.new) }
+    ensures reads { Reads vlog same override_rest result cursor.old cursor.new
+        (S.supply source.old) (S.supply source.new) }
     ensures value { IfOk result IsParamSet }
 {
     let name = cursor.name(alloc, source)?;
@@ -78,7 +82,8 @@ fn read_override<S: Source>(
     cursor: &mut VCursor,
     source: &mut S,
 ) -> Result<ParamSet, ReadError>
-    ensures reads { Reads vlog same override_set result cursor.old cursor.new (S.supply source.old) (S.supply source.new) }
+    ensures reads { Reads vlog same override_set result cursor.old cursor.new
+        (S.supply source.old) (S.supply source.new) }
     ensures value { IfOk result IsParamSet }
 {
     cursor.mark(alloc, b'.', source)?;
@@ -93,7 +98,8 @@ fn read_override_list<S: Source>(
     cursor: &mut VCursor,
     source: &mut S,
 ) -> Result<Seq<ParamSet>, ReadError>
-    ensures reads { Reads vlog same (list override_set (mark 41)) result cursor.old cursor.new (S.supply source.old) (S.supply source.new) }
+    ensures reads { Reads vlog same (list override_set (mark 41)) result cursor.old cursor.new
+        (S.supply source.old) (S.supply source.new) }
     ensures value { IfOk result (AreSome IsParamSet) }
     ensures size { IfOk result (λ sets. length sets + room cursor.new < room cursor.old) }
 {
@@ -115,7 +121,8 @@ fn read_overrides<S: Source>(
     cursor: &mut VCursor,
     source: &mut S,
 ) -> Result<Seq<ParamSet>, ReadError>
-    ensures reads { ReadsMaybe vlog same overrides result cursor.old cursor.new (S.supply source.old) (S.supply source.new) }
+    ensures reads { ReadsMaybe vlog same overrides result cursor.old cursor.new
+        (S.supply source.old) (S.supply source.new) }
     ensures value { IfOk result (AllByRecursion IsParamSet) }
     ensures size { IfOk result (λ sets. length sets + room cursor.new ≤ room cursor.old) }
 {
@@ -138,9 +145,11 @@ pub(crate) fn read_instances<S: Source>(
 ) -> Result<Instances, ReadError>
     requires attrs { AreAttrs attrs }
     requires name { IsName of_module }
-    ensures reads { Reads vlog same (instances attrs of_module) result cursor.old cursor.new (S.supply source.old) (S.supply source.new) }
+    ensures reads { Reads vlog same (instances attrs of_module) result cursor.old cursor.new
+        (S.supply source.old) (S.supply source.new) }
     ensures value { IfOk result AreInstances }
-    ensures size { IfOk result (λ s. instances_size s + room cursor.new < room cursor.old + length attrs) }
+    ensures size { IfOk result
+        (λ s. instances_size s + room cursor.new < room cursor.old + length attrs) }
 {
     let params = read_overrides(alloc, cursor, source)?;
     let insts = read_insts(alloc, cursor, source)?;

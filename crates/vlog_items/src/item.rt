@@ -35,7 +35,8 @@ fn read_item_word<S: Source>(
     cursor: &mut VCursor,
     source: &mut S,
 ) -> Result<ItemWord, ReadError>
-    ensures { Reads vlog same (choice item_words) result cursor.old cursor.new (S.supply source.old) (S.supply source.new) }
+    ensures { Reads vlog same (choice item_words) result cursor.old cursor.new
+        (S.supply source.old) (S.supply source.new) }
 {
     cursor.choose(
         alloc,
@@ -65,9 +66,11 @@ fn read_word_item<S: Source>(
     source: &mut S,
 ) -> Result<ItemV, ReadError>
     requires { AreAttrs attrs }
-    ensures reads { Reads vlog same (word_item attrs word) result cursor.old cursor.new (S.supply source.old) (S.supply source.new) }
+    ensures reads { Reads vlog same (word_item attrs word) result cursor.old cursor.new
+        (S.supply source.old) (S.supply source.new) }
     ensures value { IfOk result IsItem }
-    ensures size { IfOk result (λ item. item_size item + room cursor.new < room cursor.old + length attrs) }
+    ensures size { IfOk result
+        (λ item. item_size item + room cursor.new < room cursor.old + length attrs) }
 {
     match word {
         ItemWord::Port(dir) => {
@@ -104,9 +107,11 @@ fn read_instances_item<S: Source>(
 ) -> Result<ItemV, ReadError>
     requires attrs { AreAttrs attrs }
     requires name { IsName of_module }
-    ensures reads { Reads vlog same (instances_item attrs of_module) result cursor.old cursor.new (S.supply source.old) (S.supply source.new) }
+    ensures reads { Reads vlog same (instances_item attrs of_module) result cursor.old cursor.new
+        (S.supply source.old) (S.supply source.new) }
     ensures value { IfOk result IsItem }
-    ensures size { IfOk result (λ item. item_size item + room cursor.new < room cursor.old + length attrs) }
+    ensures size { IfOk result
+        (λ item. item_size item + room cursor.new < room cursor.old + length attrs) }
 {
     let instances = read_instances(alloc, cursor, attrs, of_module, source)?;
     Ok(ItemV::Instances(instances))
@@ -121,9 +126,11 @@ fn read_item_of<S: Source>(
     source: &mut S,
 ) -> Result<ItemV, ReadError>
     requires { AreAttrs attrs }
-    ensures reads { Reads vlog same (item attrs) result cursor.old cursor.new (S.supply source.old) (S.supply source.new) }
+    ensures reads { Reads vlog same (item attrs) result cursor.old cursor.new
+        (S.supply source.old) (S.supply source.new) }
     ensures value { IfOk result IsItem }
-    ensures size { IfOk result (λ item. item_size item + room cursor.new < room cursor.old + length attrs) }
+    ensures size { IfOk result
+        (λ item. item_size item + room cursor.new < room cursor.old + length attrs) }
 {
     match cursor.takes_name(alloc, source)? {
         Some(of_module) => {
@@ -145,7 +152,8 @@ pub fn read_item<S: Source>(
     cursor: &mut VCursor,
     source: &mut S,
 ) -> Result<ItemV, ReadError>
-    ensures reads { Reads vlog same (sequence attrs item) result cursor.old cursor.new (S.supply source.old) (S.supply source.new) }
+    ensures reads { Reads vlog same (sequence attrs item) result cursor.old cursor.new
+        (S.supply source.old) (S.supply source.new) }
     ensures value { IfOk result IsItem }
     ensures size { IfOk result (λ item. item_size item + room cursor.new < room cursor.old) }
 {

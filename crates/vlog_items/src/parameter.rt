@@ -22,7 +22,8 @@ fn read_plain_type<S: Source>(
     cursor: &mut VCursor,
     source: &mut S,
 ) -> Result<ParamType, ReadError>
-    ensures reads { ReadsMaybe vlog same plain_type result cursor.old cursor.new (S.supply source.old) (S.supply source.new) }
+    ensures reads { ReadsMaybe vlog same plain_type result cursor.old cursor.new
+        (S.supply source.old) (S.supply source.new) }
     ensures value { IfOk result IsParamType }
 {
     let signed = read_signed(alloc, cursor, source)?;
@@ -36,7 +37,9 @@ fn read_type_word<S: Source>(
     cursor: &mut VCursor,
     source: &mut S,
 ) -> Result<Option<ParamType>, ReadError>
-    ensures reads { TakesNext vlog same (λ _ x. say.at_choice param_type_words x.token) result cursor.old cursor.new (S.supply source.old) (S.supply source.new) }
+    ensures reads { TakesNext vlog same
+        (λ _ x. say.at_choice param_type_words x.token) result cursor.old cursor.new
+        (S.supply source.old) (S.supply source.new) }
     ensures value { IfOk result (λ kind. IfSome kind IsParamType) }
 {
     cursor.takes_choice(
@@ -53,7 +56,8 @@ pub fn read_param_type<S: Source>(
     cursor: &mut VCursor,
     source: &mut S,
 ) -> Result<ParamType, ReadError>
-    ensures reads { ReadsMaybe vlog same param_type result cursor.old cursor.new (S.supply source.old) (S.supply source.new) }
+    ensures reads { ReadsMaybe vlog same param_type result cursor.old cursor.new
+        (S.supply source.old) (S.supply source.new) }
     ensures value { IfOk result IsParamType }
 {
     match read_type_word(alloc, cursor, source)? {
@@ -72,7 +76,8 @@ pub fn read_param_set<S: Source>(
     cursor: &mut VCursor,
     source: &mut S,
 ) -> Result<ParamSet, ReadError>
-    ensures reads { Reads vlog same param_set result cursor.old cursor.new (S.supply source.old) (S.supply source.new) }
+    ensures reads { Reads vlog same param_set result cursor.old cursor.new
+        (S.supply source.old) (S.supply source.new) }
     ensures value { IfOk result IsParamSet }
 {
     let name = cursor.name(alloc, source)?;
@@ -88,7 +93,8 @@ fn read_param_sets<S: Source>(
     cursor: &mut VCursor,
     source: &mut S,
 ) -> Result<Seq<ParamSet>, ReadError>
-    ensures reads { Reads vlog same (list param_set (mark 59)) result cursor.old cursor.new (S.supply source.old) (S.supply source.new) }
+    ensures reads { Reads vlog same (list param_set (mark 59)) result cursor.old cursor.new
+        (S.supply source.old) (S.supply source.new) }
     ensures value { IfOk result (AreSome IsParamSet) }
     ensures size { IfOk result (λ sets. length sets + room cursor.new < room cursor.old) }
 {
@@ -112,9 +118,11 @@ pub(crate) fn read_param_item<S: Source>(
     source: &mut S,
 ) -> Result<ParamDecl, ReadError>
     requires { AreAttrs attrs }
-    ensures reads { Reads vlog same (param_item attrs) result cursor.old cursor.new (S.supply source.old) (S.supply source.new) }
+    ensures reads { Reads vlog same (param_item attrs) result cursor.old cursor.new
+        (S.supply source.old) (S.supply source.new) }
     ensures value { IfOk result IsParamDecl }
-    ensures size { IfOk result (λ d. param_size d + room cursor.new < room cursor.old + length attrs) }
+    ensures size { IfOk result
+        (λ d. param_size d + room cursor.new < room cursor.old + length attrs) }
 {
     let kind = read_param_type(alloc, cursor, source)?;
     let sets = read_param_sets(alloc, cursor, source)?;

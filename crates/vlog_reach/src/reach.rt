@@ -31,7 +31,8 @@ fn push_statement(
     numbers: &mut Seq<u32>,
 ) -> Result<(), NoMemory>
     requires { length names.now ≤ 2 ^ 32 }
-    ensures added { OnOk result (numbers.new ≡ numbers.old ++ places_in names.now (statement_modules statement.now)) }
+    ensures added { OnOk result (numbers.new
+        ≡ numbers.old ++ places_in names.now (statement_modules statement.now)) }
 {
     let place = names.place(statement.module.bytes());
     for _instance in statement.insts.items() {
@@ -42,7 +43,9 @@ fn push_statement(
 
 fn push_item(names: &NameSet, item: &ItemV, numbers: &mut Seq<u32>) -> Result<(), NoMemory>
     requires { length names.now ≤ 2 ^ 32 }
-    ensures added { OnOk result (numbers.new ≡ numbers.old ++ places_in names.now (flat_map statement_modules (instance_statement item.now))) }
+    ensures added { OnOk result (numbers.new
+        ≡ numbers.old ++ places_in names.now
+        (flat_map statement_modules (instance_statement item.now))) }
 {
     match item {
         ItemV::Instances(statement) => push_statement(names, statement, numbers),
@@ -69,7 +72,8 @@ fn below(alloc: Global, names: &NameSet, m: &Module) -> Result<Seq<u32>, NoMemor
 
 fn graph_by(alloc: Global, names: &NameSet, modules: &[Module]) -> Result<Vec<Seq<u32>>, NoMemory>
     requires { length names.now ≤ 2 ^ 32 }
-    ensures { IfOk result (λ graph. graph.items ≡ map (λ m. places_in names.now (instance_modules m)) modules.now) }
+    ensures { IfOk result (λ graph. graph.items
+        ≡ map (λ m. places_in names.now (instance_modules m)) modules.now) }
 {
     let mut graph = Vec::new(alloc);
     for m in modules {
@@ -93,7 +97,8 @@ pub fn graph_of(
 }
 
 fn push_marked<'a>(mark: bool, m: &'a Module, out: &mut Vec<&'a Module>) -> Result<(), NoMemory>
-    ensures added { OnOk result (modules_of out.new.items ≡ modules_of out.old.items ++ marked_one mark m.now) }
+    ensures added { OnOk result (modules_of out.new.items
+        ≡ modules_of out.old.items ++ marked_one mark m.now) }
 {
     if mark {
         out.push(m)?;
@@ -128,7 +133,8 @@ pub fn reached_modules<'a>(
     requires are_named { names.now ≡ map (λ m. m.name) modules.now }
     requires few { length modules.now ≤ 2 ^ 32 }
     requires within { top < length modules.now }
-    ensures { IfOk result (λ found. modules_of found.items ≡ marked (marks_of (modules_below modules.now) top) modules.now) }
+    ensures { IfOk result (λ found. modules_of found.items
+        ≡ marked (marks_of (modules_below modules.now) top) modules.now) }
 {
     let graph = graph_of(alloc, names, modules)?;
     let marks = reached_from(alloc, &graph, top)?;

@@ -15,7 +15,8 @@ use vlog_values::{Conns, NamedConn, VInst};
 
 /// The first port that connections name and that is none of these.
 fn first_outside<'a>(ports: &NameSet, conns: &'a [NamedConn]) -> Option<&'a [u8]>
-    ensures { option_copied result ≡ find (λ port. not (has_name ports.now port)) (map (λ conn. conn.port) conns.now) }
+    ensures { option_copied result
+        ≡ find (λ port. not (has_name ports.now port)) (map (λ conn. conn.port) conns.now) }
 {
     for conn in conns {
         if !ports.has(conn.port.bytes()) {
@@ -27,7 +28,8 @@ fn first_outside<'a>(ports: &NameSet, conns: &'a [NamedConn]) -> Option<&'a [u8]
 
 /// The port that the first connection names.
 fn first_named<'a>(conns: &'a [NamedConn]) -> Option<&'a [u8]>
-    ensures { option_copied result ≡ find (λ port. not (has_name [] port)) (map (λ conn. conn.port) conns.now) }
+    ensures { option_copied result
+        ≡ find (λ port. not (has_name [] port)) (map (λ conn. conn.port) conns.now) }
 {
     match conns {
         [] => None,
@@ -37,7 +39,10 @@ fn first_named<'a>(conns: &'a [NamedConn]) -> Option<&'a [u8]>
 
 /// The first port that connections name and the module of this name has not. The module is looked up once.
 fn unknown_named<'a>(library: &ModulePorts, of: &[u8], conns: &'a [NamedConn]) -> Option<&'a [u8]>
-    ensures { option_copied result ≡ find (λ port. not (has_name (ports_named (modules_of library.now.modules.items) of.now) port)) (map (λ conn. conn.port) conns.now) }
+    ensures { option_copied result
+        ≡ find (λ port. not (has_name
+        (ports_named (modules_of library.now.modules.items) of.now) port))
+        (map (λ conn. conn.port) conns.now) }
 {
     match library.ports(of) {
         None => first_named(conns),
@@ -46,7 +51,9 @@ fn unknown_named<'a>(library: &ModulePorts, of: &[u8], conns: &'a [NamedConn]) -
 }
 
 fn unknown_port<'a>(library: &ModulePorts, of: &[u8], conns: &'a Conns) -> Option<&'a [u8]>
-    ensures { option_copied result ≡ find (λ port. not (has_name (ports_named (modules_of library.now.modules.items) of.now) port)) (conn_names conns.now) }
+    ensures { option_copied result
+        ≡ find (λ port. not (has_name
+        (ports_named (modules_of library.now.modules.items) of.now) port)) (conn_names conns.now) }
 {
     match conns {
         Conns::Named(conns) => unknown_named(library, of, conns.items()),
@@ -118,7 +125,8 @@ impl InstanceRule for PortsTwice {
 
 /// Whether there are more connections in order than the module of this name has ports.
 fn has_extra(library: &ModulePorts, of: &[u8], conns: &Conns) -> bool
-    ensures { result ≡ nat_lt (length (ports_named (modules_of library.now.modules.items) of.now)) (conn_count conns.now) }
+    ensures { result ≡ nat_lt (length (ports_named (modules_of library.now.modules.items) of.now))
+        (conn_count conns.now) }
 {
     match conns {
         Conns::Named(_) => false,

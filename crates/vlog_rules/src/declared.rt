@@ -18,7 +18,8 @@ pub fn first_clash<'a>(
     alloc: Global,
     declarations: &[(Kind, &'a [u8])],
 ) -> Result<Option<(Kind, &'a [u8])>, NoMemory>
-    ensures { IfOk result (λ found. option_map declaration_of found ≡ first_of (clashing clash [] (declarations_of declarations.now))) }
+    ensures { IfOk result (λ found. option_map declaration_of found
+        ≡ first_of (clashing clash [] (declarations_of declarations.now))) }
 {
     let mut met = Met::nothing(alloc);
     for declaration in declarations {
@@ -36,7 +37,8 @@ fn push_names<'a>(
     names: &'a [Text],
     out: &mut Vec<(Kind, &'a [u8])>,
 ) -> Result<(), NoMemory>
-    ensures added { OnOk result (declarations_of out.new.items ≡ declarations_of out.old.items ++ declared_as kind names.now) }
+    ensures added { OnOk result (declarations_of out.new.items
+        ≡ declarations_of out.old.items ++ declared_as kind names.now) }
 {
     for name in names {
         out.push((kind, name.bytes()))?;
@@ -45,7 +47,8 @@ fn push_names<'a>(
 }
 
 fn push_sets<'a>(sets: &'a [ParamSet], out: &mut Vec<(Kind, &'a [u8])>) -> Result<(), NoMemory>
-    ensures added { OnOk result (declarations_of out.new.items ≡ declarations_of out.old.items ++ declared_as Parameter (map (λ set. set.name) sets.now)) }
+    ensures added { OnOk result (declarations_of out.new.items
+        ≡ declarations_of out.old.items ++ declared_as Parameter (map (λ set. set.name) sets.now)) }
 {
     for set in sets {
         out.push((Kind::Parameter, set.name.bytes()))?;
@@ -54,7 +57,8 @@ fn push_sets<'a>(sets: &'a [ParamSet], out: &mut Vec<(Kind, &'a [u8])>) -> Resul
 }
 
 fn push_params<'a>(decls: &'a [ParamDecl], out: &mut Vec<(Kind, &'a [u8])>) -> Result<(), NoMemory>
-    ensures added { OnOk result (declarations_of out.new.items ≡ declarations_of out.old.items ++ flat_map declared_params decls.now) }
+    ensures added { OnOk result (declarations_of out.new.items
+        ≡ declarations_of out.old.items ++ flat_map declared_params decls.now) }
 {
     for decl in decls {
         push_sets(decl.sets.items(), out)?;
@@ -63,7 +67,9 @@ fn push_params<'a>(decls: &'a [ParamDecl], out: &mut Vec<(Kind, &'a [u8])>) -> R
 }
 
 fn push_instances<'a>(insts: &'a [VInst], out: &mut Vec<(Kind, &'a [u8])>) -> Result<(), NoMemory>
-    ensures added { OnOk result (declarations_of out.new.items ≡ declarations_of out.old.items ++ declared_as Instance (map (λ instance. instance.name) insts.now)) }
+    ensures added { OnOk result (declarations_of out.new.items
+        ≡ declarations_of out.old.items
+        ++ declared_as Instance (map (λ instance. instance.name) insts.now)) }
 {
     for instance in insts {
         out.push((Kind::Instance, instance.name.bytes()))?;
@@ -72,7 +78,8 @@ fn push_instances<'a>(insts: &'a [VInst], out: &mut Vec<(Kind, &'a [u8])>) -> Re
 }
 
 fn push_ports<'a>(names: &'a [Text], out: &mut Vec<(Kind, &'a [u8])>) -> Result<(), NoMemory>
-    ensures added { OnOk result (declarations_of out.new.items ≡ declarations_of out.old.items ++ flat_map declared_port names.now) }
+    ensures added { OnOk result (declarations_of out.new.items
+        ≡ declarations_of out.old.items ++ flat_map declared_port names.now) }
 {
     for name in names {
         out.push((Kind::InHeader, name.bytes()))?;
@@ -82,7 +89,9 @@ fn push_ports<'a>(names: &'a [Text], out: &mut Vec<(Kind, &'a [u8])>) -> Result<
 }
 
 fn push_decls<'a>(decls: &'a [PortDecl], out: &mut Vec<(Kind, &'a [u8])>) -> Result<(), NoMemory>
-    ensures added { OnOk result (declarations_of out.new.items ≡ declarations_of out.old.items ++ flat_map (λ decl. flat_map declared_port decl.names) decls.now) }
+    ensures added { OnOk result (declarations_of out.new.items
+        ≡ declarations_of out.old.items
+        ++ flat_map (λ decl. flat_map declared_port decl.names) decls.now) }
 {
     for decl in decls {
         push_ports(decl.names.items(), out)?;
@@ -91,7 +100,8 @@ fn push_decls<'a>(decls: &'a [PortDecl], out: &mut Vec<(Kind, &'a [u8])>) -> Res
 }
 
 fn push_header<'a>(header: &'a Header, out: &mut Vec<(Kind, &'a [u8])>) -> Result<(), NoMemory>
-    ensures added { OnOk result (declarations_of out.new.items ≡ declarations_of out.old.items ++ declared_in_header header.now) }
+    ensures added { OnOk result (declarations_of out.new.items
+        ≡ declarations_of out.old.items ++ declared_in_header header.now) }
 {
     match header {
         Header::Names(names) => push_names(Kind::InHeader, names.items(), out),
@@ -100,7 +110,8 @@ fn push_header<'a>(header: &'a Header, out: &mut Vec<(Kind, &'a [u8])>) -> Resul
 }
 
 fn push_item<'a>(item: &'a ItemV, out: &mut Vec<(Kind, &'a [u8])>) -> Result<(), NoMemory>
-    ensures added { OnOk result (declarations_of out.new.items ≡ declarations_of out.old.items ++ declared_in_item item.now) }
+    ensures added { OnOk result (declarations_of out.new.items
+        ≡ declarations_of out.old.items ++ declared_in_item item.now) }
 {
     match item {
         ItemV::Port(decl) => push_names(Kind::Direction, decl.names.items(), out),
@@ -113,7 +124,8 @@ fn push_item<'a>(item: &'a ItemV, out: &mut Vec<(Kind, &'a [u8])>) -> Result<(),
 }
 
 fn push_items<'a>(items: &'a [ItemV], out: &mut Vec<(Kind, &'a [u8])>) -> Result<(), NoMemory>
-    ensures added { OnOk result (declarations_of out.new.items ≡ declarations_of out.old.items ++ flat_map declared_in_item items.now) }
+    ensures added { OnOk result (declarations_of out.new.items
+        ≡ declarations_of out.old.items ++ flat_map declared_in_item items.now) }
 {
     for item in items {
         push_item(item, out)?;
@@ -135,7 +147,8 @@ pub fn declarations_in<'a>(alloc: Global, m: &'a Module) -> Result<Vec<(Kind, &'
 
 /// The first declaration of the module that clashes with one before it.
 pub fn declared_twice(alloc: Global, m: &Module) -> Result<Option<Refusal>, NoMemory>
-    ensures { IfOk result (λ found. found ≡ first_of (map (refused G4 m.now.name) (declared_twice m.now))) }
+    ensures { IfOk result (λ found. found
+        ≡ first_of (map (refused G4 m.now.name) (declared_twice m.now))) }
 {
     let declarations = declarations_in(alloc, m)?;
     let clash = first_clash(alloc, &declarations)?;

@@ -26,7 +26,9 @@ fn first_in_sets<'a>(names: &NameSet, sets: &'a [DefSet]) -> Option<&'a DefSet>
 }
 
 fn first_in_item<'a>(names: &NameSet, item: &'a ItemV) -> Option<&'a DefSet>
-    ensures { option_copied result ≡ find (λ set. not (has_name names.now set.instance)) (flat_map (λ statement. statement.sets) (defparam_statement item.now)) }
+    ensures { option_copied result
+        ≡ find (λ set. not (has_name names.now set.instance))
+        (flat_map (λ statement. statement.sets) (defparam_statement item.now)) }
 {
     match item {
         ItemV::Defparam(statement) => first_in_sets(names, statement.sets.items()),
@@ -39,7 +41,10 @@ fn first_in_item<'a>(names: &NameSet, item: &'a ItemV) -> Option<&'a DefSet>
 }
 
 fn first_in_items<'a>(names: &NameSet, items: &'a [ItemV]) -> Option<&'a DefSet>
-    ensures { option_copied result ≡ find (λ set. not (has_name names.now set.instance)) (flat_map (λ item. flat_map (λ statement. statement.sets) (defparam_statement item)) items.now) }
+    ensures { option_copied result
+        ≡ find (λ set. not (has_name names.now set.instance))
+        (flat_map (λ item. flat_map (λ statement. statement.sets)
+        (defparam_statement item)) items.now) }
 {
     for item in items {
         if let Some(set) = first_in_item(names, item) {
@@ -76,7 +81,8 @@ fn has_defparams(items: &[ItemV]) -> bool
 
 /// The first value of the module for a parameter of no instance, by the set of its instances.
 fn first_unknown(alloc: Global, m: &Module) -> Result<Option<Refusal>, NoMemory>
-    ensures { IfOk result (λ found. found ≡ first_of (map (refused G17 m.now.name) (unknown_instances m.now))) }
+    ensures { IfOk result (λ found. found
+        ≡ first_of (map (refused G17 m.now.name) (unknown_instances m.now))) }
 {
     let listed = instance_names(alloc, m)?;
     let names = name_set(alloc, &listed)?;
@@ -92,7 +98,8 @@ fn first_unknown(alloc: Global, m: &Module) -> Result<Option<Refusal>, NoMemory>
 /// The first value of the module for a parameter of an instance that the module has not. A set of the instances is made only where
 /// such values are given.
 pub fn unknown_instance(alloc: Global, m: &Module) -> Result<Option<Refusal>, NoMemory>
-    ensures { IfOk result (λ found. found ≡ first_of (map (refused G17 m.now.name) (unknown_instances m.now))) }
+    ensures { IfOk result (λ found. found
+        ≡ first_of (map (refused G17 m.now.name) (unknown_instances m.now))) }
 {
     if !has_defparams(m.items.items()) {
         return Ok(None);

@@ -17,7 +17,9 @@ fn first_unlike<'a>(
     listed: &[&'a [u8]],
     inner: &[&'a [u8]],
 ) -> Result<Option<&'a [u8]>, NoMemory>
-    ensures { IfOk result (λ found. option_copied found ≡ first_of (filter (λ name. not (has_name (names_of inner.now) name)) (names_of listed.now) ++ filter (λ name. not (has_name (names_of listed.now) name)) (names_of inner.now))) }
+    ensures { IfOk result (λ found. option_copied found
+        ≡ first_of (filter (λ name. not (has_name (names_of inner.now) name)) (names_of listed.now)
+        ++ filter (λ name. not (has_name (names_of listed.now) name)) (names_of inner.now))) }
 {
     if let Some(name) = first_outside(alloc, listed, inner)? {
         return Ok(Some(name));
@@ -36,7 +38,8 @@ fn first_name<'a>(names: &[&'a [u8]]) -> Option<&'a [u8]>
 }
 
 fn bad_direction<'a>(alloc: Global, m: &'a Module) -> Result<Option<&'a [u8]>, NoMemory>
-    ensures { IfOk result (λ found. option_copied found ≡ first_of (bad_directions m.now m.now.header)) }
+    ensures { IfOk result (λ found. option_copied found
+        ≡ first_of (bad_directions m.now m.now.header)) }
 {
     let inner = inner_directions(alloc, m)?;
     match &m.header {
@@ -52,7 +55,8 @@ fn bad_direction<'a>(alloc: Global, m: &'a Module) -> Result<Option<&'a [u8]>, N
 
 /// The first name of the module that has no direction or has a direction where it may not.
 pub fn without_direction(alloc: Global, m: &Module) -> Result<Option<Refusal>, NoMemory>
-    ensures { IfOk result (λ found. found ≡ first_of (map (refused G5 m.now.name) (without_direction m.now))) }
+    ensures { IfOk result (λ found. found
+        ≡ first_of (map (refused G5 m.now.name) (without_direction m.now))) }
 {
     let found = bad_direction(alloc, m)?;
     match found {

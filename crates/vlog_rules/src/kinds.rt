@@ -105,8 +105,12 @@ impl<'a> Met<'a> {
 
     /// Notes a declaration, and answers whether one that was met clashes with it.
     pub fn note(&mut self, kind: Kind, name: &'a [u8]) -> Result<bool, NoMemory>
-        ensures clashes { IfOk result (λ clashes. clashes ≡ clashes_with kind (kept_kinds self.old name.now)) }
-        ensures noted { OnOk result ((other : Name) → kept_kinds self.new other ≡ (if bytes_eq other name.now then with_kind kind (kept_kinds self.old other) else kept_kinds self.old other)) }
+        ensures clashes { IfOk result
+            (λ clashes. clashes ≡ clashes_with kind (kept_kinds self.old name.now)) }
+        ensures noted { OnOk result ((other : Name)
+            → kept_kinds self.new other
+            ≡ (if bytes_eq other name.now then with_kind kind
+            (kept_kinds self.old other) else kept_kinds self.old other)) }
     {
         let first = with_kind(kind, no_kinds());
         let before = self.kinds.insert(name, first)?;

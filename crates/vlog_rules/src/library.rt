@@ -21,7 +21,9 @@ pub struct ModulePorts<'a> {
 impl<'a> ModulePorts<'a> {
     /// The ports of the module of this name, where it is there.
     pub fn ports(&self, name: &[u8]) -> Option<&NameSet<'a>>
-        ensures { MatchOption result (module_named (modules_of self.now.modules.items) name.now ≡ None) (λ ports. option_map port_names (module_named (modules_of self.now.modules.items) name.now) ≡ Some ports.now) }
+        ensures { MatchOption result (module_named (modules_of self.now.modules.items) name.now
+            ≡ None) (λ ports. option_map port_names
+            (module_named (modules_of self.now.modules.items) name.now) ≡ Some ports.now) }
     {
         match self.names.place(name) {
             None => None,

@@ -20,7 +20,8 @@ pub fn push_texts<'a>(names: &'a [Text], out: &mut Vec<&'a [u8]>) -> Result<(), 
 }
 
 fn push_directions<'a>(item: &'a ItemV, out: &mut Vec<&'a [u8]>) -> Result<(), NoMemory>
-    ensures added { OnOk result (names_of out.new.items ≡ names_of out.old.items ++ flat_map (λ decl. decl.names) (port_decl item.now)) }
+    ensures added { OnOk result (names_of out.new.items
+        ≡ names_of out.old.items ++ flat_map (λ decl. decl.names) (port_decl item.now)) }
 {
     match item {
         ItemV::Port(decl) => push_texts(decl.names.items(), out),
@@ -44,7 +45,8 @@ pub fn inner_directions<'a>(alloc: Global, m: &'a Module) -> Result<Vec<&'a [u8]
 }
 
 fn push_instances<'a>(insts: &'a [VInst], out: &mut Vec<&'a [u8]>) -> Result<(), NoMemory>
-    ensures added { OnOk result (names_of out.new.items ≡ names_of out.old.items ++ map (λ instance. instance.name) insts.now) }
+    ensures added { OnOk result (names_of out.new.items
+        ≡ names_of out.old.items ++ map (λ instance. instance.name) insts.now) }
 {
     for instance in insts {
         out.push(instance.name.bytes())?;
@@ -53,7 +55,10 @@ fn push_instances<'a>(insts: &'a [VInst], out: &mut Vec<&'a [u8]>) -> Result<(),
 }
 
 fn push_item_instances<'a>(item: &'a ItemV, out: &mut Vec<&'a [u8]>) -> Result<(), NoMemory>
-    ensures added { OnOk result (names_of out.new.items ≡ names_of out.old.items ++ map (λ instance. instance.name) (flat_map (λ statement. statement.insts) (instance_statement item.now))) }
+    ensures added { OnOk result (names_of out.new.items
+        ≡ names_of out.old.items
+        ++ map (λ instance. instance.name)
+        (flat_map (λ statement. statement.insts) (instance_statement item.now))) }
 {
     match item {
         ItemV::Instances(statement) => push_instances(statement.insts.items(), out),
@@ -79,7 +84,8 @@ pub fn instance_names<'a>(alloc: Global, m: &'a Module) -> Result<Vec<&'a [u8]>,
 
 /// The set of the names in a list.
 pub fn name_set<'a>(alloc: Global, names: &[&'a [u8]]) -> Result<NameSet<'a>, NoMemory>
-    ensures { IfOk result (λ set. (name : List ℕ) → has_name set name ≡ has_name (names_of names.now) name) }
+    ensures { IfOk result (λ set. (name : List ℕ)
+        → has_name set name ≡ has_name (names_of names.now) name) }
 {
     let mut set = NameSet::empty(alloc);
     for name in names {
@@ -89,7 +95,8 @@ pub fn name_set<'a>(alloc: Global, names: &[&'a [u8]]) -> Result<NameSet<'a>, No
 }
 
 fn first_not_in<'a>(set: &NameSet, names: &[&'a [u8]]) -> Option<&'a [u8]>
-    ensures { option_copied result ≡ find (λ name. not (has_name set.now name)) (names_of names.now) }
+    ensures { option_copied result
+        ≡ find (λ name. not (has_name set.now name)) (names_of names.now) }
 {
     for name in names {
         if !set.has(*name) {
@@ -105,7 +112,9 @@ pub fn first_outside<'a>(
     names: &[&'a [u8]],
     others: &[&'a [u8]],
 ) -> Result<Option<&'a [u8]>, NoMemory>
-    ensures { IfOk result (λ found. option_copied found ≡ first_of (filter (λ name. not (has_name (names_of others.now) name)) (names_of names.now))) }
+    ensures { IfOk result (λ found. option_copied found
+        ≡ first_of (filter (λ name. not (has_name (names_of others.now) name))
+        (names_of names.now))) }
 {
     let set = name_set(alloc, others)?;
     let found = first_not_in(&set, names);

@@ -29,7 +29,8 @@ pub fn first_in_modules<R: ModuleRule>(
     rule: &R,
     modules: &[&Module],
 ) -> Result<Option<Refusal>, NoMemory>
-    ensures { IfOk result (λ found. found ≡ first_of (flat_map (R.refusals rule.now) (modules_of modules.now))) }
+    ensures { IfOk result (λ found. found
+        ≡ first_of (flat_map (R.refusals rule.now) (modules_of modules.now))) }
 {
     for m in modules {
         if let Some(refusal) = rule.first(alloc, *m)? {
@@ -74,7 +75,8 @@ pub trait ScopeRule {
 
     /// The first object of the module that breaks the rule.
     fn first(&self, alloc: Global, scope: &ModuleScope) -> Result<Option<Refusal>, NoMemory>
-        ensures { IfOk result (λ found. found ≡ first_of (refusals self.now scope.now.module.now)) };
+        ensures { IfOk result (λ found. found
+            ≡ first_of (refusals self.now scope.now.module.now)) };
 }
 
 /// The first object of the modules that breaks the rule.
@@ -83,7 +85,8 @@ pub fn first_in_scopes<R: ScopeRule>(
     rule: &R,
     scopes: &[ModuleScope],
 ) -> Result<Option<Refusal>, NoMemory>
-    ensures { IfOk result (λ found. found ≡ first_of (flat_map (λ scope. R.refusals rule.now scope.module.now) scopes.now)) }
+    ensures { IfOk result (λ found. found
+        ≡ first_of (flat_map (λ scope. R.refusals rule.now scope.module.now) scopes.now)) }
 {
     for scope in scopes {
         if let Some(refusal) = rule.first(alloc, scope)? {

@@ -60,7 +60,9 @@ fn first_other<'a>(table: &Table, decl: &'a NetDecl) -> Option<&'a [u8]>
 
 #[tactic(auto, using(crate::proofs::RuleLaws::first_filter))]
 fn first_in_item<'a>(table: &Table, item: &'a ItemV) -> Option<&'a [u8]>
-    ensures { option_copied result ≡ first_of (flat_map (λ decl. filter (other_in table.now decl.range) decl.names) (net_decl item.now)) }
+    ensures { option_copied result
+        ≡ first_of (flat_map (λ decl. filter (other_in table.now decl.range) decl.names)
+        (net_decl item.now)) }
 {
     match item {
         ItemV::Net(decl) => first_other(table, decl),
@@ -73,7 +75,9 @@ fn first_in_item<'a>(table: &Table, item: &'a ItemV) -> Option<&'a [u8]>
 }
 
 fn first_in_items<'a>(table: &Table, items: &'a [ItemV]) -> Option<&'a [u8]>
-    ensures { option_copied result ≡ first_of (flat_map (λ decl. filter (other_in table.now decl.range) decl.names) (flat_map net_decl items.now)) }
+    ensures { option_copied result
+        ≡ first_of (flat_map (λ decl. filter (other_in table.now decl.range) decl.names)
+        (flat_map net_decl items.now)) }
 {
     for item in items {
         if let Some(name) = first_in_item(table, item) {
@@ -86,7 +90,8 @@ fn first_in_items<'a>(table: &Table, items: &'a [ItemV]) -> Option<&'a [u8]>
 /// The first port of the module whose net declaration has another range, or has one where the port has none.
 pub fn other_range(alloc: Global, m: &Module, table: &Table) -> Result<Option<Refusal>, NoMemory>
     requires { table.now ≡ signals m.now }
-    ensures { IfOk result (λ found. found ≡ first_of (map (refused G15 m.now.name) (other_ranges m.now))) }
+    ensures { IfOk result (λ found. found
+        ≡ first_of (map (refused G15 m.now.name) (other_ranges m.now))) }
 {
     match first_in_items(table, m.items.items()) {
         None => Ok(None),

@@ -27,7 +27,8 @@ pub fn refuse_two(
     outer: &[u8],
     inner: &[u8],
 ) -> Result<Refusal, NoMemory>
-    ensures { IfOk result (λ refusal. refusal ≡ refused rule cell.now (outer.now ∷ inner.now ∷ [])) }
+    ensures { IfOk result (λ refusal. refusal
+        ≡ refused rule cell.now (outer.now ∷ inner.now ∷ [])) }
 {
     let mut names = Seq::empty(alloc);
     names.push(Text::copy(alloc, outer)?)?;
@@ -58,7 +59,9 @@ pub fn refuse_in_statement(
     insts: &[VInst],
     name: &[u8],
 ) -> Result<Refusal, NoMemory>
-    ensures { IfOk result (λ refusal. refusal ≡ refused rule cell.now (map (λ instance. instance.name) (take 1 insts.now) ++ name.now ∷ [])) }
+    ensures { IfOk result (λ refusal. refusal
+        ≡ refused rule cell.now
+        (map (λ instance. instance.name) (take 1 insts.now) ++ name.now ∷ [])) }
 {
     let mut names = first_name(alloc, insts)?;
     names.push(Text::copy(alloc, name)?)?;

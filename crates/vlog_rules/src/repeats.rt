@@ -38,7 +38,8 @@ fn first_among<'a>(names: &[&'a [u8]]) -> Option<&'a [u8]>
 
 /// The first of many names that stands in the list before.
 fn first_in_set<'a>(alloc: Global, names: &[&'a [u8]]) -> Result<Option<&'a [u8]>, NoMemory>
-    ensures { IfOk result (λ found. option_copied found ≡ first_of (clashing bytes_eq [] (names_of names.now))) }
+    ensures { IfOk result (λ found. option_copied found
+        ≡ first_of (clashing bytes_eq [] (names_of names.now))) }
 {
     let mut seen = NameSet::empty(alloc);
     for name in names {
@@ -52,7 +53,8 @@ fn first_in_set<'a>(alloc: Global, names: &[&'a [u8]]) -> Result<Option<&'a [u8]
 
 /// The first name that stands in the list before.
 pub fn first_repeated<'a>(alloc: Global, names: &[&'a [u8]]) -> Result<Option<&'a [u8]>, NoMemory>
-    ensures { IfOk result (λ found. option_copied found ≡ first_of (clashing bytes_eq [] (names_of names.now))) }
+    ensures { IfOk result (λ found. option_copied found
+        ≡ first_of (clashing bytes_eq [] (names_of names.now))) }
 {
     if names.len() <= FEW {
         return Ok(first_among(names));
@@ -84,7 +86,8 @@ fn names_of_params<'a>(alloc: Global, sets: &'a [ParamSet]) -> Result<Vec<&'a [u
 
 /// The first parameter that is given again.
 pub fn repeated_param<'a>(alloc: Global, sets: &'a [ParamSet]) -> Result<Option<&'a [u8]>, NoMemory>
-    ensures { IfOk result (λ found. option_copied found ≡ first_of (clashing bytes_eq [] (map (λ set. set.name) sets.now))) }
+    ensures { IfOk result (λ found. option_copied found
+        ≡ first_of (clashing bytes_eq [] (map (λ set. set.name) sets.now))) }
 {
     if sets.len() < 2 {
         return Ok(None);
@@ -108,7 +111,8 @@ fn is_named(conns: &[NamedConn], port: &[u8]) -> bool
 
 /// The first port that a few connections name again, found without a list of the ports.
 fn first_named_again<'a>(conns: &'a [NamedConn]) -> Option<&'a [u8]>
-    ensures { option_copied result ≡ first_of (clashing bytes_eq [] (map (λ conn. conn.port) conns.now)) }
+    ensures { option_copied result
+        ≡ first_of (clashing bytes_eq [] (map (λ conn. conn.port) conns.now)) }
 {
     for place in 0..conns.len() {
         let port = conns[place].port.bytes();
@@ -133,7 +137,8 @@ fn repeated_in_named<'a>(
     alloc: Global,
     conns: &'a [NamedConn],
 ) -> Result<Option<&'a [u8]>, NoMemory>
-    ensures { IfOk result (λ found. option_copied found ≡ first_of (clashing bytes_eq [] (map (λ conn. conn.port) conns.now))) }
+    ensures { IfOk result (λ found. option_copied found
+        ≡ first_of (clashing bytes_eq [] (map (λ conn. conn.port) conns.now))) }
 {
     if conns.len() <= FEW {
         return Ok(first_named_again(conns));
@@ -146,7 +151,8 @@ fn repeated_in_named<'a>(
 /// The first port that connections name again.
 #[tactic(auto, unfolding(vlog_design::specs::Names::clashing))]
 pub fn repeated_port<'a>(alloc: Global, conns: &'a Conns) -> Result<Option<&'a [u8]>, NoMemory>
-    ensures { IfOk result (λ found. option_copied found ≡ first_of (clashing bytes_eq [] (conn_names conns.now))) }
+    ensures { IfOk result (λ found. option_copied found
+        ≡ first_of (clashing bytes_eq [] (conn_names conns.now))) }
 {
     match conns {
         Conns::Named(conns) => repeated_in_named(alloc, conns.items()),

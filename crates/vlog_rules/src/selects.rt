@@ -48,7 +48,8 @@ fn is_bad(table: &Table, u: &UseOf) -> bool
 }
 
 fn first_bad<'a>(table: &Table, uses: &[UseOf<'a>]) -> Option<&'a [u8]>
-    ensures { option_copied result ≡ option_map (λ u. u.name) (find (bad_select_in table.now) (uses_of uses.now)) }
+    ensures { option_copied result
+        ≡ option_map (λ u. u.name) (find (bad_select_in table.now) (uses_of uses.now)) }
 {
     for u in uses {
         if is_bad(table, u) {
@@ -61,7 +62,8 @@ fn first_bad<'a>(table: &Table, uses: &[UseOf<'a>]) -> Option<&'a [u8]>
 /// The first select of the module that means no bits.
 pub fn bad_select(alloc: Global, m: &Module, table: &Table) -> Result<Option<Refusal>, NoMemory>
     requires { table.now ≡ signals m.now }
-    ensures { IfOk result (λ found. found ≡ first_of (map (refused G7 m.now.name) (bad_selects m.now))) }
+    ensures { IfOk result (λ found. found
+        ≡ first_of (map (refused G7 m.now.name) (bad_selects m.now))) }
 {
     let uses = uses_in(alloc, m)?;
     match first_bad(table, &uses) {

@@ -24,7 +24,9 @@ pub trait StatementRule {
         cell: &[u8],
         statement: &Instances,
     ) -> Result<Option<Refusal>, NoMemory>
-        ensures { IfOk result (λ found. found ≡ option_map (refused (number self.now) cell.now) (first_of (objects self.now statement.now))) };
+        ensures { IfOk result (λ found. found
+            ≡ option_map (refused (number self.now) cell.now)
+            (first_of (objects self.now statement.now))) };
 }
 
 fn first_in_item<R: StatementRule>(
@@ -33,7 +35,9 @@ fn first_in_item<R: StatementRule>(
     cell: &[u8],
     item: &ItemV,
 ) -> Result<Option<Refusal>, NoMemory>
-    ensures { IfOk result (λ found. found ≡ option_map (refused (R.number rule.now) cell.now) (first_of (flat_map (R.objects rule.now) (instance_statement item.now)))) }
+    ensures { IfOk result (λ found. found
+        ≡ option_map (refused (R.number rule.now) cell.now)
+        (first_of (flat_map (R.objects rule.now) (instance_statement item.now)))) }
 {
     match item {
         ItemV::Instances(statement) => rule.first(alloc, cell, statement),
@@ -51,7 +55,9 @@ fn first_in_items<R: StatementRule>(
     cell: &[u8],
     items: &[ItemV],
 ) -> Result<Option<Refusal>, NoMemory>
-    ensures { IfOk result (λ found. found ≡ option_map (refused (R.number rule.now) cell.now) (first_of (flat_map (R.objects rule.now) (flat_map instance_statement items.now)))) }
+    ensures { IfOk result (λ found. found
+        ≡ option_map (refused (R.number rule.now) cell.now)
+        (first_of (flat_map (R.objects rule.now) (flat_map instance_statement items.now)))) }
 {
     for item in items {
         if let Some(refusal) = first_in_item(alloc, rule, cell, item)? {
@@ -67,7 +73,9 @@ pub fn first_in_statements<R: StatementRule>(
     rule: &R,
     m: &Module,
 ) -> Result<Option<Refusal>, NoMemory>
-    ensures { IfOk result (λ found. found ≡ first_of (map (refused (R.number rule.now) m.now.name) (each_statement (R.objects rule.now) m.now))) }
+    ensures { IfOk result (λ found. found
+        ≡ first_of (map (refused (R.number rule.now) m.now.name)
+        (each_statement (R.objects rule.now) m.now))) }
 {
     let found = first_in_items(alloc, rule, m.name.bytes(), m.items.items())?;
     Ok(found)
@@ -91,7 +99,9 @@ pub trait InstanceRule {
         of: &[u8],
         instance: &VInst,
     ) -> Result<Option<Refusal>, NoMemory>
-        ensures { IfOk result (λ found. found ≡ option_map (refused (number self.now) cell.now) (first_of (objects self.now of.now instance.now))) };
+        ensures { IfOk result (λ found. found
+            ≡ option_map (refused (number self.now) cell.now)
+            (first_of (objects self.now of.now instance.now))) };
 }
 
 /// A rule on instances, as one on statements.
@@ -107,7 +117,9 @@ fn first_in_instances<R: InstanceRule>(
     of: &[u8],
     insts: &[VInst],
 ) -> Result<Option<Refusal>, NoMemory>
-    ensures { IfOk result (λ found. found ≡ option_map (refused (R.number rule.now) cell.now) (first_of (flat_map (R.objects rule.now of.now) insts.now))) }
+    ensures { IfOk result (λ found. found
+        ≡ option_map (refused (R.number rule.now) cell.now)
+        (first_of (flat_map (R.objects rule.now of.now) insts.now))) }
 {
     for instance in insts {
         if let Some(refusal) = rule.first(alloc, cell, of, instance)? {

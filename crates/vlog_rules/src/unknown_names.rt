@@ -13,7 +13,9 @@ use vlog_design::uses::{UseOf, uses_in};
 use vlog_values::Module;
 
 fn first_unknown<'a>(table: &Table, uses: &[UseOf<'a>]) -> Option<&'a [u8]>
-    ensures { option_copied result ≡ option_map (λ u. u.name) (find (λ u. is_none (signal_named table.now u.name)) (uses_of uses.now)) }
+    ensures { option_copied result
+        ≡ option_map (λ u. u.name)
+        (find (λ u. is_none (signal_named table.now u.name)) (uses_of uses.now)) }
 {
     for u in uses {
         if table.find(u.name).is_none() {
@@ -27,7 +29,8 @@ fn first_unknown<'a>(table: &Table, uses: &[UseOf<'a>]) -> Option<&'a [u8]>
 #[tactic(auto, unfolding(vlog_design::specs::Rules::unknown_names))]
 pub fn unknown_name(alloc: Global, m: &Module, table: &Table) -> Result<Option<Refusal>, NoMemory>
     requires { table.now ≡ signals m.now }
-    ensures { IfOk result (λ found. found ≡ first_of (map (refused G6 m.now.name) (unknown_names m.now))) }
+    ensures { IfOk result (λ found. found
+        ≡ first_of (map (refused G6 m.now.name) (unknown_names m.now))) }
 {
     let uses = uses_in(alloc, m)?;
     match first_unknown(table, &uses) {

@@ -30,7 +30,9 @@ fn wide_name<'a>(table: &Table<'a>, number: usize) -> Option<&'a [u8]>
 }
 
 fn first_wide<'a>(table: &Table<'a>) -> Option<&'a [u8]>
-    ensures { option_copied result ≡ option_map (λ signal. signal.name) (find (λ signal. nat_lt 65536 (width_of signal.slot.range)) table.now) }
+    ensures { option_copied result
+        ≡ option_map (λ signal. signal.name)
+        (find (λ signal. nat_lt 65536 (width_of signal.slot.range)) table.now) }
 {
     for number in 0..table.len() {
         if let Some(name) = wide_name(table, number) {
@@ -43,7 +45,8 @@ fn first_wide<'a>(table: &Table<'a>) -> Option<&'a [u8]>
 /// The first port or net of the module that has too many bits.
 pub fn too_wide(alloc: Global, m: &Module, table: &Table) -> Result<Option<Refusal>, NoMemory>
     requires { table.now ≡ signals m.now }
-    ensures { IfOk result (λ found. found ≡ first_of (map (refused G12 m.now.name) (too_wide m.now))) }
+    ensures { IfOk result (λ found. found
+        ≡ first_of (map (refused G12 m.now.name) (too_wide m.now))) }
 {
     match first_wide(table) {
         None => Ok(None),

@@ -42,7 +42,8 @@ fn has_wrong_use(alloc: Global, scope: &ModuleScope) -> Result<bool, NoMemory>
 
 /// Whether one of the uses in the modules is wrong.
 pub fn have_wrong_use(alloc: Global, scopes: &[ModuleScope]) -> Result<bool, NoMemory>
-    ensures { IfOk result (λ wrong. wrong ≡ list_any (λ scope. has_wrong_use scope.module.now) scopes.now) }
+    ensures { IfOk result (λ wrong. wrong
+        ≡ list_any (λ scope. has_wrong_use scope.module.now) scopes.now) }
 {
     for scope in scopes {
         let wrong = has_wrong_use(alloc, scope)?;

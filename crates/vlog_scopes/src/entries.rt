@@ -23,7 +23,9 @@ fn push_entry<'a>(
     place: SignalAt,
     out: &mut Vec<(&'a [u8], Slot)>,
 ) -> Result<(), NoMemory>
-    ensures added { OnOk result (signals_of out.new.items ≡ signals_of out.old.items ++ record { name = name.now; slot = record { range = range; place = place } } ∷ []) }
+    ensures added { OnOk result (signals_of out.new.items
+        ≡ signals_of out.old.items
+        ++ record { name = name.now; slot = record { range = range; place = place } } ∷ []) }
 {
     if let Ok(_) = out.push((name, Slot { range, place })) {
         return Ok(());
@@ -39,7 +41,9 @@ fn push_ports<'a>(
 ) -> Result<(), NoMemory>
     requires few { length listed.now ≤ 2 ^ 32 }
     requires are_named { names.now ≡ lent_names directions.now }
-    ensures added { OnOk result (signals_of out.new.items ≡ signals_of out.old.items ++ port_slots (ranged_names directions.now) 0 (names_of listed.now)) }
+    ensures added { OnOk result (signals_of out.new.items
+        ≡ signals_of out.old.items
+        ++ port_slots (ranged_names directions.now) 0 (names_of listed.now)) }
 {
     for number in 0..listed.len() {
         let name = listed[number];
@@ -57,7 +61,8 @@ fn push_port_entries<'a>(
 ) -> Result<(), NoMemory>
     requires once { declared_twice m.now ≡ [] }
     requires small { module_size m.now ≤ 268435456 }
-    ensures added { OnOk result (signals_of out.new.items ≡ signals_of out.old.items ++ port_signals m.now 0 (port_names m.now)) }
+    ensures added { OnOk result (signals_of out.new.items
+        ≡ signals_of out.old.items ++ port_signals m.now 0 (port_names m.now)) }
 {
     let listed = ports_in(alloc, m)?;
     let directions = directions_in(alloc, m)?;
@@ -80,7 +85,8 @@ fn bits_of(range: Option<Range>) -> u64
 /// Adds the nets, and answers the number behind their last bit.
 fn push_nets<'a>(nets: &[Ranged<'a>], out: &mut Vec<(&'a [u8], Slot)>) -> Result<u64, NoMemory>
     requires few { length nets.now ≤ 268435456 }
-    ensures added { OnOk result (signals_of out.new.items ≡ signals_of out.old.items ++ net_slots 0 (ranged_names nets.now)) }
+    ensures added { OnOk result (signals_of out.new.items
+        ≡ signals_of out.old.items ++ net_slots 0 (ranged_names nets.now)) }
     ensures behind { IfOk result (λ next. next ≡ number_behind 0 (ranged_names nets.now)) }
     ensures bound { IfOk result (λ next. next ≤ 2 ^ 60) }
 {
@@ -100,7 +106,8 @@ fn push_net_entries<'a>(
 ) -> Result<u64, NoMemory>
     requires once { declared_twice m.now ≡ [] }
     requires small { module_size m.now ≤ 268435456 }
-    ensures added { OnOk result (signals_of out.new.items ≡ signals_of out.old.items ++ net_slots 0 (declared_nets m.now)) }
+    ensures added { OnOk result (signals_of out.new.items
+        ≡ signals_of out.old.items ++ net_slots 0 (declared_nets m.now)) }
     ensures behind { IfOk result (λ next. next ≡ number_behind 0 (declared_nets m.now)) }
     ensures bound { IfOk result (λ next. next ≤ 2 ^ 60) }
 {
@@ -118,7 +125,8 @@ fn push_single<'a>(
     out: &mut Vec<(&'a [u8], Slot)>,
 ) -> Result<(), NoMemory>
     requires { first ≤ 2 ^ 60 }
-    ensures added { OnOk result (signals_of out.new.items ≡ signals_of out.old.items ++ net_slots first (of_range None (names_of names.now))) }
+    ensures added { OnOk result (signals_of out.new.items
+        ≡ signals_of out.old.items ++ net_slots first (of_range None (names_of names.now))) }
 {
     for number in 0..names.len() {
         push_entry(
@@ -139,7 +147,8 @@ pub(crate) fn push_implicit_entries<'a>(
     out: &mut Vec<(&'a [u8], Slot)>,
 ) -> Result<(), NoMemory>
     requires { first ≤ 2 ^ 60 }
-    ensures added { OnOk result (signals_of out.new.items ≡ signals_of out.old.items ++ net_slots first (of_range None (implicit_names m.now))) }
+    ensures added { OnOk result (signals_of out.new.items
+        ≡ signals_of out.old.items ++ net_slots first (of_range None (implicit_names m.now))) }
 {
     let names = implicit_in(alloc, m)?;
     push_single(&names, first, out)?;
@@ -154,7 +163,8 @@ pub(crate) fn push_declared_entries<'a>(
 ) -> Result<u64, NoMemory>
     requires once { declared_twice m.now ≡ [] }
     requires small { module_size m.now ≤ 268435456 }
-    ensures added { OnOk result (signals_of out.new.items ≡ signals_of out.old.items ++ declared_signals m.now) }
+    ensures added { OnOk result (signals_of out.new.items
+        ≡ signals_of out.old.items ++ declared_signals m.now) }
     ensures behind { IfOk result (λ next. next ≡ number_behind 0 (declared_nets m.now)) }
     ensures bound { IfOk result (λ next. next ≤ 2 ^ 60) }
 {

@@ -37,7 +37,8 @@ fn push_undeclared<'a>(
     u: &UseOf<'a>,
     out: &mut Vec<&'a [u8]>,
 ) -> Result<(), NoMemory>
-    ensures added { OnOk result (names_of out.new.items ≡ names_of out.old.items ++ undeclared declared.now (use_of u.now ∷ [])) }
+    ensures added { OnOk result (names_of out.new.items
+        ≡ names_of out.old.items ++ undeclared declared.now (use_of u.now ∷ [])) }
 {
     if !is_undeclared(declared, u) {
         return Ok(());
@@ -51,7 +52,8 @@ fn undeclared_in<'a>(
     declared: &NameSet,
     uses: &[UseOf<'a>],
 ) -> Result<Vec<&'a [u8]>, NoMemory>
-    ensures { IfOk result (λ names. names_of names.items ≡ undeclared declared.now (uses_of uses.now)) }
+    ensures { IfOk result (λ names. names_of names.items
+        ≡ undeclared declared.now (uses_of uses.now)) }
 {
     let mut names = Vec::new(alloc);
     for u in uses {
@@ -66,7 +68,9 @@ fn undeclared_set<'a>(
     declared: &NameSet,
     m: &'a Module,
 ) -> Result<NameSet<'a>, NoMemory>
-    ensures { IfOk result (λ set. (name : List ℕ) → has_name set name ≡ (not (has_name declared.now name) && list_any (λ u. bytes_eq name u.name && is_whole u.select) (target_uses m.now))) }
+    ensures { IfOk result (λ set. (name : List ℕ)
+        → has_name set name ≡ (not (has_name declared.now name)
+        && list_any (λ u. bytes_eq name u.name && is_whole u.select) (target_uses m.now))) }
 {
     let uses = targets_in(alloc, m)?;
     let names = undeclared_in(alloc, declared, &uses)?;
@@ -80,7 +84,8 @@ fn push_new<'a>(
     out: &mut Vec<&'a [u8]>,
 ) -> Result<(), NoMemory>
     ensures seen { OnOk result (seen.new ≡ seen.old ++ new_place (λ _. true) seen.old name.now) }
-    ensures added { OnOk result (names_of out.new.items ≡ names_of out.old.items ++ new_place (λ _. true) seen.old name.now) }
+    ensures added { OnOk result (names_of out.new.items
+        ≡ names_of out.old.items ++ new_place (λ _. true) seen.old name.now) }
 {
     let new = seen.add(name)?;
     if !new {
@@ -96,8 +101,10 @@ fn push_use<'a>(
     seen: &mut NameSet<'a>,
     out: &mut Vec<&'a [u8]>,
 ) -> Result<(), NoMemory>
-    ensures seen { OnOk result (seen.new ≡ seen.old ++ new_place (has_name nets.now) seen.old name.now) }
-    ensures added { OnOk result (names_of out.new.items ≡ names_of out.old.items ++ new_place (has_name nets.now) seen.old name.now) }
+    ensures seen { OnOk result (seen.new
+        ≡ seen.old ++ new_place (has_name nets.now) seen.old name.now) }
+    ensures added { OnOk result (names_of out.new.items
+        ≡ names_of out.old.items ++ new_place (has_name nets.now) seen.old name.now) }
 {
     if !nets.has(name) {
         return Ok(());
@@ -111,7 +118,8 @@ fn new_names<'a>(
     nets: &NameSet,
     uses: &[UseOf<'a>],
 ) -> Result<Vec<&'a [u8]>, NoMemory>
-    ensures { IfOk result (λ names. names_of names.items ≡ new_places (has_name nets.now) [] (used_names (uses_of uses.now))) }
+    ensures { IfOk result (λ names. names_of names.items
+        ≡ new_places (has_name nets.now) [] (used_names (uses_of uses.now))) }
 {
     let mut seen = NameSet::empty(alloc);
     let mut names = Vec::new(alloc);

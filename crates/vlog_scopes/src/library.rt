@@ -38,7 +38,8 @@ fn port_sets<'a>(alloc: Global, modules: &[&'a Module]) -> Result<Vec<NameSet<'a
 pub fn library_of<'a>(alloc: Global, modules: Vec<&'a Module>) -> Result<ModulePorts<'a>, NoMemory>
     requires differ { Distinct (module_names (modules_of modules.items)) }
     requires once { AreDeclaredOnce (modules_of modules.items) }
-    ensures { IfOk result (λ library. modules_of library.modules.items ≡ modules_of modules.entry.items) }
+    ensures { IfOk result (λ library. modules_of library.modules.items
+        ≡ modules_of modules.entry.items) }
 {
     let names = module_set(alloc, &modules)?;
     let ports = port_sets(alloc, &modules)?;

@@ -18,7 +18,8 @@ use vlog_rules::lists::{name_set, push_texts};
 use vlog_values::{Header, Module, PortDecl};
 
 fn push_decls<'a>(decls: &'a [PortDecl], out: &mut Vec<&'a [u8]>) -> Result<(), NoMemory>
-    ensures added { OnOk result (names_of out.new.items ≡ names_of out.old.items ++ flat_map (λ decl. decl.names) decls.now) }
+    ensures added { OnOk result (names_of out.new.items
+        ≡ names_of out.old.items ++ flat_map (λ decl. decl.names) decls.now) }
 {
     for decl in decls {
         push_texts(decl.names.items(), out)?;
@@ -28,7 +29,8 @@ fn push_decls<'a>(decls: &'a [PortDecl], out: &mut Vec<&'a [u8]>) -> Result<(), 
 
 #[tactic(auto, unfolding(vlog_design::specs::Names::header_names))]
 fn push_ports<'a>(header: &'a Header, out: &mut Vec<&'a [u8]>) -> Result<(), NoMemory>
-    ensures added { OnOk result (names_of out.new.items ≡ names_of out.old.items ++ header_names header.now) }
+    ensures added { OnOk result (names_of out.new.items
+        ≡ names_of out.old.items ++ header_names header.now) }
 {
     match header {
         Header::Names(names) => push_texts(names.items(), out),
@@ -83,7 +85,8 @@ fn names_declared<'a>(
     alloc: Global,
     declarations: &[(Kind, &'a [u8])],
 ) -> Result<Vec<&'a [u8]>, NoMemory>
-    ensures { IfOk result (λ names. names_of names.items ≡ declared_names (declarations_of declarations.now)) }
+    ensures { IfOk result (λ names. names_of names.items
+        ≡ declared_names (declarations_of declarations.now)) }
 {
     let mut names = Vec::new(alloc);
     for declaration in declarations {

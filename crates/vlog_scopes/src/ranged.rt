@@ -20,7 +20,8 @@ fn push_one<'a>(
     range: Option<Range>,
     out: &mut Vec<Ranged<'a>>,
 ) -> Result<(), NoMemory>
-    ensures added { OnOk result (ranged_names out.new.items ≡ ranged_names out.old.items ++ record { name = name.now; range = range } ∷ []) }
+    ensures added { OnOk result (ranged_names out.new.items
+        ≡ ranged_names out.old.items ++ record { name = name.now; range = range } ∷ []) }
 {
     if let Ok(_) = out.push(Ranged { name, range }) {
         return Ok(());
@@ -29,7 +30,8 @@ fn push_one<'a>(
 }
 
 fn push_ports<'a>(decl: &'a PortDecl, out: &mut Vec<Ranged<'a>>) -> Result<(), NoMemory>
-    ensures added { OnOk result (ranged_names out.new.items ≡ ranged_names out.old.items ++ ranged_ports decl.now) }
+    ensures added { OnOk result (ranged_names out.new.items
+        ≡ ranged_names out.old.items ++ ranged_ports decl.now) }
 {
     for name in decl.names.items() {
         push_one(name.bytes(), decl.range, out)?;
@@ -38,7 +40,8 @@ fn push_ports<'a>(decl: &'a PortDecl, out: &mut Vec<Ranged<'a>>) -> Result<(), N
 }
 
 fn push_nets<'a>(decl: &'a NetDecl, out: &mut Vec<Ranged<'a>>) -> Result<(), NoMemory>
-    ensures added { OnOk result (ranged_names out.new.items ≡ ranged_names out.old.items ++ ranged_nets decl.now) }
+    ensures added { OnOk result (ranged_names out.new.items
+        ≡ ranged_names out.old.items ++ ranged_nets decl.now) }
 {
     for name in decl.names.items() {
         push_one(name.bytes(), decl.range, out)?;
@@ -47,7 +50,8 @@ fn push_nets<'a>(decl: &'a NetDecl, out: &mut Vec<Ranged<'a>>) -> Result<(), NoM
 }
 
 fn push_decls<'a>(decls: &'a [PortDecl], out: &mut Vec<Ranged<'a>>) -> Result<(), NoMemory>
-    ensures added { OnOk result (ranged_names out.new.items ≡ ranged_names out.old.items ++ flat_map ranged_ports decls.now) }
+    ensures added { OnOk result (ranged_names out.new.items
+        ≡ ranged_names out.old.items ++ flat_map ranged_ports decls.now) }
 {
     for decl in decls {
         push_ports(decl, out)?;
@@ -56,7 +60,8 @@ fn push_decls<'a>(decls: &'a [PortDecl], out: &mut Vec<Ranged<'a>>) -> Result<()
 }
 
 fn push_header<'a>(header: &'a Header, out: &mut Vec<Ranged<'a>>) -> Result<(), NoMemory>
-    ensures added { OnOk result (ranged_names out.new.items ≡ ranged_names out.old.items ++ flat_map ranged_ports (header_decls header.now)) }
+    ensures added { OnOk result (ranged_names out.new.items
+        ≡ ranged_names out.old.items ++ flat_map ranged_ports (header_decls header.now)) }
 {
     match header {
         Header::Names(_) => Ok(()),
@@ -65,7 +70,8 @@ fn push_header<'a>(header: &'a Header, out: &mut Vec<Ranged<'a>>) -> Result<(), 
 }
 
 fn push_item_ports<'a>(item: &'a ItemV, out: &mut Vec<Ranged<'a>>) -> Result<(), NoMemory>
-    ensures added { OnOk result (ranged_names out.new.items ≡ ranged_names out.old.items ++ flat_map ranged_ports (port_decl item.now)) }
+    ensures added { OnOk result (ranged_names out.new.items
+        ≡ ranged_names out.old.items ++ flat_map ranged_ports (port_decl item.now)) }
 {
     match item {
         ItemV::Port(decl) => push_ports(decl, out),
@@ -78,7 +84,8 @@ fn push_item_ports<'a>(item: &'a ItemV, out: &mut Vec<Ranged<'a>>) -> Result<(),
 }
 
 fn push_items_ports<'a>(items: &'a [ItemV], out: &mut Vec<Ranged<'a>>) -> Result<(), NoMemory>
-    ensures added { OnOk result (ranged_names out.new.items ≡ ranged_names out.old.items ++ flat_map ranged_ports (flat_map port_decl items.now)) }
+    ensures added { OnOk result (ranged_names out.new.items
+        ≡ ranged_names out.old.items ++ flat_map ranged_ports (flat_map port_decl items.now)) }
 {
     for item in items {
         push_item_ports(item, out)?;
@@ -88,7 +95,8 @@ fn push_items_ports<'a>(items: &'a [ItemV], out: &mut Vec<Ranged<'a>>) -> Result
 
 /// The names to which declarations give a direction, with their ranges, in the order of the text.
 pub fn directions_in<'a>(alloc: Global, m: &'a Module) -> Result<Vec<Ranged<'a>>, NoMemory>
-    ensures { IfOk result (λ found. ranged_names found.items ≡ flat_map ranged_ports (port_decls m.now)) }
+    ensures { IfOk result (λ found. ranged_names found.items
+        ≡ flat_map ranged_ports (port_decls m.now)) }
 {
     let mut found = Vec::new(alloc);
     push_header(&m.header, &mut found)?;
@@ -97,7 +105,8 @@ pub fn directions_in<'a>(alloc: Global, m: &'a Module) -> Result<Vec<Ranged<'a>>
 }
 
 fn push_item_nets<'a>(item: &'a ItemV, out: &mut Vec<Ranged<'a>>) -> Result<(), NoMemory>
-    ensures added { OnOk result (ranged_names out.new.items ≡ ranged_names out.old.items ++ flat_map ranged_nets (net_decl item.now)) }
+    ensures added { OnOk result (ranged_names out.new.items
+        ≡ ranged_names out.old.items ++ flat_map ranged_nets (net_decl item.now)) }
 {
     match item {
         ItemV::Net(decl) => push_nets(decl, out),
@@ -112,7 +121,8 @@ fn push_item_nets<'a>(item: &'a ItemV, out: &mut Vec<Ranged<'a>>) -> Result<(), 
 /// The names that are declared as nets, with their ranges, in the order of the text.
 #[tactic(auto, unfolding(vlog_design::specs::Names::net_decls))]
 pub fn nets_in<'a>(alloc: Global, m: &'a Module) -> Result<Vec<Ranged<'a>>, NoMemory>
-    ensures { IfOk result (λ found. ranged_names found.items ≡ flat_map ranged_nets (net_decls m.now)) }
+    ensures { IfOk result (λ found. ranged_names found.items
+        ≡ flat_map ranged_nets (net_decls m.now)) }
 {
     let mut found = Vec::new(alloc);
     for item in m.items.items() {
@@ -126,7 +136,9 @@ fn push_other<'a>(
     one: &Ranged<'a>,
     out: &mut Vec<Ranged<'a>>,
 ) -> Result<(), NoMemory>
-    ensures added { OnOk result (ranged_names out.new.items ≡ ranged_names out.old.items ++ filter (λ other. not (has_name ports.now other.name)) (ranged_name one.now ∷ [])) }
+    ensures added { OnOk result (ranged_names out.new.items
+        ≡ ranged_names out.old.items
+        ++ filter (λ other. not (has_name ports.now other.name)) (ranged_name one.now ∷ [])) }
 {
     if ports.has(one.name) {
         return Ok(());
@@ -140,7 +152,8 @@ pub fn without_ports<'a>(
     ports: &NameSet,
     ranged: &[Ranged<'a>],
 ) -> Result<Vec<Ranged<'a>>, NoMemory>
-    ensures { IfOk result (λ found. ranged_names found.items ≡ filter (λ other. not (has_name ports.now other.name)) (ranged_names ranged.now)) }
+    ensures { IfOk result (λ found. ranged_names found.items
+        ≡ filter (λ other. not (has_name ports.now other.name)) (ranged_names ranged.now)) }
 {
     let mut found = Vec::new(alloc);
     for one in ranged {

@@ -22,7 +22,8 @@ fn push_link<'a>(
     out: &mut Vec<(&'a [u8], u32)>,
 ) -> Result<(), NoMemory>
     requires { IfSome place (λ number. number < 2 ^ 32) }
-    ensures added { OnOk result (links_of out.new.items ≡ links_of out.old.items ++ linked instance.now place) }
+    ensures added { OnOk result (links_of out.new.items
+        ≡ links_of out.old.items ++ linked instance.now place) }
 {
     match place {
         None => Ok(()),
@@ -39,7 +40,8 @@ fn push_statement<'a>(
     out: &mut Vec<(&'a [u8], u32)>,
 ) -> Result<(), NoMemory>
     requires { length names.now ≤ 2 ^ 32 }
-    ensures added { OnOk result (links_of out.new.items ≡ links_of out.old.items ++ links_in names.now (statement_names statement.now)) }
+    ensures added { OnOk result (links_of out.new.items
+        ≡ links_of out.old.items ++ links_in names.now (statement_names statement.now)) }
 {
     let place = names.place(statement.module.bytes());
     for instance in statement.insts.items() {
@@ -54,7 +56,9 @@ fn push_item<'a>(
     out: &mut Vec<(&'a [u8], u32)>,
 ) -> Result<(), NoMemory>
     requires { length names.now ≤ 2 ^ 32 }
-    ensures added { OnOk result (links_of out.new.items ≡ links_of out.old.items ++ links_in names.now (flat_map statement_names (instance_statement item.now))) }
+    ensures added { OnOk result (links_of out.new.items
+        ≡ links_of out.old.items
+        ++ links_in names.now (flat_map statement_names (instance_statement item.now))) }
 {
     match item {
         ItemV::Instances(statement) => push_statement(names, statement, out),
@@ -74,7 +78,8 @@ fn links<'a>(
     m: &'a Module,
 ) -> Result<Vec<(&'a [u8], u32)>, NoMemory>
     requires { length names.now ≤ 2 ^ 32 }
-    ensures { IfOk result (λ found. links_of found.items ≡ links_in names.now (instance_pairs m.now)) }
+    ensures { IfOk result (λ found. links_of found.items
+        ≡ links_in names.now (instance_pairs m.now)) }
 {
     let mut found = Vec::new(alloc);
     for item in m.items.items() {
@@ -104,7 +109,8 @@ fn below(alloc: Global, names: &NameSet, m: &Module) -> Result<Seq<u32>, NoMemor
 
 fn graph_by(alloc: Global, names: &NameSet, modules: &[&Module]) -> Result<Vec<Seq<u32>>, NoMemory>
     requires { length names.now ≤ 2 ^ 32 }
-    ensures { IfOk result (λ graph. graph.items ≡ map (numbers_in names.now) (modules_of modules.now)) }
+    ensures { IfOk result (λ graph. graph.items
+        ≡ map (numbers_in names.now) (modules_of modules.now)) }
 {
     let mut graph = Vec::new(alloc);
     for m in modules {
@@ -123,7 +129,10 @@ fn recursion_in(
     requires are_named { names.now ≡ module_names (modules_of modules.now) }
     requires few { length modules.now < 2 ^ 32 }
     requires within { top < length modules.now }
-    ensures { IfOk result (λ found. MatchOption found ((number : ℕ) → ¬ ReachesItself (modules_below (modules_of modules.now)) number) (λ recursion. IsFirstRecursion (modules_below (modules_of modules.now)) recursion.number recursion.place)) }
+    ensures { IfOk result (λ found. MatchOption found ((number : ℕ)
+        → ¬ ReachesItself (modules_below (modules_of modules.now)) number)
+        (λ recursion. IsFirstRecursion
+        (modules_below (modules_of modules.now)) recursion.number recursion.place)) }
 {
     let graph = graph_by(alloc, names, modules)?;
     let found = first_in_graph(alloc, &graph, top)?;
@@ -142,7 +151,9 @@ fn refuse_recursion(
     requires differ { Distinct (module_names (modules_of modules.now)) }
     requires few { length modules.now < 2 ^ 32 }
     requires first { IsFirstRecursion (modules_below (modules_of modules.now)) number place }
-    ensures { IfOk result (λ refusal. Some refusal ≡ first_of (in_modules G16 (recursions (modules_of modules.now)) (modules_of modules.now))) }
+    ensures { IfOk result (λ refusal. Some refusal
+        ≡ first_of (in_modules G16 (recursions (modules_of modules.now))
+        (modules_of modules.now))) }
 {
     let m = modules[number as usize];
     let found = links(alloc, names, m)?;
@@ -163,7 +174,9 @@ pub fn first_recursion(
     requires differ { Distinct (module_names (modules_of modules.now)) }
     requires few { length modules.now < 2 ^ 32 }
     requires within { top < length modules.now }
-    ensures { IfOk result (λ found. found ≡ first_of (in_modules G16 (recursions (modules_of modules.now)) (modules_of modules.now))) }
+    ensures { IfOk result (λ found. found
+        ≡ first_of (in_modules G16 (recursions (modules_of modules.now))
+        (modules_of modules.now))) }
 {
     let found = recursion_in(alloc, names, modules, top)?;
     match found {

@@ -9,7 +9,8 @@ use vlog_design::uses::{UseOf, push_instances_uses, push_uses};
 use vlog_values::{Assignment, ItemV, Module};
 
 fn push_lefts<'a>(sets: &'a [Assignment], out: &mut Vec<UseOf<'a>>) -> Result<(), NoMemory>
-    ensures added { OnOk result (uses_of out.new.items ≡ uses_of out.old.items ++ flat_map uses (map (λ set. set.left) sets.now)) }
+    ensures added { OnOk result (uses_of out.new.items
+        ≡ uses_of out.old.items ++ flat_map uses (map (λ set. set.left) sets.now)) }
 {
     for set in sets {
         push_uses(&set.left, out)?;
@@ -18,7 +19,8 @@ fn push_lefts<'a>(sets: &'a [Assignment], out: &mut Vec<UseOf<'a>>) -> Result<()
 }
 
 fn push_item<'a>(item: &'a ItemV, out: &mut Vec<UseOf<'a>>) -> Result<(), NoMemory>
-    ensures added { OnOk result (uses_of out.new.items ≡ uses_of out.old.items ++ flat_map uses (item_targets item.now)) }
+    ensures added { OnOk result (uses_of out.new.items
+        ≡ uses_of out.old.items ++ flat_map uses (item_targets item.now)) }
 {
     match item {
         ItemV::Assign(statement) => push_lefts(statement.sets.items(), out),
@@ -31,7 +33,8 @@ fn push_item<'a>(item: &'a ItemV, out: &mut Vec<UseOf<'a>>) -> Result<(), NoMemo
 }
 
 fn push_items<'a>(items: &'a [ItemV], out: &mut Vec<UseOf<'a>>) -> Result<(), NoMemory>
-    ensures added { OnOk result (uses_of out.new.items ≡ uses_of out.old.items ++ flat_map uses (flat_map item_targets items.now)) }
+    ensures added { OnOk result (uses_of out.new.items
+        ≡ uses_of out.old.items ++ flat_map uses (flat_map item_targets items.now)) }
 {
     for item in items {
         push_item(item, out)?;

@@ -35,10 +35,12 @@ fn item<S: Source>(
 ) -> Result<Spot, ReadError>
     requires ahead { (tail : List ℕ) × (bytes.old.held ≡ byte ∷ tail) }
     requires within { bytes.old.place.offset ≤ LIMIT }
-    ensures reads { Reads (item_by (start_of byte) byte) bytes.old bytes.new (S.supply source.old).left (S.supply source.new).left result }
+    ensures reads { Reads (item_by (start_of byte) byte) bytes.old bytes.new
+        (S.supply source.old).left (S.supply source.new).left result }
     ensures proper { IfOk result (λ x. IsProperItem x.item) }
     ensures count { (S.supply source.old).faults ≤ (S.supply source.new).faults }
-    ensures cause { IsErrOf result ReadError.ReadFault → Rose (S.supply source.old).faults (S.supply source.new).faults }
+    ensures cause { IsErrOf result ReadError.ReadFault
+        → Rose (S.supply source.old).faults (S.supply source.new).faults }
     ensures never_spent { IsErrOf result ReadError.Spent → ⊥ }
     ensures bounded { OnText result (λ t. bytes.new.place.offset ≤ t.stop) }
     ensures ended { IfOk result (λ x. bytes.new.place.offset ≤ x.stop) }
@@ -65,9 +67,11 @@ fn token_of<S: Source>(
     item: Item,
     source: &mut S,
 ) -> Result<Option<VToken>, Halt>
-    ensures passed { Passed item bytes.old bytes.new (S.supply source.old).left (S.supply source.new).left result }
+    ensures passed { Passed item bytes.old bytes.new
+        (S.supply source.old).left (S.supply source.new).left result }
     ensures count { (S.supply source.old).faults ≤ (S.supply source.new).faults }
-    ensures cause { IsErrOf result Halt.Failed → Rose (S.supply source.old).faults (S.supply source.new).faults }
+    ensures cause { IsErrOf result Halt.Failed
+        → Rose (S.supply source.old).faults (S.supply source.new).faults }
 {
     match item {
         Item::Blank => Ok(None),
@@ -96,12 +100,14 @@ fn pieced<S: Source>(
     alloc: Global,
     source: &mut S,
 ) -> Result<Option<VFound>, ReadError>
-    ensures finds { Finds vlog bytes.old bytes.new (S.supply source.old).left (S.supply source.new).left result }
+    ensures finds { Finds vlog bytes.old bytes.new
+        (S.supply source.old).left (S.supply source.new).left result }
     ensures proper { IfOk result (λ x. IfSome x (λ x. IsProper x.token)) }
     ensures never_spent { IsErrOf result ReadError.Spent → ⊥ }
     ensures bounded { OnText result (λ t. bytes.new.place.offset ≤ t.stop) }
     ensures count { (S.supply source.old).faults ≤ (S.supply source.new).faults }
-    ensures cause { IsErrOf result ReadError.ReadFault → Rose (S.supply source.old).faults (S.supply source.new).faults }
+    ensures cause { IsErrOf result ReadError.ReadFault
+        → Rose (S.supply source.old).faults (S.supply source.new).faults }
 {
     'items: loop {
         let next = bytes.skip(Class::VerilogSpace, source)?;
@@ -127,12 +133,14 @@ pub fn found<S: Source>(
     alloc: Global,
     source: &mut S,
 ) -> Result<Option<VFound>, ReadError>
-    ensures finds { Finds vlog bytes.old bytes.new (S.supply source.old).left (S.supply source.new).left result }
+    ensures finds { Finds vlog bytes.old bytes.new
+        (S.supply source.old).left (S.supply source.new).left result }
     ensures proper { IfOk result (λ x. IfSome x (λ x. IsProper x.token)) }
     ensures never_spent { IsErrOf result ReadError.Spent → ⊥ }
     ensures bounded { OnText result (λ t. bytes.new.place.offset ≤ t.stop) }
     ensures count { (S.supply source.old).faults ≤ (S.supply source.new).faults }
-    ensures cause { IsErrOf result ReadError.ReadFault → Rose (S.supply source.old).faults (S.supply source.new).faults }
+    ensures cause { IsErrOf result ReadError.ReadFault
+        → Rose (S.supply source.old).faults (S.supply source.new).faults }
 {
     let next = bytes.skip(Class::VerilogSpace, source)?;
     let Some(byte) = next else {

@@ -30,12 +30,15 @@ fn scan<S: Source>(
 ) -> Result<Scanned, ReadError>
     requires ahead { (tail : List ℕ) × (bytes.old.held ≡ byte ∷ tail) }
     requires within { bytes.old.place.offset ≤ LIMIT }
-    ensures part { Part (begun begins byte) scanned bytes.old.place bytes.old bytes.new (S.supply source.old).left (S.supply source.new).left result }
+    ensures part { Part (begun begins byte) scanned bytes.old.place bytes.old bytes.new
+        (S.supply source.old).left (S.supply source.new).left result }
     ensures stop { IfOk result (λ x. StopsAt bytes.new (S.supply source.new).left x.stop) }
-    ensures so_far { IsSoFar begins (kept begins byte) → IfOk result (λ x. IsSoFar x.phase x.text.items) }
+    ensures so_far { IsSoFar begins (kept begins byte)
+        → IfOk result (λ x. IsSoFar x.phase x.text.items) }
     ensures some { OnOk result (bytes.old.place.offset < bytes.new.place.offset) }
     ensures count { (S.supply source.old).faults ≤ (S.supply source.new).faults }
-    ensures cause { IsErrOf result ReadError.ReadFault → Rose (S.supply source.old).faults (S.supply source.new).faults }
+    ensures cause { IsErrOf result ReadError.ReadFault
+        → Rose (S.supply source.old).faults (S.supply source.new).faults }
     ensures never_spent { IsErrOf result ReadError.Spent → ⊥ }
     ensures bounded { OnText result (λ t. bytes.new.place.offset ≤ t.stop) }
 {
@@ -67,10 +70,12 @@ pub fn lexeme<S: Source>(
 ) -> Result<Spot, ReadError>
     requires ahead { (tail : List ℕ) × (bytes.old.held ≡ byte ∷ tail) }
     requires within { bytes.old.place.offset ≤ LIMIT }
-    ensures reads { Reads (lexeme_spelled begins byte) bytes.old bytes.new (S.supply source.old).left (S.supply source.new).left result }
+    ensures reads { Reads (lexeme_spelled begins byte) bytes.old bytes.new
+        (S.supply source.old).left (S.supply source.new).left result }
     ensures proper { IsSoFar begins (kept begins byte) → IfOk result (λ x. IsProperItem x.item) }
     ensures count { (S.supply source.old).faults ≤ (S.supply source.new).faults }
-    ensures cause { IsErrOf result ReadError.ReadFault → Rose (S.supply source.old).faults (S.supply source.new).faults }
+    ensures cause { IsErrOf result ReadError.ReadFault
+        → Rose (S.supply source.old).faults (S.supply source.new).faults }
     ensures never_spent { IsErrOf result ReadError.Spent → ⊥ }
     ensures bounded { OnText result (λ t. bytes.new.place.offset ≤ t.stop) }
     ensures ended { IfOk result (λ x. bytes.new.place.offset ≤ x.stop) }

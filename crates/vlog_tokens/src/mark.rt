@@ -19,7 +19,8 @@ use nl_io::Source;
 pub fn mark<S: Source>(bytes: &mut Bytes, item: Item, source: &S) -> Spot
     requires ahead { (byte : ℕ) × (tail : List ℕ) × (bytes.old.held ≡ byte ∷ tail) }
     requires within { bytes.old.place.offset ≤ LIMIT }
-    ensures reads { Reads (λ _. alone item) bytes.old bytes.new (S.supply source.now).left (S.supply source.now).left (Ok result) }
+    ensures reads { Reads (λ _. alone item) bytes.old bytes.new (S.supply source.now).left
+        (S.supply source.now).left (Ok result) }
     ensures item { result.item ≡ item }
     ensures ended { bytes.new.place.offset ≤ result.stop }
 {
@@ -80,10 +81,13 @@ pub fn pair<S: Source>(
 ) -> Result<Spot, ReadError>
     requires ahead { (byte : ℕ) × (tail : List ℕ) × (bytes.old.held ≡ byte ∷ tail) }
     requires within { bytes.old.place.offset ≤ LIMIT }
-    ensures reads { Reads (λ bs. pair_by (second_of pair_start) (both_of pair_start) (single_of pair_start) (first (drop 1 bs))) bytes.old bytes.new (S.supply source.old).left (S.supply source.new).left result }
+    ensures reads { Reads (λ bs. pair_by (second_of pair_start) (both_of pair_start)
+        (single_of pair_start) (first (drop 1 bs))) bytes.old bytes.new
+        (S.supply source.old).left (S.supply source.new).left result }
     ensures proper { IfOk result (λ x. IsProperItem x.item) }
     ensures count { (S.supply source.old).faults ≤ (S.supply source.new).faults }
-    ensures cause { IsErrOf result ReadError.ReadFault → Rose (S.supply source.old).faults (S.supply source.new).faults }
+    ensures cause { IsErrOf result ReadError.ReadFault
+        → Rose (S.supply source.old).faults (S.supply source.new).faults }
     ensures never_spent { IsErrOf result ReadError.Spent → ⊥ }
     ensures bounded { OnText result (λ t. bytes.new.place.offset ≤ t.stop) }
     ensures ended { IfOk result (λ x. bytes.new.place.offset ≤ x.stop) }
@@ -121,9 +125,12 @@ fn is_slash(next: Option<u8>) -> bool
 
 /// Reads a block comment, whose first two bytes were used.
 fn comment<S: Source>(bytes: &mut Bytes, source: &mut S) -> Result<(), ReadError>
-    ensures part { (p : specs.Place) → Part (comment_at false) (λ _. blank_now) p bytes.old bytes.new (S.supply source.old).left (S.supply source.new).left result }
+    ensures part { (p : specs.Place)
+        → Part (comment_at false) (λ _. blank_now) p bytes.old bytes.new
+        (S.supply source.old).left (S.supply source.new).left result }
     ensures count { (S.supply source.old).faults ≤ (S.supply source.new).faults }
-    ensures cause { IsErrOf result ReadError.ReadFault → Rose (S.supply source.old).faults (S.supply source.new).faults }
+    ensures cause { IsErrOf result ReadError.ReadFault
+        → Rose (S.supply source.old).faults (S.supply source.new).faults }
     ensures never_spent { IsErrOf result ReadError.Spent → ⊥ }
     ensures bounded { OnText result (λ t. bytes.new.place.offset ≤ t.stop) }
 {
@@ -146,10 +153,12 @@ fn comment<S: Source>(bytes: &mut Bytes, source: &mut S) -> Result<(), ReadError
 pub fn slash<S: Source>(bytes: &mut Bytes, source: &mut S) -> Result<Spot, ReadError>
     requires ahead { (byte : ℕ) × (tail : List ℕ) × (bytes.old.held ≡ byte ∷ tail) }
     requires within { bytes.old.place.offset ≤ LIMIT }
-    ensures reads { Reads (λ bs. slash_by (first (drop 1 bs)) (drop 2 bs)) bytes.old bytes.new (S.supply source.old).left (S.supply source.new).left result }
+    ensures reads { Reads (λ bs. slash_by (first (drop 1 bs)) (drop 2 bs)) bytes.old bytes.new
+        (S.supply source.old).left (S.supply source.new).left result }
     ensures proper { IfOk result (λ x. IsProperItem x.item) }
     ensures count { (S.supply source.old).faults ≤ (S.supply source.new).faults }
-    ensures cause { IsErrOf result ReadError.ReadFault → Rose (S.supply source.old).faults (S.supply source.new).faults }
+    ensures cause { IsErrOf result ReadError.ReadFault
+        → Rose (S.supply source.old).faults (S.supply source.new).faults }
     ensures never_spent { IsErrOf result ReadError.Spent → ⊥ }
     ensures bounded { OnText result (λ t. bytes.new.place.offset ≤ t.stop) }
     ensures ended { IfOk result (λ x. bytes.new.place.offset ≤ x.stop) }

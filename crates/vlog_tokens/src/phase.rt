@@ -171,7 +171,8 @@ fn letter_step(base: Base, b: u8) -> Step
 
 /// What a byte is in an escaped name: white space ends it.
 fn escaped_step(b: u8) -> Step
-    ensures { result ≡ (if is_graphic b then Keep Escaped else (if is_verilog_space b then Ends else Bad)) }
+    ensures { result ≡ (if is_graphic b then Keep Escaped else
+        (if is_verilog_space b then Ends else Bad)) }
 {
     if Class::VerilogSpace.contains(b) {
         return keep_if(Class::Graphic.contains(b), Phase::Escaped, Step::Ends);

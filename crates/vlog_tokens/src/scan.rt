@@ -45,10 +45,12 @@ fn stay<S: Source>(
     text: &mut Vec<u8>,
     source: &mut S,
 ) -> Result<Option<u8>, Halt>
-    ensures stays { Stays phase bytes.old bytes.new (S.supply source.old).left (S.supply source.new).left text.old.items text.new.items result }
+    ensures stays { Stays phase bytes.old bytes.new
+        (S.supply source.old).left (S.supply source.new).left text.old.items text.new.items result }
     ensures so_far { IsSoFar phase text.old.items → OnOk result (IsSoFar phase text.new.items) }
     ensures count { (S.supply source.old).faults ≤ (S.supply source.new).faults }
-    ensures cause { IsErrOf result Halt.Failed → Rose (S.supply source.old).faults (S.supply source.new).faults }
+    ensures cause { IsErrOf result Halt.Failed
+        → Rose (S.supply source.old).faults (S.supply source.new).faults }
 {
     match class_of(phase) {
         Some(class) => {
@@ -74,9 +76,13 @@ fn take_byte<S: Source>(
 ) -> Result<Option<Phase>, ReadError>
     requires ahead { IsAhead bytes.old (S.supply source.now).left next }
     requires within { bytes.old.place.offset ≤ LIMIT }
-    ensures part { Part (scan_at phase text.old.items) (λ then. after_byte then phase text.new.items) place bytes.old bytes.new (S.supply source.now).left (S.supply source.now).left result }
+    ensures part { Part (scan_at phase text.old.items)
+        (λ then. after_byte then phase text.new.items) place bytes.old bytes.new
+        (S.supply source.now).left (S.supply source.now).left result }
     ensures so_far { IsSoFar phase text.old.items → IfOk result (IsThen phase text.new.items) }
-    ensures moves { IfOk result (λ then. (IsNone then → bytes.new ≡ bytes.old) × IfSome then (λ _. bytes.old.place.offset < bytes.new.place.offset)) }
+    ensures moves { IfOk result
+        (λ then. (IsNone then → bytes.new ≡ bytes.old)
+        × IfSome then (λ _. bytes.old.place.offset < bytes.new.place.offset)) }
     ensures never_spent { IsErrOf result ReadError.Spent → ⊥ }
     ensures never_failed { IsErrOf result ReadError.ReadFault → ⊥ }
     ensures bounded { OnText result (λ t. bytes.new.place.offset ≤ t.stop) }
@@ -128,11 +134,13 @@ pub fn rest<S: Source>(
     text: Vec<u8>,
     source: &mut S,
 ) -> Result<Scanned, ReadError>
-    ensures part { Part (scan_at begins text.items) scanned place bytes.old bytes.new (S.supply source.old).left (S.supply source.new).left result }
+    ensures part { Part (scan_at begins text.items) scanned place bytes.old bytes.new
+        (S.supply source.old).left (S.supply source.new).left result }
     ensures stop { IfOk result (λ x. StopsAt bytes.new (S.supply source.new).left x.stop) }
     ensures so_far { IsSoFar begins text.items → IfOk result (λ x. IsSoFar x.phase x.text.items) }
     ensures count { (S.supply source.old).faults ≤ (S.supply source.new).faults }
-    ensures cause { IsErrOf result ReadError.ReadFault → Rose (S.supply source.old).faults (S.supply source.new).faults }
+    ensures cause { IsErrOf result ReadError.ReadFault
+        → Rose (S.supply source.old).faults (S.supply source.new).faults }
     ensures never_spent { IsErrOf result ReadError.Spent → ⊥ }
     ensures bounded { OnText result (λ t. bytes.new.place.offset ≤ t.stop) }
 {

@@ -59,10 +59,12 @@ fn escaped_by(b: u8) -> Escaped
 
 /// Reads the further digits of an octal code, at most two. It answers no value where the next digit takes it above 255.
 fn code<S: Source>(bytes: &mut Bytes, begun: u8, source: &mut S) -> Result<Option<u8>, Halt>
-    ensures codes { Codes begun bytes.old bytes.new (S.supply source.old).left (S.supply source.new).left result }
+    ensures codes { Codes begun bytes.old bytes.new
+        (S.supply source.old).left (S.supply source.new).left result }
     ensures limit { bytes.old.place.offset ≤ LIMIT + 1 → bytes.new.place.offset ≤ LIMIT + 1 }
     ensures count { (S.supply source.old).faults ≤ (S.supply source.new).faults }
-    ensures cause { IsErrOf result Halt.Failed → Rose (S.supply source.old).faults (S.supply source.new).faults }
+    ensures cause { IsErrOf result Halt.Failed
+        → Rose (S.supply source.old).faults (S.supply source.new).faults }
 {
     let mut code = begun;
     let mut more: u8 = 2;
@@ -89,8 +91,11 @@ fn code<S: Source>(bytes: &mut Bytes, begun: u8, source: &mut S) -> Result<Optio
 
 /// Adds a byte to a string's value, or refuses it where the string is full.
 fn add(value: &mut Vec<u8>, byte: u8, place: Place, stop: u64) -> Result<(), ReadError>
-    ensures added { OnOk result ((length value.old.items < 1048576) × (value.new.items ≡ value.old.items ++ byte ∷ [])) }
-    ensures refused { IfErr result (λ e. (e ≡ ReadError.NoMemory) ⊎ ((e ≡ refusal place stop Reason.TokenTooLong) × (1048576 ≤ length value.old.items))) }
+    ensures added { OnOk result ((length value.old.items < 1048576)
+        × (value.new.items ≡ value.old.items ++ byte ∷ [])) }
+    ensures refused { IfErr result
+        (λ e. (e ≡ ReadError.NoMemory)
+        ⊎ ((e ≡ refusal place stop Reason.TokenTooLong) × (1048576 ≤ length value.old.items))) }
     ensures bounded { OnText result (λ t. stop ≤ t.stop) }
     ensures never_spent { IsErrOf result ReadError.Spent → ⊥ }
     ensures never_failed { IsErrOf result ReadError.ReadFault → ⊥ }
@@ -111,11 +116,15 @@ fn escape<S: Source>(
 ) -> Result<(), ReadError>
     requires ahead { (tail : List ℕ) × (bytes.old.held ≡ 92 ∷ tail) }
     requires within { bytes.old.place.offset ≤ LIMIT }
-    ensures part { Part (string_at Parts value.old.items) (λ _. string_at Parts value.new.items) place bytes.old bytes.new (S.supply source.old).left (S.supply source.new).left result }
-    ensures short { length value.old.items ≤ 1048576 → OnOk result (length value.new.items ≤ 1048576) }
+    ensures part { Part (string_at Parts value.old.items)
+        (λ _. string_at Parts value.new.items) place bytes.old bytes.new
+        (S.supply source.old).left (S.supply source.new).left result }
+    ensures short { length value.old.items ≤ 1048576
+        → OnOk result (length value.new.items ≤ 1048576) }
     ensures moved { OnOk result (bytes.old.place.offset < bytes.new.place.offset) }
     ensures count { (S.supply source.old).faults ≤ (S.supply source.new).faults }
-    ensures cause { IsErrOf result ReadError.ReadFault → Rose (S.supply source.old).faults (S.supply source.new).faults }
+    ensures cause { IsErrOf result ReadError.ReadFault
+        → Rose (S.supply source.old).faults (S.supply source.new).faults }
     ensures never_spent { IsErrOf result ReadError.Spent → ⊥ }
     ensures bounded { OnText result (λ t. bytes.new.place.offset ≤ t.stop) }
 {
@@ -154,12 +163,16 @@ fn parts<S: Source>(
     value: &mut Vec<u8>,
     source: &mut S,
 ) -> Result<(), ReadError>
-    ensures part { Part (string_at Parts value.old.items) (λ _. string_at Parts value.new.items) place bytes.old bytes.new (S.supply source.old).left (S.supply source.new).left result }
-    ensures short { length value.old.items ≤ 1048576 → OnOk result (length value.new.items ≤ 1048576) }
+    ensures part { Part (string_at Parts value.old.items)
+        (λ _. string_at Parts value.new.items) place bytes.old bytes.new
+        (S.supply source.old).left (S.supply source.new).left result }
+    ensures short { length value.old.items ≤ 1048576
+        → OnOk result (length value.new.items ≤ 1048576) }
     ensures quote { OnOk result ((rest : List ℕ) × (bytes.new.held ≡ 34 ∷ rest)) }
     ensures within { OnOk result (bytes.new.place.offset ≤ LIMIT) }
     ensures count { (S.supply source.old).faults ≤ (S.supply source.new).faults }
-    ensures cause { IsErrOf result ReadError.ReadFault → Rose (S.supply source.old).faults (S.supply source.new).faults }
+    ensures cause { IsErrOf result ReadError.ReadFault
+        → Rose (S.supply source.old).faults (S.supply source.new).faults }
     ensures never_spent { IsErrOf result ReadError.Spent → ⊥ }
     ensures bounded { OnText result (λ t. bytes.new.place.offset ≤ t.stop) }
 {
@@ -210,10 +223,12 @@ pub fn string<S: Source>(
 ) -> Result<Spot, ReadError>
     requires ahead { (quote : ℕ) × (tail : List ℕ) × (bytes.old.held ≡ quote ∷ tail) }
     requires within { bytes.old.place.offset ≤ LIMIT }
-    ensures reads { Reads string_spelled bytes.old bytes.new (S.supply source.old).left (S.supply source.new).left result }
+    ensures reads { Reads string_spelled bytes.old bytes.new
+        (S.supply source.old).left (S.supply source.new).left result }
     ensures proper { IfOk result (λ x. IsProperItem x.item) }
     ensures count { (S.supply source.old).faults ≤ (S.supply source.new).faults }
-    ensures cause { IsErrOf result ReadError.ReadFault → Rose (S.supply source.old).faults (S.supply source.new).faults }
+    ensures cause { IsErrOf result ReadError.ReadFault
+        → Rose (S.supply source.old).faults (S.supply source.new).faults }
     ensures never_spent { IsErrOf result ReadError.Spent → ⊥ }
     ensures bounded { OnText result (λ t. bytes.new.place.offset ≤ t.stop) }
     ensures ended { IfOk result (λ x. bytes.new.place.offset ≤ x.stop) }

@@ -88,8 +88,12 @@ impl VTokens {
     #[inline(always)]
     pub fn take_mark(&mut self)
         requires { (mark : ℕ) × (held_mark self.old.window ≡ Some mark) }
-        ensures left { self.new ≡ record { window = past_mark self.old.window; spent = self.old.spent } }
-        ensures reads { (mark : ℕ) → held_mark self.old.window ≡ Some mark → IsFalse self.old.spent → (i : Supply) → (x : VFound) × (x.token ≡ Punct mark) × ReadsToken vlog (Ok (Some x)) self.old.window self.old.spent self.new.window self.new.spent i i }
+        ensures left { self.new
+            ≡ record { window = past_mark self.old.window; spent = self.old.spent } }
+        ensures reads { (mark : ℕ) → held_mark self.old.window ≡ Some mark → IsFalse self.old.spent
+            → (i : Supply) → (x : VFound) × (x.token ≡ Punct mark)
+            × ReadsToken vlog (Ok
+            (Some x)) self.old.window self.old.spent self.new.window self.new.spent i i }
     {
         // The buffer holds at most 4,096 bytes, as its call says.
         let _here = self.bytes.place();
@@ -114,8 +118,12 @@ impl VTokens {
     pub fn take_word(&mut self, count: usize)
         requires some { 0 < count }
         requires word { count ≡ length (held_word self.old.window) }
-        ensures left { self.new ≡ record { window = past_word self.old.window; spent = self.old.spent } }
-        ensures reads { IsFalse self.old.spent → (i : Supply) → (x : VFound) × (x.token ≡ word_token (held_word self.old.window)) × ReadsToken vlog (Ok (Some x)) self.old.window self.old.spent self.new.window self.new.spent i i }
+        ensures left { self.new
+            ≡ record { window = past_word self.old.window; spent = self.old.spent } }
+        ensures reads { IsFalse self.old.spent → (i : Supply) → (x : VFound)
+            × (x.token ≡ word_token (held_word self.old.window))
+            × ReadsToken vlog (Ok
+            (Some x)) self.old.window self.old.spent self.new.window self.new.spent i i }
     {
         // The buffer holds at most 4,096 bytes, as its call says.
         let _here = self.bytes.place();
@@ -140,8 +148,12 @@ impl VTokens {
     #[inline(always)]
     pub fn take_plain(&mut self)
         requires { (plain : Plain) × (held_plain self.old.window ≡ Some plain) }
-        ensures left { self.new ≡ record { window = past_plain self.old.window; spent = self.old.spent } }
-        ensures reads { (plain : Plain) → held_plain self.old.window ≡ Some plain → IsFalse self.old.spent → (i : Supply) → (x : VFound) × (x.token ≡ plain_token plain) × ReadsToken vlog (Ok (Some x)) self.old.window self.old.spent self.new.window self.new.spent i i }
+        ensures left { self.new
+            ≡ record { window = past_plain self.old.window; spent = self.old.spent } }
+        ensures reads { (plain : Plain) → held_plain self.old.window ≡ Some plain
+            → IsFalse self.old.spent → (i : Supply) → (x : VFound) × (x.token ≡ plain_token plain)
+            × ReadsToken vlog (Ok
+            (Some x)) self.old.window self.old.spent self.new.window self.new.spent i i }
     {
         // The buffer holds at most 4,096 bytes, as its call says.
         let _here = self.bytes.place();

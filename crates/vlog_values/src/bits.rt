@@ -91,7 +91,8 @@ fn push_digit(bits: &mut Vec<Bit>, width: u32, c: u8) -> Result<(), NoMemory>
 fn push_digits(bits: &mut Vec<Bit>, width: u32, digits: &[u8]) -> Result<(), NoMemory>
     requires narrow { width ≤ 128 }
     requires digits { All (λ c. 48 ≤ c) digits.now }
-    ensures added { OnOk result (bits.new.items ≡ bits.old.items ++ flat_map (digit_bits width) digits.now) }
+    ensures added { OnOk result (bits.new.items
+        ≡ bits.old.items ++ flat_map (digit_bits width) digits.now) }
 {
     for c in digits {
         push_digit(bits, width, *c)?;
@@ -122,7 +123,8 @@ fn push_decimal(bits: &mut Vec<Bit>, digits: &[u8]) -> Result<(), NoMemory>
 #[tactic(auto, unfolding(crate::specs::Bits::own_bits))]
 fn push_own(bits: &mut Vec<Bit>, based: &Based) -> Result<(), NoMemory>
     requires { AreDigits based.now.base based.now.digits }
-    ensures added { OnOk result (bits.new.items ≡ bits.old.items ++ own_bits based.now.base based.now.digits) }
+    ensures added { OnOk result (bits.new.items
+        ≡ bits.old.items ++ own_bits based.now.base based.now.digits) }
 {
     let digits = based.digits.bytes();
     match based.base {
@@ -153,7 +155,8 @@ fn fill(bits: &[Bit]) -> Bit
 #[tactic(auto, unfolding(crate::specs::Bits::literal_bits, crate::specs::Bits::fitted))]
 pub fn filled_bits_of(alloc: Global, literal: &Literal) -> Result<FilledBits, NoMemory>
     requires { AreDigits literal.now.based.base literal.now.based.digits }
-    ensures value { IfOk result (λ bits. replicate bits.filled bits.fill ++ bits.own.items ≡ literal_bits literal.now) }
+    ensures value { IfOk result
+        (λ bits. replicate bits.filled bits.fill ++ bits.own.items ≡ literal_bits literal.now) }
 {
     let mut digits = Vec::new(alloc);
     push_own(&mut digits, &literal.based)?;

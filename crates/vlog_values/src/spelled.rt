@@ -31,7 +31,8 @@ fn size_of(bytes: &[u8]) -> Option<u32>
 
 /// Where the `'` stands first.
 fn quote_place(bytes: &[u8]) -> Option<usize>
-    ensures { MatchOption result (IsFreeOf 39 bytes.now) (λ at. (at < length bytes.now) × (slice_get bytes.now at ≡ Some 39) × IsFreeOf 39 (take at bytes.now)) }
+    ensures { MatchOption result (IsFreeOf 39 bytes.now) (λ at. (at < length bytes.now)
+        × (slice_get bytes.now at ≡ Some 39) × IsFreeOf 39 (take at bytes.now)) }
 {
     for at in 0..bytes.len() {
         if bytes[at] == b'\'' {
@@ -43,7 +44,8 @@ fn quote_place(bytes: &[u8]) -> Option<usize>
 
 /// The bytes before the first `'`, and those after it.
 fn split_at_quote(bytes: &[u8]) -> Option<(&[u8], &[u8])>
-    ensures { MatchOption result (cut_at_first 39 bytes.now ≡ None) (λ sides. cut_at_first 39 bytes.now ≡ Some (sides.0.now, sides.1.now)) }
+    ensures { MatchOption result (cut_at_first 39 bytes.now
+        ≡ None) (λ sides. cut_at_first 39 bytes.now ≡ Some (sides.0.now, sides.1.now)) }
 {
     let at = quote_place(bytes)?;
     Some((&bytes[..at], &bytes[at + 1..]))
@@ -84,7 +86,9 @@ fn is_short(signed: bool, count: usize) -> bool
 /// The based literal of a letter and digits.
 #[tactic(auto, unfolding(crate::specs::Spelled::lettered))]
 fn lettered(signed: bool, text: &[u8]) -> Option<BasedParts<'_>>
-    ensures { MatchOption result (lettered signed text.now ≡ None) (λ parts. lettered signed text.now ≡ Some (record { signed = parts.signed; base = parts.base; digits = parts.digits.now })) }
+    ensures { MatchOption result (lettered signed text.now
+        ≡ None) (λ parts. lettered signed text.now
+        ≡ Some (record { signed = parts.signed; base = parts.base; digits = parts.digits.now })) }
 {
     match text {
         [] => None,
@@ -107,7 +111,8 @@ fn lettered(signed: bool, text: &[u8]) -> Option<BasedParts<'_>>
 /// The based literal that these bytes spell behind the `'`.
 #[tactic(auto, unfolding(crate::specs::Spelled::spelled_based))]
 fn based_parts(text: &[u8]) -> Option<BasedParts<'_>>
-    ensures { MatchOption result (spelled_based text.now ≡ None) (λ parts. spelled_based text.now ≡ Some (record { signed = parts.signed; base = parts.base; digits = parts.digits.now })) }
+    ensures { MatchOption result (spelled_based text.now ≡ None) (λ parts. spelled_based text.now
+        ≡ Some (record { signed = parts.signed; base = parts.base; digits = parts.digits.now })) }
 {
     match text {
         [] => None,
@@ -146,7 +151,8 @@ fn literal_spelled(alloc: Global, text: &[u8]) -> Result<Option<Literal>, NoMemo
 
 /// The literal of which the text is the normal spelling: `None` exactly where it is that of no literal which a text can have.
 pub fn literal_of(alloc: Global, text: &[u8]) -> Result<Option<Literal>, NoMemory>
-    ensures exact { IfOk result (λ found. (literal : Literal) → (found ≡ Some literal) ↔ IsSpelling text.now literal) }
+    ensures exact { IfOk result
+        (λ found. (literal : Literal) → (found ≡ Some literal) ↔ IsSpelling text.now literal) }
     ensures value { IfOk result (λ found. found ≡ spelled_literal text.now) }
 {
     let found = literal_spelled(alloc, text)?;
