@@ -31,14 +31,14 @@ decimal_same b e = e
 hex_same : (b : ℕ) → is_digit Hex b ≡ true → bits.is_digit Hex b ≡ true
 hex_same b e = grind (arith, nat_tests)
 
-digit_same : (base : Base) (b : ℕ) → is_digit base b ≡ true → bits.is_digit base b ≡ true
+pub digit_same : (base : Base) (b : ℕ) → is_digit base b ≡ true → bits.is_digit base b ≡ true
 digit_same Binary b e = binary_same b e
 digit_same Octal b e = octal_same b e
 digit_same Decimal b e = decimal_same b e
 digit_same Hex b e = hex_same b e
 
 -- no digit is a `_`
-digit_kept : (base : Base) (b : ℕ) → is_digit base b ≡ true → is_kept b ≡ true
+pub digit_kept : (base : Base) (b : ℕ) → is_digit base b ≡ true → is_kept b ≡ true
 digit_kept Binary b e = grind (arith, nat_tests)
 digit_kept Octal b e = grind (arith, nat_tests)
 digit_kept Decimal b e = grind (arith, nat_tests)
@@ -119,7 +119,7 @@ value_same ds all = value_from 0 ds all
 
 -- ---- all digits
 
-are_digits : (base : Base) (ds : List ℕ) → 1 ≤ length ds → list_all (bits.is_digit base) ds ≡ true → has_value base ds ≡ true → AreDigits base ds
+pub are_digits : (base : Base) (ds : List ℕ) → 1 ≤ length ds → list_all (bits.is_digit base) ds ≡ true → has_value base ds ≡ true → AreDigits base ds
 unfolding AreDigits
 are_digits base [] some all value = absurd (omega (arith, some))
 are_digits Binary (c ∷ rest) some all value = AllPass-from_list_all (bits.is_digit Binary) (c ∷ rest) all

@@ -16,3 +16,4 @@ pub mod HeldMarks
 pub mod HeldStrings
 pub mod HeldWords
 pub mod HeldPlains
+pub mod HeldLiterals

@@ -10,5 +10,6 @@ pub mod Language
 pub mod Finding
 pub mod Held
 pub mod Plains
+pub mod HeldLiterals
 pub mod Proper
 pub mod SoFar

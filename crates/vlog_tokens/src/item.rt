@@ -106,7 +106,8 @@ fn digits_of(alloc: Global, text: &[u8], signed: bool) -> Result<Vec<u8>, NoMemo
 }
 
 /// Whether digits of a base have a value that is read: a decimal's is below 2^128.
-fn has_value(base: Base, digits: &[u8]) -> bool
+#[inline]
+pub(crate) fn has_value(base: Base, digits: &[u8]) -> bool
     ensures { result ≡ has_value base digits.now }
 {
     match base {

@@ -17,6 +17,7 @@ pub mod finding;
 pub mod item;
 pub mod keyword;
 pub mod lexeme;
+pub mod literal;
 pub mod mark;
 pub mod next;
 pub mod number;

@@ -3,6 +3,7 @@ ghost use Rattle.nl_bytes.specs.declared.bytes.TheConstants.{LIMIT};
 
 use crate::ahead::{held_mark, pass_mark};
 use crate::finding::found;
+use crate::literal::{held_base, held_digits, pass_digits};
 use crate::next::{held_word, pass_word};
 use crate::plain::{Plain, held_plain, pass_plain};
 use crate::token::VFound;
@@ -11,6 +12,7 @@ use nl_bytes::Bytes;
 use nl_io::Source;
 use std::alloc::Global;
 use std::marker::Model;
+use vlog_values::Base;
 
 /// Reads the tokens of a source, one after another, through a buffer of 4,096 bytes.
 ///
@@ -37,6 +39,7 @@ impl VTokens {
     ghost use Rattle.vlog_tokens.specs.Language.{vlog};
     ghost use Rattle.vlog_tokens.specs.Held.{held_mark, past_mark, held_word, past_word};
     ghost use Rattle.vlog_tokens.specs.Plains.{held_plain, past_plain, plain_token};
+    ghost use Rattle.vlog_tokens.specs.HeldLiterals.{held_base, held_digits, past_digits, digits_token};
     ghost use Rattle.vlog_tokens.specs.Items.{word_token};
     ghost use Rattle.vlog_tokens.specs.Proper.{IsProper};
 
@@ -158,6 +161,48 @@ impl VTokens {
         // The buffer holds at most 4,096 bytes, as its call says.
         let _here = self.bytes.place();
         pass_plain(&mut self.bytes)
+    }
+
+    /// The base of the literal that is next, where its `'` and its letter are held, with no sign letter or white space.
+    #[inline(always)]
+    pub fn held_base(&self) -> Option<Base>
+        ensures base { result ≡ held_base self.now.window }
+        ensures held { length self.now.window.held ≤ 4096 }
+    {
+        // The buffer holds at most 4,096 bytes, as its call says.
+        let _here = self.bytes.place();
+        held_base(&self.bytes)
+    }
+
+    /// The digits behind that letter, where the bytes that are held show them and their end; no bytes where not.
+    #[inline(always)]
+    pub fn held_digits(&self, base: Base) -> &[u8]
+        ensures digits { result.now ≡ held_digits base self.now.window }
+        ensures held { length self.now.window.held ≤ 4096 }
+    {
+        // The buffer holds at most 4,096 bytes, as its call says.
+        let _here = self.bytes.place();
+        held_digits(&self.bytes, base)
+    }
+
+    /// Takes the digits of a based literal that are next, which have so many bytes.
+    ///
+    /// A reader that is not spent then stands as after a call of `next` that answers them.
+    #[inline(always)]
+    pub fn take_digits(&mut self, base: Base, count: usize)
+        requires base { held_base self.old.window ≡ Some base }
+        requires some { 0 < count }
+        requires digits { count ≡ length (held_digits base self.old.window) }
+        ensures left { self.new
+            ≡ record { window = past_digits count self.old.window; spent = self.old.spent } }
+        ensures reads { IsFalse self.old.spent → (i : Supply) → (x : VFound)
+            × (x.token ≡ digits_token base (held_digits base self.old.window))
+            × ReadsToken vlog (Ok
+            (Some x)) self.old.window self.old.spent self.new.window self.new.spent i i }
+    {
+        // The buffer holds at most 4,096 bytes, as its call says.
+        let _here = self.bytes.place();
+        pass_digits(&mut self.bytes, base, count)
     }
 
     /// Reads the next token, or `None` at the end of the input.
