@@ -199,6 +199,14 @@ space_past a b n is held place = window_is b _ _ (held ∙ ap (λ (k : ℕ). dro
 pub no_space_past : (a : Window) → space_length a.held ≡ 0 → a ≡ past_space a
 no_space_past a none = space_past a a 0 (sym none) refl refl
 
+-- one byte of white space is used
+pub one_space_past : (a b : Window) → space_length a.held ≡ 1 → b.held ≡ drop 1 a.held → b.place ≡ place_after a.place (get_or a.held 0 0) → b ≡ past_space a
+one_space_past a b one held place = space_past a b 1 (sym one) held (place ∙ go a.held one)
+  where
+    go : (bs : List ℕ) → space_length bs ≡ 1 → place_after a.place (get_or bs 0 0) ≡ place_past a.place (take 1 bs)
+    go [] e = absurd (omega (arith, e))
+    go (x ∷ xs) e = refl
+
 pub mark_past : (w a b : Window) (mark : ℕ) → held_mark w ≡ Some mark → a ≡ past_space w → b.held ≡ drop 1 a.held → b.place ≡ place_after a.place (get_or a.held 0 0) → b ≡ past_mark w
 mark_past w a b mark e a-is held place =
     let n = mark_next w mark e in

@@ -69,6 +69,10 @@ pub fn pass_space(bytes: &mut Bytes)
     if count == 0 {
         return;
     }
+    if count == 1 {
+        bytes.advance();
+        return;
+    }
     bytes.pass(Class::VerilogSpace, count);
 }
 
