@@ -8,6 +8,7 @@ pub mod HeldMarks
 pub mod HeldWords
 pub mod HeldPlains
 pub mod Known
+pub mod HeldLiterals
 pub mod Lists
 pub mod Live
 pub mod OneToken

@@ -13,6 +13,8 @@ use Rattle.readers.specs.Readers.{Reader, Looks, spoilt}
 use Rattle.vlog_tokens.specs.Language.{vlog}
 use Rattle.vlog_tokens.specs.Held as tokens
 use Rattle.vlog_tokens.specs.Plains as plains
+use Rattle.vlog_tokens.specs.HeldLiterals as literals
+use Rattle.vlog_values.specs.declared.literal.Base.{Base}
 use Rattle.vlog_tokens.specs.declared.plain.Plain.{Plain}
 use Rattle.vlog_exprs.specs.Language.{NoContext}
 use Rattle.vlog_tokens.specs.declared.token.VFound.{VFound}
@@ -55,6 +57,14 @@ held_plain r = if is_unlooked r then plains.held_plain r.window else None
 -- the reader behind that token
 abbrev pub past_plain : Reader NoContext VFound → Reader NoContext VFound
 past_plain r = record { window = plains.past_plain r.window; ahead = r.ahead; context = r.context; spent = r.spent }
+
+-- the base of the literal that is next of a reader that has looked at no token, where the bytes that are held show its `'` and its letter
+unfoldable pub held_base : Reader NoContext VFound → Option Base
+held_base r = if is_unlooked r then literals.held_base r.window else None
+
+-- the reader behind that literal's so many digits
+abbrev pub past_digits : ℕ → Reader NoContext VFound → Reader NoContext VFound
+past_digits count r = record { window = literals.past_digits count r.window; ahead = r.ahead; context = r.context; spent = r.spent }
 
 -- The name that is held was taken, or nothing was taken where no name is held, or there was no memory for the name.
 abbrev pub TakesHeld : Result (Option (List ℕ)) ReadError → Reader NoContext VFound → Reader NoContext VFound → Type 0

@@ -1,5 +1,5 @@
 // Constants.
-ghost use Rattle.std.specs.Prelude.{◌≡◌, IfOk, IfSome, IsFalse};
+ghost use Rattle.std.specs.Prelude.{◌≡◌, true, false, nat_abs, IfOk, IfSome, IsFalse};
 ghost use Rattle.readers.specs.Readers.{same, Reads, ReadsMaybe, TakesNext};
 ghost use Rattle.vlog_tokens.specs.Language.{vlog};
 ghost use Rattle.vlog_values.specs.Values.{IsNumber, IsLiteral, IsConst};
@@ -8,16 +8,64 @@ ghost use Rattle.vlog_exprs.specs.Known.{IsConstStart};
 ghost use Rattle.vlog_exprs.specs.Reasons as say;
 
 use crate::cursor::VCursor;
-use crate::reasons::{at_digits, const_start, signed_of};
+use crate::reasons::{at_digits, const_start, is_size, signed_of};
 use crate::start::ConstStart;
-use nl_base::{Int, ReadError};
+use nl_base::{Int, ReadError, Text};
 use nl_io::Source;
 use std::alloc::Global;
 use vlog_tokens::{Plain, VFound};
-use vlog_values::{Const, Literal};
+use vlog_values::{Base, Based, Const, Literal};
 
 /// Takes the digits behind a number, where they are next. The number is then a size.
 pub(crate) fn takes_digits<S: Source>(
+    alloc: Global,
+    cursor: &mut VCursor,
+    number: Int,
+    source: &mut S,
+) -> Result<Option<Literal>, ReadError>
+    ensures reads { TakesNext vlog same
+        (λ _ x. say.at_digits number x.token) result cursor.old cursor.new
+        (S.supply source.old) (S.supply source.new) }
+    ensures value { IfOk result (λ literal. IfSome literal IsLiteral) }
+{
+    if is_size(number) {
+        if let Some(base) = cursor.held_base() {
+            let held = cursor.held_digits(base);
+            let count = held.len();
+            if count > 0 {
+                let Ok(digits) = Text::copy(alloc, held) else {
+                    return Err(cursor.no_memory());
+                };
+                cursor.take_digits(base, count);
+                return Ok(Some(unsigned(number, base, digits)));
+            }
+        }
+    }
+    takes_digits_token(alloc, cursor, number, source)
+}
+
+/// A literal of this size whose digits have no sign letter.
+#[inline(always)]
+fn unsigned(number: Int, base: Base, digits: Text) -> Literal
+    requires { say.is_size number ≡ true }
+    ensures { result ≡ record {
+      size = nat_abs number;
+      based = record { signed = false; base = base; digits = digits };
+    } }
+{
+    Literal {
+        size: number.value() as u32,
+        based: Based {
+            signed: false,
+            base,
+            digits,
+        },
+    }
+}
+
+/// Looks at any token, and takes it where it is the digits behind a number.
+#[inline(never)]
+fn takes_digits_token<S: Source>(
     alloc: Global,
     cursor: &mut VCursor,
     number: Int,

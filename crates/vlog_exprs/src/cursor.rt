@@ -3,21 +3,22 @@ ghost use Rattle.grammar.specs.Whole.{proper};
 ghost use Rattle.readers.specs.Parts.{any};
 ghost use Rattle.nl_bytes.specs.Tokens.{IsNear};
 ghost use Rattle.readers.specs.Readers.{same, fault_at, spoilt, Reads, Looks, Ends, Adds};
+ghost use Rattle.vlog_tokens.specs.HeldLiterals.{held_digits};
 ghost use Rattle.vlog_tokens.specs.Keywords.{is_keyword};
 ghost use Rattle.vlog_tokens.specs.Language.{vlog};
 ghost use Rattle.vlog_tokens.specs.Plains.{plain_token};
 ghost use Rattle.vlog_tokens.specs.Proper.{IsProper};
-ghost use Rattle.vlog_values.specs.Values.{IsName};
-ghost use Rattle.vlog_exprs.specs.Calls.{is_unlooked, held_mark, past_mark, held_word, past_word, held_plain, past_plain, TakesHeld, answer, left_after, seen_answer, seen_left, IfLeaves, LooksOut};
+ghost use Rattle.vlog_exprs.specs.Calls.{is_unlooked, held_mark, past_mark, held_word, past_word, held_plain, past_plain, held_base, past_digits, answer, left_after, seen_answer, seen_left, IfLeaves, LooksOut};
 ghost use Rattle.vlog_exprs.specs.Reasons.{trailing};
 
 use crate::glance::Glance;
 use crate::reasons::{Said, refused};
-use nl_base::{Place, ReadError, Reason, Seq, Text, TextFault};
+use nl_base::{Place, ReadError, Reason, Seq, TextFault};
 use nl_io::Source;
 use std::alloc::Global;
 use std::marker::Model;
 use vlog_tokens::{Plain, VFound, VTokens, is_keyword};
+use vlog_values::Base;
 
 /// Reads the parts of a text, one after another, with one token of look-ahead.
 ///
@@ -133,27 +134,6 @@ impl VCursor {
         self.tokens.take_word(count)
     }
 
-    /// Takes the name that is next, where no token was looked at and the bytes that are held show it and its end.
-    #[inline(always)]
-    pub(crate) fn held_name(&mut self, alloc: Global) -> Result<Option<Text>, ReadError>
-        ensures held { TakesHeld result self.old self.new }
-        ensures value { IfOk result (λ name. IfSome name IsName) }
-    {
-        let held = self.held_word();
-        let count = held.len();
-        if count == 0 {
-            return Ok(None);
-        }
-        if is_keyword(held) {
-            return Ok(None);
-        }
-        let Ok(text) = Text::copy(alloc, held) else {
-            return Err(self.no_memory());
-        };
-        self.take_word(count);
-        Ok(Some(text))
-    }
-
     /// The number or the bracket of attributes that is next, where no token was looked at and the bytes that are held show it and its
     /// end.
     #[inline(always)]
@@ -178,6 +158,40 @@ impl VCursor {
         ensures { self.new ≡ past_plain self.old }
     {
         self.tokens.take_plain()
+    }
+
+    /// The base of the literal that is next, where no token was looked at and the bytes that are held show its `'` and its letter.
+    #[inline(always)]
+    #[tactic(auto, unfolding(crate::specs::Calls::held_base))]
+    pub(crate) fn held_base(&self) -> Option<Base>
+        ensures base { result ≡ held_base self.now }
+        ensures held { length self.now.window.held ≤ 4096 }
+    {
+        // The buffer holds at most 4,096 bytes, as this call says.
+        let _here = self.tokens.here();
+        if self.is_unlooked() {
+            return self.tokens.held_base();
+        }
+        None
+    }
+
+    /// The digits behind that letter, where the bytes that are held show them and their end; no bytes where not.
+    #[inline(always)]
+    pub(crate) fn held_digits(&self, base: Base) -> &[u8]
+        ensures { result.now ≡ held_digits base self.now.window }
+    {
+        self.tokens.held_digits(base)
+    }
+
+    /// Takes the digits of a based literal that are next, which have so many bytes.
+    #[inline(always)]
+    pub(crate) fn take_digits(&mut self, base: Base, count: usize)
+        requires base { held_base self.old ≡ Some base }
+        requires some { 0 < count }
+        requires digits { count ≡ length (held_digits base self.old.window) }
+        ensures { self.new ≡ past_digits count self.old }
+    {
+        self.tokens.take_digits(base, count)
     }
 
     /// Takes the token ahead, which is there.

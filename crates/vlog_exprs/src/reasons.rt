@@ -64,7 +64,8 @@ pub fn bound_of(alloc: Global, token: VToken) -> Said<i32>
 }
 
 /// Whether a number is a size.
-fn is_size(number: Int) -> bool
+#[inline]
+pub fn is_size(number: Int) -> bool
     ensures { result ≡ say.is_size number }
 {
     0 < number.value() && number.value() < 65537

@@ -3,7 +3,7 @@ ghost use Rattle.std.specs.Prelude.{◌≡◌, IfOk, IfSome};
 ghost use Rattle.readers.specs.Readers.{same, Reads, TakesNext};
 ghost use Rattle.vlog_tokens.specs.Language.{vlog};
 ghost use Rattle.vlog_values.specs.Values.{IsName, IsCount};
-ghost use Rattle.vlog_exprs.specs.Calls.{stands};
+ghost use Rattle.vlog_exprs.specs.Calls.{TakesHeld, stands};
 ghost use Rattle.vlog_exprs.specs.Grammar.{name, number, mark, keyword, choice};
 ghost use Rattle.vlog_exprs.specs.Reasons as say;
 
@@ -17,6 +17,27 @@ use std::alloc::Global;
 use vlog_tokens::{VFound, is_keyword};
 
 impl VCursor {
+    /// Takes the name that is next, where no token was looked at and the bytes that are held show it and its end.
+    #[inline(always)]
+    pub(crate) fn held_name(&mut self, alloc: Global) -> Result<Option<Text>, ReadError>
+        ensures held { TakesHeld result self.old self.new }
+        ensures value { IfOk result (λ name. IfSome name IsName) }
+    {
+        let held = self.held_word();
+        let count = held.len();
+        if count == 0 {
+            return Ok(None);
+        }
+        if is_keyword(held) {
+            return Ok(None);
+        }
+        let Ok(text) = Text::copy(alloc, held) else {
+            return Err(self.no_memory());
+        };
+        self.take_word(count);
+        Ok(Some(text))
+    }
+
     /// Takes a token: a name.
     pub fn name<S: Source>(&mut self, alloc: Global, source: &mut S) -> Result<Text, ReadError>
         ensures reads { Reads vlog same name result self.old self.new
