@@ -84,12 +84,14 @@ some_held a w e some = rw (← e) (by w some)
     by (x ∷ xs) some = omega arith
 
 -- such a word keeps what a name does
-pub held_is_name : (a : Reader NoContext VFound) (w text : List ℕ) → w ≡ held_word a → (length w ≡ 0 → ⊥) → text ≡ w → IsName text
-held_is_name a w text e some same =
-    let there = some_held a w e some in
+pub held_some_is_name : (a : Reader NoContext VFound) (w text : List ℕ) → w ≡ held_word a → 0 < length (held_word a) → text ≡ w → IsName text
+held_some_is_name a w text e there same =
     let l = word_live a there in
     let inside : 0 < length (tokens.held_word a.window) = subst (λ (w : List ℕ). 0 < length w) l.2 there in
     rw (same, e, l.2) (held_word_name a.window inside)
+
+pub held_is_name : (a : Reader NoContext VFound) (w text : List ℕ) → w ≡ held_word a → (length w ≡ 0 → ⊥) → text ≡ w → IsName text
+held_is_name a w text e some same = held_some_is_name a w text e (some_held a w e some) same
 
 -- a word that is no keyword is a name
 pub name_is : (w v text : List ℕ) → v ≡ w → text ≡ v → is_keyword v ≡ false → word_token w ≡ Name text

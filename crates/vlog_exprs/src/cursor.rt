@@ -4,7 +4,6 @@ ghost use Rattle.readers.specs.Parts.{any};
 ghost use Rattle.nl_bytes.specs.Tokens.{IsNear};
 ghost use Rattle.readers.specs.Readers.{same, fault_at, spoilt, Reads, Looks, Ends, Adds};
 ghost use Rattle.vlog_tokens.specs.HeldLiterals.{held_digits};
-ghost use Rattle.vlog_tokens.specs.Keywords.{is_keyword};
 ghost use Rattle.vlog_tokens.specs.Language.{vlog};
 ghost use Rattle.vlog_tokens.specs.Plains.{plain_token};
 ghost use Rattle.vlog_tokens.specs.Proper.{IsProper};
@@ -17,7 +16,7 @@ use nl_base::{Place, ReadError, Reason, Seq, TextFault};
 use nl_io::Source;
 use std::alloc::Global;
 use std::marker::Model;
-use vlog_tokens::{Plain, VFound, VTokens, is_keyword};
+use vlog_tokens::{Plain, VFound, VTokens};
 use vlog_values::Base;
 
 /// Reads the parts of a text, one after another, with one token of look-ahead.
@@ -112,16 +111,6 @@ impl VCursor {
             return self.tokens.held_word();
         }
         &[]
-    }
-
-    /// Whether the word that is next is a keyword.
-    #[inline(always)]
-    pub(crate) fn at_held_keyword(&self) -> bool
-        ensures keyword { result ≡ is_keyword (held_word self.now) }
-        ensures held { length self.now.window.held ≤ 4096 }
-    {
-        let held = self.held_word();
-        is_keyword(held)
     }
 
     /// Takes the word that is next, which has so many bytes.

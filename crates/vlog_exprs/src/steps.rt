@@ -236,11 +236,16 @@ impl VCursor {
             (S.supply source.old) (S.supply source.new) }
         ensures value { IfOk result (λ name. IfSome name IsName) }
     {
-        if self.at_held_keyword() {
-            return Ok(None);
-        }
-        let held = self.held_name(alloc)?;
-        if let Some(text) = held {
+        let held = self.held_word();
+        let count = held.len();
+        if count > 0 {
+            if is_keyword(held) {
+                return Ok(None);
+            }
+            let Ok(text) = Text::copy(alloc, held) else {
+                return Err(self.no_memory());
+            };
+            self.take_word(count);
             return Ok(Some(text));
         }
         self.takes_name_token(alloc, source)
