@@ -2,7 +2,7 @@ use Rattle.std.proofs.Common.{◌∙◌, sym, ap}
 use Rattle.edif_values.specs.Keywords.{allowed_keyword}
 use Rattle.edif_keywords.proofs.Allowed.{allowed_is}
 use Rattle.edif_keywords.proofs.HeldForms.{begin_held}
-use Rattle.edif_keywords.proofs.cursor.Cursor.begin.Goals as goal
+use Rattle.edif_keywords.proofs.cursor.Cursor.begin_up_to_case.Goals as goal
 
 pub returns-in-Some-clause-reads : goal.returns-in-Some-clause-reads
 returns-in-Some-clause-reads g c =
