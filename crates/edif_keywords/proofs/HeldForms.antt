@@ -25,7 +25,7 @@ form_live a at is some =
     let l = held_live no_form (forms.form_at a.window) a (λ n. absurd (omega (arith, some, ap (λ (x : FormAt). x.count) (is ∙ n)))) in
     (l.0, l.1, is ∙ l.2)
 
-live_unlooked : (a : Reader (List Alias) Found) → a.spent ≡ false → a.ahead ≡ None → is_unlooked a ≡ true
+pub live_unlooked : (a : Reader (List Alias) Found) → a.spent ≡ false → a.ahead ≡ None → is_unlooked a ≡ true
 live_unlooked a live none = ap (λ (s : Bool). not s && is_none a.ahead) live ∙ ap (λ (x : Option Found). is_none x) none
 
 live_mark : (a : Reader (List Alias) Found) → is_unlooked a ≡ true → held_mark a ≡ tokens.held_mark a.window

@@ -13,3 +13,4 @@ pub mod Tables
 pub mod Allowed
 pub mod Collected
 pub mod HeldForms
+pub mod ShownForms

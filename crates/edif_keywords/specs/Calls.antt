@@ -6,10 +6,13 @@ use Rattle.nl_base.specs.declared.fault.ReadError.{ReadError}
 use Rattle.nl_base.specs.declared.fault.ReadError.TheVariants as errors
 use Rattle.edif_tokens.specs.declared.token.Found.{Found}
 use Rattle.edif_tokens.specs.declared.form.FormAt.{FormAt}
+use Rattle.edif_tokens.specs.declared.form.OpenAt.{OpenAt}
 use Rattle.edif_tokens.specs.Held as tokens
-use Rattle.edif_tokens.specs.HeldForm.{no_form}
+use Rattle.edif_tokens.specs.HeldForm.{no_form, shows_word}
 use Rattle.edif_tokens.specs.HeldForm as forms
 use Rattle.readers.specs.Readers.{Reader, spoilt}
+use Rattle.edif_values.specs.declared.keyword.Keyword.{Keyword}
+use Rattle.edif_values.specs.Keywords.{spelling}
 use Rattle.edif_keywords.specs.Aliases.{Alias}
 
 -- whether no error has spent a reader, and it has looked at no token
@@ -35,6 +38,14 @@ past_word r = record { window = tokens.past_word r.window; ahead = r.ahead; cont
 -- where the form that is next begins of a reader that has looked at no token; its word has no bytes where the bytes that are held do not show it
 unfoldable pub form_at : Reader (List Alias) Found → FormAt
 form_at r = if is_unlooked r then forms.form_at r.window else no_form
+
+-- where the `(` that is next stands of a reader that has looked at no token, where the bytes that are held show it
+unfoldable pub open_at : Reader (List Alias) Found → Option OpenAt
+open_at r = if is_unlooked r then forms.open_at r.window else None
+
+-- whether some bytes begin with a keyword as the standard spells it, and then have a byte that may follow a word
+abbrev pub shows_keyword : List ℕ → Keyword → Bool
+shows_keyword bs keyword = shows_word bs (spelling keyword)
 
 -- the word of that form
 abbrev pub form_word : Reader (List Alias) Found → List ℕ

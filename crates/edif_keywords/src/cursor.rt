@@ -4,12 +4,13 @@ ghost use Rattle.nl_bytes.specs.Tokens.{IsNear};
 ghost use Rattle.readers.specs.Readers.{same, fault_at, end_fault, spoilt, Reads, Looks, LooksAt, LooksFor, Ends, Adds};
 ghost use Rattle.grammar.specs.Whole.{proper};
 ghost use Rattle.edif_values.specs.Proper.{IsProper};
-ghost use Rattle.edif_keywords.specs.Calls.{is_unlooked, held_mark, past_mark, held_word, past_word, form_at, form_word, past_form, answer, left_after};
+ghost use Rattle.edif_keywords.specs.Calls.{is_unlooked, held_mark, past_mark, held_word, past_word, form_at, form_word, past_form, open_at, answer, left_after};
+ghost use Rattle.edif_tokens.specs.HeldForm.{opened_by};
 ghost use Rattle.edif_keywords.specs.Language.{edif};
 ghost use Rattle.edif_keywords.specs.Reasons.{opens, has_string, trailing};
 
 use crate::aliases::Aliases;
-use edif_tokens::{FormAt, Found, Tokens};
+use edif_tokens::{FormAt, Found, OpenAt, Tokens};
 use edif_values::Token;
 use nl_base::{Place, ReadError, Reason, Seq, TextFault};
 use nl_io::Source;
@@ -135,6 +136,30 @@ impl Cursor {
             inner: 0,
             count: 0,
         }
+    }
+
+    /// Where the `(` that is next stands, where no token was looked at and the bytes that are held show it.
+    #[inline(always)]
+    #[tactic(auto, unfolding(crate::specs::Calls::open_at))]
+    pub(crate) fn open_at(&self) -> Option<OpenAt>
+        ensures at { result ≡ open_at self.now }
+        ensures held { length self.now.window.held ≤ 4096 }
+    {
+        // The buffer holds at most 4,096 bytes, as this call says.
+        let _here = self.tokens.here();
+        if self.is_unlooked() {
+            return self.tokens.open_at();
+        }
+        None
+    }
+
+    /// What is held behind the `(` that is next and the white space behind it.
+    #[inline(always)]
+    pub(crate) fn opened(&self, at: OpenAt) -> &[u8]
+        requires { open_at self.now ≡ Some at }
+        ensures { result.now ≡ opened_by at self.now.window.held }
+    {
+        self.tokens.opened(at)
     }
 
     /// The word of the form that is next.
@@ -270,6 +295,7 @@ impl Cursor {
     }
 
     /// Answers whether the next token, which has to be there, is `(`. It takes nothing.
+    #[inline(always)]
     pub fn at_form<S: Source>(&mut self, alloc: Global, source: &mut S) -> Result<bool, ReadError>
         ensures looks { LooksAt edif opens result self.old self.new
             (S.supply source.old) (S.supply source.new) }

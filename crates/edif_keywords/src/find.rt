@@ -1,8 +1,10 @@
 ghost use Rattle.std.specs.Prelude.{◌≡◌, ◌<◌, ◌≤◌};
 ghost use Rattle.std.specs.List.{find};
 ghost use Rattle.edif_values.specs.Keywords.{keyword_of, allowed_keyword, is_spelled};
+ghost use Rattle.edif_keywords.specs.Calls.{shows_keyword};
 ghost use Rattle.edif_keywords.specs.Slots.{candidates, of_slot, part, start_at};
 
+use edif_tokens::shows_word;
 use edif_values::{Keyword, spelling};
 use nl_base::fold_eq;
 
@@ -233,4 +235,18 @@ pub(crate) fn find_allowed(word: &[u8], allowed: &[Keyword]) -> Option<Keyword>
     ensures { result ≡ allowed_keyword allowed.now word.now }
 {
     find_among(word, allowed)
+}
+
+/// The first of some keywords that some bytes begin with, as it is spelled in the standard, with a byte behind it that may follow a
+/// word. Most keywords of a text are spelled so.
+#[inline(always)]
+pub(crate) fn find_shown(bytes: &[u8], allowed: &[Keyword]) -> Option<Keyword>
+    ensures { result ≡ find (shows_keyword bytes.now) allowed.now }
+{
+    for keyword in allowed {
+        if shows_word(bytes, spelling(*keyword)) {
+            return Some(*keyword);
+        }
+    }
+    None
 }

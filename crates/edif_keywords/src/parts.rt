@@ -8,12 +8,12 @@ ghost use Rattle.edif_keywords.specs.Grammar.{word, string, integer, opening, cl
 ghost use Rattle.edif_keywords.specs.Reasons.{rows};
 
 use crate::cursor::Cursor;
-use crate::find::find_allowed;
+use crate::find::{find_allowed, find_shown};
 use crate::reasons::{
     choice_of, closing_of, integer_of, keyword_of, opening_of, string_of, view_type_of, word_of,
 };
-use edif_tokens::Found;
-use edif_values::Keyword;
+use edif_tokens::{FormAt, Found};
+use edif_values::{Keyword, spelling};
 use nl_base::{Ident, Int, ReadError, Text};
 use nl_io::Source;
 use std::alloc::Global;
@@ -93,6 +93,7 @@ impl Cursor {
     }
 
     /// Takes a token: the `)` of a form or a list.
+    #[inline(always)]
     pub fn finish_form<S: Source>(&mut self, alloc: Global, source: &mut S) -> Result<(), ReadError>
         ensures { Reads edif same closing result self.old self.new
             (S.supply source.old) (S.supply source.new) }
@@ -140,7 +141,34 @@ impl Cursor {
     }
 
     /// Takes `(` and one of the allowed keywords, by the aliases.
+    #[inline(always)]
     pub fn begin<S: Source>(
+        &mut self,
+        alloc: Global,
+        allowed: &[Keyword],
+        source: &mut S,
+    ) -> Result<Keyword, ReadError>
+        ensures reads { Reads edif same (begin allowed.now) result self.old self.new
+            (S.supply source.old) (S.supply source.new) }
+        ensures allowed { IfOk result (λ q. has allowed.now q ≡ true) }
+    {
+        if let Some(open) = self.open_at() {
+            if let Some(keyword) = find_shown(self.opened(open), allowed) {
+                let at = FormAt {
+                    space: open.space,
+                    inner: open.inner,
+                    count: spelling(keyword).len(),
+                };
+                self.take_form(at);
+                return Ok(keyword);
+            }
+        }
+        self.begin_up_to_case(alloc, allowed, source)
+    }
+
+    /// Takes `(` and one of the allowed keywords, by the aliases, whatever its spelling.
+    #[inline(never)]
+    fn begin_up_to_case<S: Source>(
         &mut self,
         alloc: Global,
         allowed: &[Keyword],

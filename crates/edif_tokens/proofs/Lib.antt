@@ -9,3 +9,4 @@ pub mod HeldTokens
 pub mod Limits
 pub mod Proper
 pub mod HeldForms
+pub mod OpenForms

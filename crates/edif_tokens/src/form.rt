@@ -1,9 +1,10 @@
 // The `(` and the word that are next and begin a form, where the bytes that are held show both. They are taken with no token made.
-ghost use Rattle.std.specs.Prelude.{◌≡◌, ◌<◌, ◌≤◌, length, drop};
+ghost use Rattle.std.specs.Prelude.{◌≡◌, ◌<◌, ◌≤◌, length, drop, Some};
 ghost use Rattle.edif_tokens.specs.Held.{past_mark, held_word, past_word};
-ghost use Rattle.edif_tokens.specs.HeldForm.{no_form, form_behind, form_at};
+ghost use Rattle.edif_tokens.specs.HeldForm.{no_form, form_behind, form_at, open_behind, open_at, opened_by, shows_word};
 
 use crate::ahead::{is_near, pass_mark_behind, pass_word_behind, word_length};
+use crate::scan::may_follow;
 use nl_bytes::{Bytes, Class};
 
 /// Where a form begins in what is held: how many bytes of white space stand before its `(` and behind it, and how many bytes
@@ -13,6 +14,13 @@ pub struct FormAt {
     pub space: usize,
     pub inner: usize,
     pub count: usize,
+}
+
+/// Where a `(` stands in what is held: how many bytes of white space stand before it and behind it.
+#[derive(Clone, Copy)]
+pub struct OpenAt {
+    pub space: usize,
+    pub inner: usize,
 }
 
 /// No form.
@@ -97,4 +105,60 @@ pub fn pass_form(bytes: &mut Bytes, at: FormAt)
 {
     pass_mark_behind(bytes, at.space);
     pass_word_behind(bytes, at.inner, at.count)
+}
+
+/// Where the `(` at the front of some bytes stands, behind so many bytes of white space.
+#[inline(always)]
+fn open_behind(space: usize, bytes: &[u8]) -> Option<OpenAt>
+    ensures { result ≡ open_behind space bytes.now }
+{
+    match bytes {
+        [first, behind @ ..] => {
+            if *first != b'(' {
+                return None;
+            }
+            let inner = Class::Space.front(behind);
+            Some(OpenAt { space, inner })
+        }
+        [] => None,
+    }
+}
+
+/// Where the `(` that is next stands.
+#[inline(always)]
+#[tactic(auto, unfolding(crate::specs::HeldForm::open_at))]
+pub fn open_at(bytes: &Bytes) -> Option<OpenAt>
+    ensures { result ≡ open_at bytes.now }
+{
+    if !is_near(bytes) {
+        return None;
+    }
+    let held = bytes.held();
+    let space = Class::Space.front(held);
+    let (_, front) = held.split_at(space);
+    open_behind(space, front)
+}
+
+/// What is held behind the `(` that is next and the white space behind it.
+#[inline(always)]
+pub fn opened(bytes: &Bytes, at: OpenAt) -> &[u8]
+    requires { open_at bytes.now ≡ Some at }
+    ensures { result.now ≡ opened_by at bytes.now.held }
+{
+    let front = behind(bytes.held(), at.space);
+    let opened = behind(front, 1);
+    let inside = behind(opened, at.inner);
+    inside
+}
+
+/// Whether some bytes begin with this word, and then have a byte that may follow a word.
+#[inline(always)]
+pub fn shows_word(bytes: &[u8], word: &[u8]) -> bool
+    ensures { result ≡ shows_word bytes.now word.now }
+{
+    if word.len() >= bytes.len() {
+        return false;
+    }
+    let (front, _) = bytes.split_at(word.len());
+    front == word && may_follow(bytes[word.len()])
 }

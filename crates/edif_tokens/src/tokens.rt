@@ -3,7 +3,7 @@ ghost use Rattle.nl_bytes.specs.declared.bytes.TheConstants.{LIMIT};
 
 use crate::ahead::{held_mark, held_word, pass_mark, pass_word};
 use crate::finding::found;
-use crate::form::{FormAt, form_at, form_word, pass_form};
+use crate::form::{FormAt, OpenAt, form_at, form_word, open_at, opened, pass_form};
 use crate::token::Found;
 use nl_base::{NoMemory, Place, ReadError};
 use nl_bytes::Bytes;
@@ -36,7 +36,7 @@ impl Tokens {
     ghost use Rattle.nl_bytes.specs.Tokens.{ReadsToken, fresh};
     ghost use Rattle.edif_tokens.specs.Language.{edif};
     ghost use Rattle.edif_tokens.specs.Held.{held_mark, mark_token, past_mark, held_word, past_word};
-    ghost use Rattle.edif_tokens.specs.HeldForm.{form_at, ReadsForm};
+    ghost use Rattle.edif_tokens.specs.HeldForm.{form_at, open_at, opened_by, ReadsForm};
 
     /// A reader at the start of a text.
     ///
@@ -141,6 +141,26 @@ impl Tokens {
         // The buffer holds at most 4,096 bytes, as its call says.
         let _here = self.bytes.place();
         form_at(&self.bytes)
+    }
+
+    /// Where the `(` that is next stands, where the bytes that are held show it.
+    #[inline(always)]
+    pub fn open_at(&self) -> Option<OpenAt>
+        ensures at { result ≡ open_at self.now.window }
+        ensures held { length self.now.window.held ≤ 4096 }
+    {
+        // The buffer holds at most 4,096 bytes, as its call says.
+        let _here = self.bytes.place();
+        open_at(&self.bytes)
+    }
+
+    /// What is held behind the `(` that is next and the white space behind it.
+    #[inline(always)]
+    pub fn opened(&self, at: OpenAt) -> &[u8]
+        requires { open_at self.now.window ≡ Some at }
+        ensures { result.now ≡ opened_by at self.now.window.held }
+    {
+        opened(&self.bytes, at)
     }
 
     /// The word of the form that is next.

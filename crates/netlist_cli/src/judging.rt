@@ -17,6 +17,7 @@ use edif_resolve::ResolveError as EdifError;
 use nl_base::Text;
 use nl_io::Source;
 use std::alloc::Global;
+use std::mem::forget;
 use vlog_elab::ResolveError as VlogError;
 use vlog_modules::read_vlog;
 use vlog_values::VlogFile;
@@ -85,6 +86,8 @@ fn judge_edif_text<S: Source>(alloc: Global, input: &mut S) -> Result<(), Failur
     match read_edif(alloc, input) {
         Ok(file) => {
             let judged = judge_edif(alloc, &file);
+            // The program ends then. To take it apart again would take time for nothing.
+            forget(file);
             judged
         }
         Err(error) => Err(Failure::of_read_error(error)),

@@ -1,13 +1,15 @@
-use Rattle.std.proofs.Common.{◌∙◌, sym, ap}
-use Rattle.edif_values.specs.Keywords.{allowed_keyword}
-use Rattle.edif_keywords.proofs.Allowed.{allowed_is}
-use Rattle.edif_keywords.proofs.HeldForms.{begin_held}
+use Rattle.std.proofs.Common.{sym}
+use Rattle.edif_keywords.proofs.ShownForms.{shown_form, begin_shown, shown_is}
 use Rattle.edif_keywords.proofs.cursor.Cursor.begin.Goals as goal
 
-pub returns-in-Some-clause-reads : goal.returns-in-Some-clause-reads
-returns-in-Some-clause-reads g c =
-    begin_held c.args.self.now c.take_form.new.self _ c.args.allowed.now c.in-Some.keyword c.form_at-at.ensures.at c.if-at-gt0.true c.form_at-at.ensures.held _
-    (ap (allowed_keyword c.args.allowed.now) (sym c.form_word-word.ensures) ∙ sym c.in-Some.ensures) c.take_form.ensures
+pub take_form-requires-clause-some : goal.take_form-requires-clause-some
+take_form-requires-clause-some g c = (shown_form c.args.self.now c.in-Some.open _ _ c.args.allowed.now _ (sym c.in-Some.ensures.at) c.opened.ensures c.in-Some-find_shown.ensures c.spelling.ensures.spelled).some
 
-pub returns-in-Some-clause-allowed : goal.returns-in-Some-clause-allowed
-returns-in-Some-clause-allowed g c = allowed_is c.args.allowed.now _ c.in-Some.keyword (sym c.in-Some.ensures)
+pub take_form-requires-clause-form : goal.take_form-requires-clause-form
+take_form-requires-clause-form g c = (shown_form c.args.self.now c.in-Some.open _ _ c.args.allowed.now _ (sym c.in-Some.ensures.at) c.opened.ensures c.in-Some-find_shown.ensures c.spelling.ensures.spelled).is
+
+pub returns-in-Some-find_shown-clause-reads : goal.returns-in-Some-find_shown-clause-reads
+returns-in-Some-find_shown-clause-reads g c = begin_shown c.args.self.now c.take_form.new.self c.in-Some.open _ c.args.allowed.now _ (sym c.in-Some.ensures.at) c.opened.ensures c.in-Some-find_shown.ensures c.open_at.ensures.held _ c.take_form.ensures
+
+pub returns-in-Some-find_shown-clause-allowed : goal.returns-in-Some-find_shown-clause-allowed
+returns-in-Some-find_shown-clause-allowed g c = shown_is _ c.args.allowed.now _ c.in-Some-find_shown.ensures
