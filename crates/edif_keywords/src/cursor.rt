@@ -1,17 +1,15 @@
-ghost use Rattle.std.specs.Prelude.{◌≡◌, ◌<◌, ◌≤◌, ℕ, length, None, Some, [], IfOk, OnOk, IfSome, IsSome, IsNone, IsTrue, IsFalse, option_map};
+ghost use Rattle.std.specs.Prelude.{◌≡◌, ◌<◌, ◌≤◌, ℕ, length, None, Some, [], IfOk, IfSome, IsSome, IsNone, IsTrue, IsFalse, option_map};
 ghost use Rattle.readers.specs.Parts.{any};
 ghost use Rattle.nl_bytes.specs.Tokens.{IsNear};
-ghost use Rattle.readers.specs.Readers.{same, fault_at, end_fault, spoilt, Reads, Looks, LooksAt, LooksFor, Ends, Adds};
+ghost use Rattle.readers.specs.Readers.{same, fault_at, end_fault, spoilt, Reads, Looks, Adds};
 ghost use Rattle.grammar.specs.Whole.{proper};
 ghost use Rattle.edif_values.specs.Proper.{IsProper};
 ghost use Rattle.edif_keywords.specs.Calls.{is_unlooked, held_mark, past_mark, held_word, past_word, form_at, form_word, past_form, open_at, answer, left_after};
 ghost use Rattle.edif_tokens.specs.HeldForm.{opened_by};
 ghost use Rattle.edif_keywords.specs.Language.{edif};
-ghost use Rattle.edif_keywords.specs.Reasons.{opens, has_string, trailing};
 
 use crate::aliases::Aliases;
 use edif_tokens::{FormAt, Found, OpenAt, Tokens};
-use edif_values::Token;
 use nl_base::{Place, ReadError, Reason, Seq, TextFault};
 use nl_io::Source;
 use std::alloc::Global;
@@ -294,50 +292,6 @@ impl Cursor {
         self.ahead.as_ref()
     }
 
-    /// Answers whether the next token, which has to be there, is `(`. It takes nothing.
-    #[inline(always)]
-    pub fn at_form<S: Source>(&mut self, alloc: Global, source: &mut S) -> Result<bool, ReadError>
-        ensures looks { LooksAt edif opens result self.old self.new
-            (S.supply source.old) (S.supply source.new) }
-    {
-        if let Some(mark) = self.held_mark() {
-            return Ok(mark == b'(');
-        }
-        let count = self.held_word().len();
-        if count > 0 {
-            return Ok(false);
-        }
-        self.look_form(alloc, source)
-    }
-
-    /// Makes the next token the one ahead, which has to be there, and answers whether it is `(`. It takes nothing.
-    #[inline(never)]
-    #[tactic(auto, using(crate::proofs::Looks::forms_next))]
-    pub fn look_form<S: Source>(&mut self, alloc: Global, source: &mut S) -> Result<bool, ReadError>
-        ensures looks { LooksAt edif opens result self.old self.new
-            (S.supply source.old) (S.supply source.new) }
-        ensures ahead { OnOk result (IsSome self.new.ahead) }
-    {
-        self.look(alloc, source)?;
-        match &self.ahead {
-            Some(found) => Ok(opens(found)),
-            None => Err(self.ended()),
-        }
-    }
-
-    /// Answers whether there is a next token and it is a string. It takes nothing.
-    #[tactic(auto, using(crate::proofs::Looks::strings_next))]
-    pub fn at_string<S: Source>(&mut self, alloc: Global, source: &mut S) -> Result<bool, ReadError>
-        ensures { LooksFor edif has_string result self.old self.new
-            (S.supply source.old) (S.supply source.new) }
-    {
-        self.look(alloc, source)?;
-        if let Some(found) = &self.ahead {
-            return Ok(has_string(found));
-        }
-        Ok(false)
-    }
-
     /// Refuses the token ahead. The cursor is spent from then on.
     pub fn refuse(&mut self, reason: Reason) -> ReadError
         requires { IsSome self.old.ahead }
@@ -350,22 +304,6 @@ impl Cursor {
             Some(found) => self.refuse_at(found.place, found.stop, reason),
             None => unreachable!(),
         }
-    }
-
-    /// Takes the end of the input.
-    #[tactic(auto, using(crate::proofs::Looks::ends))]
-    pub fn end_of_input<S: Source>(
-        &mut self,
-        alloc: Global,
-        source: &mut S,
-    ) -> Result<(), ReadError>
-        ensures { Ends edif trailing result self.old self.new
-            (S.supply source.old) (S.supply source.new) }
-    {
-        if self.look(alloc, source)? {
-            return Err(self.refuse(Reason::Trailing));
-        }
-        Ok(())
     }
 
     /// Adds an item to a list. Where memory runs out the cursor is spent from then on, and the list is as before.
@@ -390,25 +328,11 @@ impl Cursor {
     }
 
     /// Spends the cursor where a token is missing at the end of the input.
-    fn ended(&mut self) -> ReadError
+    pub(crate) fn ended(&mut self) -> ReadError
         ensures error { result ≡ ReadError.Text (end_fault self.old.window) }
         ensures spoilt { self.new ≡ spoilt self.old }
     {
         let end = self.tokens.here();
         self.refuse_at(end, end.offset, Reason::EndOfInput)
     }
-}
-
-#[tactic(auto, unfolding(crate::specs::Reasons::opens))]
-fn opens(found: &Found) -> bool
-    ensures { result ≡ opens found.now }
-{
-    matches!(&found.token, Token::LeftParen)
-}
-
-#[tactic(auto, unfolding(crate::specs::Reasons::has_string))]
-fn has_string(found: &Found) -> bool
-    ensures { result ≡ has_string found.now }
-{
-    matches!(&found.token, Token::Str(_))
 }
