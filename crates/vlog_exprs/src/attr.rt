@@ -25,14 +25,6 @@ fn takes_group<S: Source>(
     ensures { TakesNext vlog stands (λ _ x. say.at_group x.token) result cursor.old cursor.new
         (S.supply source.old) (S.supply source.new) }
 {
-    let held = cursor.held_word();
-    let count = held.len();
-    if count > 0 {
-        return Ok(false);
-    }
-    if let Some(_mark) = cursor.held_mark() {
-        return Ok(false);
-    }
     if let Some(plain) = cursor.held_plain() {
         return match plain {
             Plain::AttrStart => {
@@ -42,6 +34,14 @@ fn takes_group<S: Source>(
             Plain::AttrStop => Ok(false),
             Plain::Number(_) => Ok(false),
         };
+    }
+    let held = cursor.held_word();
+    let count = held.len();
+    if count > 0 {
+        return Ok(false);
+    }
+    if let Some(_mark) = cursor.held_mark() {
+        return Ok(false);
     }
     takes_group_token(alloc, cursor, source)
 }
@@ -97,7 +97,25 @@ fn take_group_end_token<S: Source>(
     cursor.judged(place, stop, said)
 }
 
+/// Takes this mark, where it is next, and answers whether it was. `*)`, which is next most often, is looked for first.
+#[inline(always)]
+fn takes_in_group<S: Source>(
+    alloc: Global,
+    cursor: &mut VCursor,
+    mark: u8,
+    source: &mut S,
+) -> Result<bool, ReadError>
+    ensures { TakesNext vlog stands (λ _ x. say.at_mark mark x.token) result cursor.old cursor.new
+        (S.supply source.old) (S.supply source.new) }
+{
+    if let Some(_plain) = cursor.held_plain() {
+        return Ok(false);
+    }
+    cursor.takes(alloc, mark, source)
+}
+
 /// Reads the value of an attribute, which is 1 where none stands.
+#[inline(always)]
 #[tactic(auto, using(readers::proofs::Choices::choices), unfolding(crate::specs::Grammar::attr_value, crate::specs::Grammar::after))]
 fn read_attr_value<S: Source>(
     alloc: Global,
@@ -108,13 +126,14 @@ fn read_attr_value<S: Source>(
         (S.supply source.old) (S.supply source.new) }
     ensures value { IfOk result IsConst }
 {
-    if cursor.takes(alloc, b'=', source)? {
+    if takes_in_group(alloc, cursor, b'=', source)? {
         let value = read_const(alloc, cursor, source)?;
         return Ok(value);
     }
     Ok(Const::Number(Int::signed(false, 1)))
 }
 
+#[inline(always)]
 #[tactic(auto, using(readers::proofs::Reading::sequences), unfolding(crate::specs::Grammar::attr))]
 fn read_attr<S: Source>(
     alloc: Global,
@@ -147,7 +166,7 @@ fn read_group<S: Source>(
 {
     let attr = read_attr(alloc, cursor, source)?;
     cursor.add(&mut attrs, attr)?;
-    while cursor.takes(alloc, b',', source)? {
+    while takes_in_group(alloc, cursor, b',', source)? {
         let attr = read_attr(alloc, cursor, source)?;
         cursor.add(&mut attrs, attr)?;
     }

@@ -71,6 +71,7 @@ pub fn read_bound<S: Source>(
 }
 
 /// Reads on behind the `[` of a range.
+#[inline(always)]
 #[tactic(auto, using(readers::proofs::Reading::sequences), unfolding(crate::specs::Grammar::range_rest))]
 pub fn read_range_rest<S: Source>(
     alloc: Global,
@@ -105,6 +106,7 @@ pub fn read_range<S: Source>(
 }
 
 /// Reads a range, where one stands.
+#[inline(always)]
 #[tactic(auto, using(readers::proofs::Choices::choices), unfolding(crate::specs::Grammar::maybe_range, crate::specs::Grammar::after))]
 pub fn read_range_if_any<S: Source>(
     alloc: Global,

@@ -363,6 +363,7 @@ impl VCursor {
     }
 
     /// Adds an item to a list. Where memory runs out the cursor is spent from then on, and the list is as before.
+    #[inline(always)]
     pub fn add<T: Drop>(&mut self, list: &mut Seq<T>, item: T) -> Result<(), ReadError>
         requires { IsFalse self.old.spent }
         ensures { Adds item result self.old self.new list.old list.new }

@@ -24,6 +24,7 @@ use vlog_values::Expr;
 const USUAL: usize = 2;
 
 /// Takes the first token of an expression, where `levels` braces may be opened, one in another.
+#[inline(always)]
 fn take_expr_start<S: Source>(
     alloc: Global,
     cursor: &mut VCursor,
@@ -63,6 +64,7 @@ fn take_expr_token<S: Source>(
 }
 
 /// Takes the first token of an expression, where one is next.
+#[inline(always)]
 fn takes_expr_start<S: Source>(
     alloc: Global,
     cursor: &mut VCursor,
@@ -331,6 +333,7 @@ pub fn read_expr<S: Source>(
 }
 
 /// Reads an expression that is no left side, where one stands.
+#[inline(always)]
 #[tactic(auto, using(readers::proofs::Choices::choices), unfolding(crate::specs::Grammar::maybe_expr))]
 pub fn read_expr_if_any<S: Source>(
     alloc: Global,

@@ -39,6 +39,7 @@ impl VCursor {
     }
 
     /// Takes a token: a name.
+    #[inline(always)]
     pub fn name<S: Source>(&mut self, alloc: Global, source: &mut S) -> Result<Text, ReadError>
         ensures reads { Reads vlog same name result self.old self.new
             (S.supply source.old) (S.supply source.new) }
@@ -227,6 +228,7 @@ impl VCursor {
     }
 
     /// Takes a name, where one is next.
+    #[inline(always)]
     pub fn takes_name<S: Source>(
         &mut self,
         alloc: Global,

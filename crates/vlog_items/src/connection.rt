@@ -17,6 +17,7 @@ use vlog_values::{Conns, Expr, NamedConn};
 const USUAL: usize = 3;
 
 /// Reads on behind the point of a connection by name.
+#[inline(always)]
 #[tactic(auto, using(readers::proofs::Reading::sequences), unfolding(crate::specs::Grammar::named_rest))]
 fn read_named_rest<S: Source>(
     alloc: Global,

@@ -15,6 +15,7 @@ use vlog_exprs::{VCursor, read_range_if_any};
 use vlog_values::{Attr, NetDecl, NetKind, PortDecl, PortKind};
 
 /// Reads further names, each behind a comma, and the mark behind them, and adds the names to others.
+#[inline(always)]
 #[tactic(auto, using(readers::proofs::Choices::loops), unfolding(vlog_exprs::specs::Grammar::commas))]
 pub fn read_more_names<S: Source>(
     alloc: Global,
@@ -38,6 +39,7 @@ pub fn read_more_names<S: Source>(
 }
 
 /// Reads one name or more up to the `;`.
+#[inline(always)]
 #[tactic(auto, using(readers::proofs::Reading::sequences), unfolding(vlog_exprs::specs::Grammar::list))]
 fn read_names<S: Source>(
     alloc: Global,
@@ -57,6 +59,7 @@ fn read_names<S: Source>(
 }
 
 /// Reads the word `signed`, where it stands, and answers whether it does.
+#[inline(always)]
 #[tactic(auto, using(readers::proofs::Reading::sequences), unfolding(crate::specs::Grammar::signed))]
 pub fn read_signed<S: Source>(
     alloc: Global,

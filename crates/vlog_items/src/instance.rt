@@ -58,6 +58,7 @@ fn read_insts<S: Source>(
 }
 
 /// Reads on behind the point of the value of a parameter of an instance.
+#[inline(always)]
 #[tactic(auto, using(readers::proofs::Reading::sequences), unfolding(crate::specs::Grammar::override_rest))]
 fn read_override_rest<S: Source>(
     alloc: Global,
@@ -76,6 +77,7 @@ fn read_override_rest<S: Source>(
 }
 
 /// Reads the value of a parameter of an instance.
+#[inline(always)]
 #[tactic(auto, using(readers::proofs::Reading::sequences), unfolding(crate::specs::Grammar::override_set))]
 fn read_override<S: Source>(
     alloc: Global,

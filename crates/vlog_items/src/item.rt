@@ -57,6 +57,7 @@ fn read_item_word<S: Source>(
 }
 
 /// Reads on behind the first word of an item.
+#[inline(always)]
 #[tactic(auto, using(readers::proofs::Reading::sequences), unfolding(crate::specs::Grammar::word_item))]
 fn read_word_item<S: Source>(
     alloc: Global,

@@ -6,7 +6,7 @@ use Rattle.std.specs.Str.{bytes_eq}
 use Rattle.std.proofs.lemmas.Slice.Eq.{bytes_eq-Decides}
 use Rattle.std.specs.List.{list_any, list_all}
 use Rattle.nl_base.specs.Case.{same_bytes}
-use Rattle.vlog_tokens.specs.Keywords.{keywords, is_keyword, is_small, is_like_keyword, start_at, bound, part, of_letter, words_from, word}
+use Rattle.vlog_tokens.specs.Keywords.{keywords, is_keyword, is_small, is_like_keyword, shape_at, shape_of, start_at, bound, part, of_letter, words_from, word}
 
 -- whether a test passes for each number below a bound
 abbrev passes_below : (ℕ → Bool) → ℕ → Bool
@@ -48,12 +48,22 @@ all_within = refl
 pub start_most : (n : ℕ) → n < 27 → start_at n ≤ 124
 start_most n lt = let h : starts_within n ≡ true = below starts_within 27 n all_within lt in grind (arith, nat_tests, h)
 
--- bytes of another length are other bytes
-pub other_length : (bs cs : List ℕ) → (length bs ≡ length cs → ⊥) → same_bytes bs cs ≡ false
-other_length bs cs other = go (same_bytes bs cs) refl
+abbrev has_shape : ℕ → Bool
+has_shape n = eqb (shape_at n) (shape_of (word n))
+
+all_shapes : passes_below has_shape 124 ≡ true
+unfolding shape_at part bound
+all_shapes = refl
+
+-- a name of another shape is another word
+pub other_shape : (name : List ℕ) (shape n : ℕ) → n < 124 → shape ≡ shape_of name → (shape_at n ≡ shape → ⊥) → same_bytes name (word n) ≡ false
+other_shape name shape n lt is other = go (same_bytes name (word n)) refl
   where
-    go : (t : Bool) → same_bytes bs cs ≡ t → t ≡ false
-    go true e = absurd (other (ap (λ (xs : List ℕ). length xs) ((bytes_eq-Decides bs cs).0 e)))
+    has : shape_at n ≡ shape_of (word n)
+    has = let h : has_shape n ≡ true = below has_shape 124 n all_shapes lt in grind (arith, nat_tests, h)
+
+    go : (t : Bool) → same_bytes name (word n) ≡ t → t ≡ false
+    go true e = absurd (other (has ∙ (ap shape_of (sym ((bytes_eq-Decides name (word n)).0 e)) ∙ sym is)))
     go false e = refl
 
 -- ---- words of one letter

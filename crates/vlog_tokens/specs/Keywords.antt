@@ -1,8 +1,8 @@
 -- The keywords of Verilog (IEEE 1364-2005, annex B), of which no name is one.
-use Rattle.std.specs.Prelude.{ℕ, zero, suc, ◌+◌, ◌-◌, nat_le, nat_lt, ◌&&◌, ◌||◌, if◌then◌else◌, Bool, false, List, [], ◌∷◌, length, codes, slice_index, slice_range}
+use Rattle.std.specs.Prelude.{ℕ, zero, suc, ◌+◌, ◌-◌, ◌*◌, nat_le, nat_lt, ◌&&◌, ◌||◌, if◌then◌else◌, Bool, false, List, [], ◌∷◌, length, codes, slice_index, slice_range}
 use Rattle.std.specs.List.{list_any}
 use Rattle.nl_base.specs.Case.{same_bytes}
-use Rattle.vlog_tokens.specs.declared.keyword.TheConstants.{TEXT, BOUNDS, STARTS}
+use Rattle.vlog_tokens.specs.declared.keyword.TheConstants.{TEXT, BOUNDS, SHAPES, STARTS}
 
 -- the keywords
 abbrev pub keywords : List (List ℕ)
@@ -36,6 +36,14 @@ is_keyword name = list_any (same_bytes name) keywords
 -- where a keyword begins in the text of the table, by its number
 unfoldable pub bound : ℕ → ℕ
 bound number = slice_index BOUNDS number
+
+-- the length and the second byte of a name, in one number
+abbrev pub shape_of : List ℕ → ℕ
+shape_of name = length name * 256 + slice_index name 1
+
+-- the length and the second byte of the keyword of a number, in one number
+unfoldable pub shape_at : ℕ → ℕ
+shape_at number = slice_index SHAPES number
 
 -- the number of the first keyword of a letter, the letters counted from 0
 unfoldable pub start_at : ℕ → ℕ

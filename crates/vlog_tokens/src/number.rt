@@ -105,6 +105,7 @@ fn lowered(negative: bool, magnitude: u128, places: usize) -> Option<Int>
 }
 
 /// A number's value, where it is below 2^63.
+#[inline(always)]
 #[tactic(auto, using(crate::proofs::Numbers::number_some, crate::proofs::Numbers::number_none))]
 pub fn number_of(text: &[u8]) -> Option<Int>
     ensures { result ≡ number_of text.now }

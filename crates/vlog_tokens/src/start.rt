@@ -36,7 +36,7 @@ pub fn begins_name(b: u8) -> bool
 }
 
 /// Whether a byte is punctuation that begins no longer token.
-#[inline]
+#[inline(always)]
 pub fn is_mark(b: u8) -> bool
     ensures { result ≡ is_mark b }
 {

@@ -14,4 +14,4 @@ pub loop-attrs-preserved : goal.loop-attrs-preserved
 unfolding commas group
 loop-attrs-preserved g c =
     collects (grind (arith, loops)) (all_added c.in_ok-add-2.ensures IsAttr c.loop-attrs.invariant.good c.in_ok-attr-2.ensures.value)
-    (omega (arith, c.loop-attrs.invariant.room, length_added c.in_ok-add-2.ensures, room_added c.in_ok-add-2.ensures, c.in_ok-takes.ensures.value.2, c.in_ok-attr-2.ensures.reads.value.2))
+    (omega (arith, c.loop-attrs.invariant.room, length_added c.in_ok-add-2.ensures, room_added c.in_ok-add-2.ensures, c.in_ok-takes_in_group.ensures.value.2, c.in_ok-attr-2.ensures.reads.value.2))

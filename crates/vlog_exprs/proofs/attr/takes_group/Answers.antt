@@ -7,8 +7,8 @@ use Rattle.vlog_exprs.proofs.HeldWords.{word_none, group_leaves_word}
 use Rattle.vlog_exprs.proofs.HeldPlains.{plain_some, plain_none}
 use Rattle.vlog_exprs.proofs.attr.takes_group.Goals as goal
 
-pub returns-in-Some : goal.returns-in-Some
-returns-in-Some g c = mark_none stands at_group c.args.cursor.now c.args.cursor.now c.in-Some._mark (sym c.in-Some.ensures.mark) c.held_mark.ensures.held _ false refl refl
+pub returns-in-Some-held_mark : goal.returns-in-Some-held_mark
+returns-in-Some-held_mark g c = mark_none stands at_group c.args.cursor.now c.args.cursor.now c.in-Some-held_mark._mark (sym c.in-Some-held_mark.ensures.mark) c.held_mark.ensures.held _ false refl refl
 
 pub returns-then-count-gt0 : goal.returns-then-count-gt0
 returns-then-count-gt0 g c =
@@ -17,12 +17,12 @@ returns-then-count-gt0 g c =
 
 pub returns-in-AttrStart : goal.returns-in-AttrStart
 returns-in-AttrStart g c =
-    plain_some c.args.cursor.now c.take_plain.new.self plains.AttrStart (sym c.in-Some-held_plain.ensures.plain ∙ ap Some c.in-AttrStart.is) c.held_plain.ensures.held _ stands at_group true tt refl refl c.take_plain.ensures
+    plain_some c.args.cursor.now c.take_plain.new.self plains.AttrStart (sym c.in-Some.ensures.plain ∙ ap Some c.in-AttrStart.is) c.held_plain.ensures.held _ stands at_group true tt refl refl c.take_plain.ensures
 
 pub returns-in-AttrStop : goal.returns-in-AttrStop
 returns-in-AttrStop g c =
-    plain_none c.args.cursor.now c.args.cursor.now plains.AttrStop (sym c.in-Some-held_plain.ensures.plain ∙ ap Some c.in-AttrStop.is) c.held_plain.ensures.held _ stands at_group false refl refl
+    plain_none c.args.cursor.now c.args.cursor.now plains.AttrStop (sym c.in-Some.ensures.plain ∙ ap Some c.in-AttrStop.is) c.held_plain.ensures.held _ stands at_group false refl refl
 
 pub returns-in-Number : goal.returns-in-Number
 returns-in-Number g c =
-    plain_none c.args.cursor.now c.args.cursor.now (plains.Number c.in-Number.field-0) (sym c.in-Some-held_plain.ensures.plain ∙ ap Some c.in-Number.is) c.held_plain.ensures.held _ stands at_group false refl refl
+    plain_none c.args.cursor.now c.args.cursor.now (plains.Number c.in-Number.field-0) (sym c.in-Some.ensures.plain ∙ ap Some c.in-Number.is) c.held_plain.ensures.held _ stands at_group false refl refl

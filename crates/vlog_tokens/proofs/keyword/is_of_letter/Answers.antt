@@ -15,7 +15,7 @@ pub start_at-requires-2 : goal.start_at-requires-2
 start_at-requires-2 c = omega (arith, c.from-letter.ensures, (first_within c.args.name.now 0 c.requires).1)
 
 pub is_among-requires : goal.is_among-requires
-is_among-requires c = end_most c.args.name.now 0 _ _ c.requires c.from-letter.ensures c.start_at-2.ensures
+is_among-requires c = record { within = end_most c.args.name.now 0 _ _ c.requires c.from-letter.ensures c.start_at-2.ensures; shape = c.shape_of.ensures }
 
 pub returns : goal.returns
 returns c = c.is_among.ensures ∙ by_table c.args.name.now 0 _ _ _ c.requires c.from-letter.ensures c.start_at.ensures c.start_at-2.ensures
