@@ -17,6 +17,9 @@ use vlog_rules::declared::declarations_in;
 use vlog_rules::lists::{name_set, push_texts};
 use vlog_values::{Header, Module, PortDecl};
 
+/// For how many names, uses or instances of a module a list has room from the first: a small module has no more.
+pub(crate) const USUAL: usize = 32;
+
 fn push_decls<'a>(decls: &'a [PortDecl], out: &mut Vec<&'a [u8]>) -> Result<(), NoMemory>
     ensures added { OnOk result (names_of out.new.items
         ≡ names_of out.old.items ++ flat_map (λ decl. decl.names) decls.now) }

@@ -3,6 +3,7 @@ ghost use Rattle.std.specs.Prelude.{◌≡◌, ◌++◌, ◌∷◌, [], flat_map
 ghost use Rattle.vlog_design.specs.Names.{has_name, header_decls, net_decl, net_decls, port_decl, port_decls};
 ghost use Rattle.vlog_scopes.specs.Ranged.{lent_names, range_named, ranged_name, ranged_names, ranged_nets, ranged_ports};
 
+use crate::lists::USUAL;
 use nl_base::{NoMemory, Range};
 use std::alloc::Global;
 use vlog_design::names::NameSet;
@@ -98,7 +99,7 @@ pub fn directions_in<'a>(alloc: Global, m: &'a Module) -> Result<Vec<Ranged<'a>>
     ensures { IfOk result (λ found. ranged_names found.items
         ≡ flat_map ranged_ports (port_decls m.now)) }
 {
-    let mut found = Vec::new(alloc);
+    let mut found = Vec::with_capacity(alloc, USUAL)?;
     push_header(&m.header, &mut found)?;
     push_items_ports(m.items.items(), &mut found)?;
     Ok(found)
@@ -124,7 +125,7 @@ pub fn nets_in<'a>(alloc: Global, m: &'a Module) -> Result<Vec<Ranged<'a>>, NoMe
     ensures { IfOk result (λ found. ranged_names found.items
         ≡ flat_map ranged_nets (net_decls m.now)) }
 {
-    let mut found = Vec::new(alloc);
+    let mut found = Vec::with_capacity(alloc, USUAL)?;
     for item in m.items.items() {
         push_item_nets(item, &mut found)?;
     }
@@ -155,7 +156,7 @@ pub fn without_ports<'a>(
     ensures { IfOk result (λ found. ranged_names found.items
         ≡ filter (λ other. not (has_name ports.now other.name)) (ranged_names ranged.now)) }
 {
-    let mut found = Vec::new(alloc);
+    let mut found = Vec::with_capacity(alloc, ranged.len())?;
     for one in ranged {
         push_other(ports, one, &mut found)?;
     }

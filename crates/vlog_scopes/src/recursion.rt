@@ -9,6 +9,7 @@ ghost use Rattle.vlog_design.specs.Tables.{modules_of};
 ghost use Rattle.vlog_scopes.specs.Distinct.{Distinct, module_names};
 ghost use Rattle.vlog_scopes.specs.Instances.{instance_pairs, linked, links_in, links_of, numbers_in};
 
+use crate::lists::USUAL;
 use net_graph::recursion::{Recursion, first_recursion as first_in_graph};
 use nl_base::{NoMemory, Refusal, Rule, Seq};
 use std::alloc::Global;
@@ -81,7 +82,7 @@ fn links<'a>(
     ensures { IfOk result (λ found. links_of found.items
         ≡ links_in names.now (instance_pairs m.now)) }
 {
-    let mut found = Vec::new(alloc);
+    let mut found = Vec::with_capacity(alloc, USUAL)?;
     for item in m.items.items() {
         push_item(names, item, &mut found)?;
     }
@@ -91,11 +92,11 @@ fn links<'a>(
 fn numbers_of(alloc: Global, links: &[(&[u8], u32)]) -> Result<Seq<u32>, NoMemory>
     ensures { IfOk result (λ numbers. numbers ≡ map (λ link. link.1) (links_of links.now)) }
 {
-    let mut numbers = Seq::empty(alloc);
+    let mut numbers = Vec::with_capacity(alloc, links.len())?;
     for link in links {
         numbers.push(link.1)?;
     }
-    Ok(numbers)
+    Ok(Seq::of(numbers))
 }
 
 fn below(alloc: Global, names: &NameSet, m: &Module) -> Result<Seq<u32>, NoMemory>

@@ -9,6 +9,7 @@ ghost use Rattle.vlog_values.specs.Sizes.{module_size};
 
 use crate::entries::{push_declared_entries, push_implicit_entries};
 use crate::known::shows_none;
+use crate::lists::USUAL;
 use nl_base::NoMemory;
 use std::alloc::Global;
 use vlog_design::signals::Slot;
@@ -52,7 +53,7 @@ pub fn scope_of<'a>(alloc: Global, m: &'a Module) -> Result<ModuleScope<'a>, NoM
     requires small { module_size m.now ≤ 268435456 }
     ensures { IfOk result (λ scope. scope.module.now ≡ m.now) }
 {
-    let mut entries = Vec::new(alloc);
+    let mut entries = Vec::with_capacity(alloc, USUAL)?;
     let next = push_declared_entries(alloc, m, &mut entries)?;
     if let Some(table) = declared_table(alloc, m, entries.as_slice())? {
         return Ok(ModuleScope { module: m, table });

@@ -3,6 +3,7 @@ ghost use Rattle.std.specs.Prelude.{◌≡◌, ◌++◌, flat_map, map, option_t
 ghost use Rattle.vlog_design.specs.Names.{item_targets, target_uses, uses};
 ghost use Rattle.vlog_design.specs.Uses.{uses_of};
 
+use crate::lists::USUAL;
 use nl_base::NoMemory;
 use std::alloc::Global;
 use vlog_design::uses::{UseOf, push_instances_uses, push_uses};
@@ -47,7 +48,7 @@ fn push_items<'a>(items: &'a [ItemV], out: &mut Vec<UseOf<'a>>) -> Result<(), No
 pub fn targets_in<'a>(alloc: Global, m: &'a Module) -> Result<Vec<UseOf<'a>>, NoMemory>
     ensures { IfOk result (λ found. uses_of found.items ≡ target_uses m.now) }
 {
-    let mut found = Vec::new(alloc);
+    let mut found = Vec::with_capacity(alloc, USUAL)?;
     push_items(m.items.items(), &mut found)?;
     Ok(found)
 }

@@ -8,5 +8,5 @@ pub returns : goal.returns
 returns c =
     directions_are c.args.m.now _
     (c.in_ok-push_items_ports.ensures.added
-    ∙ (λ j. (c.in_ok-push_header.ensures.added ∙ ap (λ items. ranged_names items ++ flat_map ranged_ports (header_decls c.args.m.now.header)) c.new-found.ensures.items) j
+    ∙ (λ j. (c.in_ok-push_header.ensures.added ∙ ap (λ items. ranged_names items ++ flat_map ranged_ports (header_decls c.args.m.now.header)) c.in_ok-found.ensures.items) j
     ++ flat_map ranged_ports (flat_map port_decl (c.items.ensures j))))

@@ -9,7 +9,7 @@ use Rattle.vlog_scopes.proofs.scopes.scope_of.Goals as goal
 
 pub declared_table-requires-clause-declared : goal.declared_table-requires-clause-declared
 declared_table-requires-clause-declared c =
-    ap signals_of c.as_slice.ensures.value ∙ (c.in_ok-next.ensures.added ∙ ap (λ items. signals_of items ++ declared_signals c.args.m.now) c.new-entries.ensures.items)
+    ap signals_of c.as_slice.ensures.value ∙ (c.in_ok-next.ensures.added ∙ ap (λ items. signals_of items ++ declared_signals c.args.m.now) c.in_ok-entries.ensures.items)
 
 pub table_of-requires : goal.table_of-requires
 table_of-requires c =
@@ -17,7 +17,7 @@ table_of-requires c =
     let made : signals_of c.as_slice-2.result.now ≡ signals m =
     ap signals_of c.as_slice-2.ensures.value
     ∙ (c.in_ok-push_implicit_entries.ensures.added
-    ∙ ((λ j. (c.in_ok-next.ensures.added ∙ ap (λ items. signals_of items ++ declared_signals m) c.new-entries.ensures.items) j ++ net_slots (c.in_ok-next.ensures.behind j) (of_range None (implicit_names m)))
+    ∙ ((λ j. (c.in_ok-next.ensures.added ∙ ap (λ items. signals_of items ++ declared_signals m) c.in_ok-entries.ensures.items) j ++ net_slots (c.in_ok-next.ensures.behind j) (of_range None (implicit_names m)))
     ∙ sym (signals_are m))) in
     subst (λ names. Distinct (signal_names names)) (sym made) (names_distinct m c.requires.once)
 
@@ -28,6 +28,6 @@ invariant_of-result-2 c =
       is_whole = c.in_ok-whole.ensures
           ∙ (ap signals_of c.as_slice-2.ensures.value
           ∙ (c.in_ok-push_implicit_entries.ensures.added
-          ∙ ((λ j. (c.in_ok-next.ensures.added ∙ ap (λ items. signals_of items ++ declared_signals m) c.new-entries.ensures.items) j ++ net_slots (c.in_ok-next.ensures.behind j) (of_range None (implicit_names m)))
+          ∙ ((λ j. (c.in_ok-next.ensures.added ∙ ap (λ items. signals_of items ++ declared_signals m) c.in_ok-entries.ensures.items) j ++ net_slots (c.in_ok-next.ensures.behind j) (of_range None (implicit_names m)))
           ∙ sym (signals_are m))));
     }
