@@ -39,11 +39,11 @@ fn design_of(alloc: Global, file: &EdifFile) -> Result<Hier, Failure>
 }
 
 /// The design of a Verilog file under the module of this name, or why it has none.
-fn design_under(alloc: Global, file: &VlogFile, top: &Text) -> Result<Hier, Failure>
-    requires value { IsVlogValue file.now }
-    requires small { vlog_size file.now ≤ count_limit }
-    ensures { MatchResult result (IsVlogDesign file.now top.now)
-        (IsFailureOf (λ verdict. verilog_first top.now file.now ≡ Some verdict)) }
+fn design_under(alloc: Global, file: VlogFile, top: &Text) -> Result<Hier, Failure>
+    requires value { IsVlogValue file }
+    requires small { vlog_size file ≤ count_limit }
+    ensures { MatchResult result (IsVlogDesign file top.now)
+        (IsFailureOf (λ verdict. verilog_first top.now file ≡ Some verdict)) }
 {
     match elaborate(alloc, file, top) {
         Ok(design) => Ok(design),
@@ -90,10 +90,7 @@ pub fn read_design_under<S: Source>(
         (S.supply input.old) (S.supply input.new) }
 {
     match read_vlog(alloc, input) {
-        Ok(file) => {
-            let found = design_under(alloc, &file, top);
-            found
-        }
+        Ok(file) => design_under(alloc, file, top),
         Err(error) => Err(Failure::of_read_error(error)),
     }
 }

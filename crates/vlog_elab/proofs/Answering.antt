@@ -1,35 +1,40 @@
 -- From the design of modules to the design of a file.
-use Rattle.std.proofs.Common.{◌≡◌, ℕ, zero, suc, ◌+◌, ◌-◌, ◌<◌, ◌≤◌, ◌^◌, List, [], ◌∷◌, ◌++◌, All, Some, None, Result, Ok, Err, length, map, min, sum_by, take, get_or, slice_get, refl, sym, ap, ◌∙◌, subst, arith}
+use Rattle.std.proofs.Common.{◌≡◌, true, ℕ, zero, suc, ◌+◌, ◌-◌, ◌<◌, ◌≤◌, ◌^◌, List, [], ◌∷◌, ◌++◌, Some, None, Result, Ok, Err, length, map, min, sum_by, take, get_or, slice_get, refl, sym, ap, ◌∙◌, subst, arith}
 use Rattle.std.specs.Prelude.{MatchResult, option_map}
 use Rattle.std.specs.Option.{option_map_or}
-use Rattle.std.proofs.lemmas.List.{map-append, take_more}
+use Rattle.std.proofs.lemmas.List.{length-map, map-append, take_more}
 use Rattle.std.proofs.lemmas.List.Sums.{sum_by_more, sum_by_push}
 use Rattle.std.proofs.lemmas.Option.{slice_get-get_or, slice_get-map}
 use Rattle.net_graph.specs.Graph.{IsFirstRecursion, ReachesItself}
+use Rattle.net_graph.specs.Marks.{marks_of}
 use Rattle.net_hier.specs.Design.{Design, cells_below}
 use Rattle.net_hier.specs.Units.{units}
 use Rattle.net_hier.specs.Valid.{CellsFit, unit_limit}
 use Rattle.net_hier.specs.declared.cells.HCell.{HCell}
-use Rattle.vlog_design.specs.Design.{module_cell, module_joins, vlog_design}
-use Rattle.vlog_design.specs.Names.{Name, Signal, signals}
-use Rattle.vlog_design.specs.Numbers.{HasNumbers}
-use Rattle.vlog_design.specs.Reach.{module_number, reached}
+use Rattle.vlog_design.specs.Design.{module_joins, vlog_design}
+use Rattle.vlog_design.specs.Names.{Name, Signal, has_name, signals}
+use Rattle.vlog_design.specs.Reach.{module_number, modules_below, reached}
 use Rattle.vlog_design.specs.Rules.{first_G, first_of, refusals}
 use Rattle.vlog_rules.specs.declared.passes.ModuleScope.{ModuleScope}
+use Rattle.vlog_scopes.specs.Distinct.{Distinct, module_names}
 use Rattle.vlog_ties.specs.Ties.{modules_in}
 use Rattle.vlog_values.specs.Sizes.{vlog_size}
 use Rattle.vlog_values.specs.Values.{IsVlogValue}
 use Rattle.vlog_values.specs.declared.module.Module.{Module}
 use Rattle.vlog_values.specs.declared.module.VlogFile.{VlogFile}
-use Rattle.vlog_elab.specs.Answers.{HasDesign, IsDesignFrom, IsDesignOf, IsFaultFrom, IsFaultOf}
+use Rattle.vlog_elab.specs.Answers.{AreShown, AreShownFrom, HasDesign, IsDesignFrom, IsDesignOf, IsFaultFrom, IsFaultOf}
 use Rattle.vlog_checked.specs.Clean.{IsClean}
-use Rattle.vlog_elab.specs.Ready.{AreReady, IsReady}
+use Rattle.vlog_elab.specs.Interfaces.{cells_shown, interface, is_shown}
+use Rattle.vlog_elab.specs.Ready.{AreReady, CanBeCell, CanHaveCells, IsReady}
 use Rattle.vlog_elab.specs.Units.{cells_from, module_units, signal_width}
 use Rattle.vlog_elab.specs.declared.answer.ResolveError.{ResolveError}
+use Rattle.vlog_elab.specs.declared.answer.Shown.{Shown}
 use Rattle.vlog_elab.specs.declared.answer.ResolveError.TheVariants.{Refused, TooBig, NoMemory}
 use Rattle.vlog_checked.proofs.Clean.{clean_file}
 use Rattle.vlog_elab.proofs.Fitting.{none_back, numbers_fit, those_few, those_fit, those_small}
-use Rattle.vlog_checked.proofs.Reaching.{those_values}
+use Rattle.vlog_checked.proofs.Reaching.{own_all, reached_from, those_values}
+use Rattle.vlog_checked.proofs.TableLaws.{differ_in, differ_marked}
+use Rattle.vlog_elab.proofs.Choosing.{all_once, all_small, marked_cells, name_there, names_same}
 use Rattle.net_hier.proofs.Building.{built, in_range, top_within}
 use Rattle.vlog_elab.proofs.Ordering.{has_postorder}
 use Rattle.vlog_elab.proofs.Signals.{units_are}
@@ -86,18 +91,6 @@ pub units_done : (scopes : List ModuleScope) (i count : ℕ) → length scopes �
 units_done scopes i count le is =
     is ∙ (ap (λ those. min (2 ^ 64 - 1) (sum_by (module_units (modules_in scopes)) (modules_in those))) (all_taken scopes i le) ∙ sym (units_are (modules_in scopes)))
 
--- ---- cells
-
--- the cell of one more module
-pub cells_more : (scopes : List ModuleScope) (i : ℕ) (x : ModuleScope) (old new : List HCell) (cell : HCell) → i < length scopes → x ≡ get_or scopes i x → old ≡ map (module_cell (modules_in scopes)) (modules_in (take i scopes))
-    → cell ≡ module_cell (modules_in scopes) x.module.now → new ≡ old ++ cell ∷ [] → new ≡ map (module_cell (modules_in scopes)) (modules_in (take (i + 1) scopes))
-cells_more scopes i x old new cell lt is are made is_new =
-    is_new ∙ ((λ j. are j ++ made j ∷ [])
-    ∙ (sym (map-append (module_cell (modules_in scopes)) (modules_in (take i scopes)) (x.module.now ∷ [])) ∙ ap (map (module_cell (modules_in scopes))) (sym (scopes_more scopes i x lt is))))
-
-pub cells_done : (scopes : List ModuleScope) (i : ℕ) (cells : List HCell) → length scopes ≤ i → cells ≡ map (module_cell (modules_in scopes)) (modules_in (take i scopes)) → cells ≡ cells_from (modules_in scopes)
-cells_done scopes i cells le is = is ∙ ap (λ those. map (module_cell (modules_in scopes)) (modules_in those)) (all_taken scopes i le)
-
 -- the module of a scope stands under its number
 pub scope_there : (scopes : List ModuleScope) (i : ℕ) (x : ModuleScope) → i < length scopes → x ≡ get_or scopes i x → slice_get (modules_in scopes) i ≡ Some x.module.now
 scope_there scopes i x lt is =
@@ -105,10 +98,6 @@ scope_there scopes i x lt is =
 
 pub ready_there : (names : List Name) (scopes : List ModuleScope) (i : ℕ) (x : ModuleScope) → AreReady names (modules_in scopes) → i < length scopes → x ≡ get_or scopes i x → IsReady (modules_in scopes) x.module.now
 ready_there names scopes i x ready lt is = ready.each i x.module.now (scope_there scopes i x lt is)
-
-pub numbers_there : (names : List Name) (scopes : List ModuleScope) (i : ℕ) (x : ModuleScope) → AreReady names (modules_in scopes) → i < length scopes → x ≡ get_or scopes i x → units (cells_from (modules_in scopes)) ≤ unit_limit
-    → All (λ signal. HasNumbers signal.slot) (signals x.module.now)
-numbers_there names scopes i x ready lt is few = numbers_fit (modules_in scopes) i x.module.now (scope_there scopes i x lt is) (ready_there names scopes i x ready lt is).narrow few
 
 -- ---- the file
 
@@ -180,11 +169,60 @@ module _ (file : VlogFile) (top : Name) (value : IsVlogValue file) (small : vlog
     pub free_for : (number : ℕ) → ¬ ReachesItself (cells_below (cells_from ms)) number
     free_for = subst (λ those. (number : ℕ) → ¬ ReachesItself (cells_below (cells_from those)) number) (sym are) (none_back file top value clean small)
 
-    pub answered_for : (number : ℕ) → number ≡ module_number (reached file top) top → (result : Result Design ResolveError) → MatchResult result (IsDesignFrom (cells_from ms) number) (IsFaultFrom (cells_from ms))
-        → MatchResult result (IsDesignOf file top) (IsFaultOf file top)
-    answered_for number is result h =
-        answered result (subst (λ those. MatchResult result (IsDesignFrom (cells_from those) (module_number (reached file top) top)) (IsFaultFrom (cells_from those))) are
-        (subst (λ n. MatchResult result (IsDesignFrom (cells_from ms) n) (IsFaultFrom (cells_from ms))) is h))
+    pub shown_for : (number : ℕ) → number ≡ module_number (reached file top) top → (result : Result Shown ResolveError)
+        → MatchResult result (λ shown. AreShownFrom ms number shown.modules shown.top) (IsFaultFrom (cells_from ms)) → MatchResult result (λ shown. AreShown file top shown.modules shown.top) (IsFaultOf file top)
+    shown_for number is (Ok shown) h =
+        record { no_refusals = none; shown_are = h.shown_are ∙ ap (map interface) are; number_is = h.top_is ∙ is; few_units = subst (λ those. units (cells_from those) ≤ unit_limit) are h.few_units }
+    shown_for number is (Err fault) h = fault_answered fault (subst (λ those. IsFaultFrom (cells_from those) fault) are h)
 
     pub checked_for : (result : Result (Unit {0}) ResolveError) → MatchResult result (λ done. units (cells_from ms) ≤ unit_limit) (IsFaultFrom (cells_from ms)) → MatchResult result (λ done. HasDesign file top) (IsFaultOf file top)
     checked_for result h = checked result (subst (λ those. MatchResult result (λ done. units (cells_from those) ≤ unit_limit) (IsFaultFrom (cells_from those))) are h)
+
+  -- the same of the modules that are shown
+  module _ (shown : List Module) (number : ℕ) (are : AreShown file top shown number) where
+    -- the cells of those modules of the file that are shown are those of the reached ones
+    cells_are : cells_shown shown file.modules ≡ cells_from (reached file top)
+    unfolding reached
+    cells_are = ap (λ those. cells_shown those file.modules) are.shown_are ∙ marked_cells (marks_of (modules_below file.modules) (module_number file.modules top)) file.modules (differ_in file clean.once)
+
+    reached_differ : Distinct (module_names (reached file top))
+    unfolding reached
+    reached_differ = differ_marked (marks_of (modules_below file.modules) (module_number file.modules top)) file.modules (differ_in file clean.once)
+
+    -- a module of the file whose name is shown is a reached one
+    chosen_fits : (i : ℕ) (m : Module) → slice_get file.modules i ≡ Some m → is_shown (map interface (reached file top)) m ≡ true → CanBeCell m
+    chosen_fits i m e h =
+        let n = name_there m.name (reached file top) (subst (λ names. has_name names m.name ≡ true) (names_same (reached file top)) h) in
+        let r = reached_from file top clean.has_top clean.once n.place n.item n.is_there in
+        let p : i ≡ r.place = own_all file top clean.has_top clean.once i r.place m n.item e r.is_there n.has_it in
+        let q : slice_get file.modules i ≡ Some n.item = ap (slice_get file.modules) p ∙ r.is_there in
+        let same : n.item ≡ m = cc in
+        subst CanBeCell same (record {
+          value = those_values file top value clean n.place n.item n.is_there;
+          small = those_small file top value clean small n.place n.item n.is_there;
+          once = (clean.each n.place n.item n.is_there).declared_once;
+          numbers = numbers_fit (reached file top) n.place n.item n.is_there (clean.each n.place n.item n.is_there).narrow are.few_units;
+        })
+
+    pub can_shown : CanHaveCells shown file.modules
+    can_shown = subst (λ those. CanHaveCells those file.modules) (sym are.shown_are) (record {
+      few = let g : length (map interface (reached file top)) ≤ 268435456 = omega (arith, length-map (reached file top) interface, those_few file top value clean small) in g;
+      differ = subst Distinct (sym (names_same (reached file top))) reached_differ;
+      once = all_once (reached file top) (λ i m e. (clean.each i m e).declared_once);
+      small = all_small (reached file top) (those_small file top value clean small);
+      fit = chosen_fits;
+    })
+
+    pub fit_shown : CellsFit (cells_shown shown file.modules) number
+    fit_shown = subst (λ cells. CellsFit cells number) (sym cells_are) (subst (CellsFit (cells_from (reached file top))) (sym are.number_is) (those_fit file top value clean small))
+
+    pub free_shown : (n : ℕ) → ¬ ReachesItself (cells_below (cells_shown shown file.modules)) n
+    free_shown = subst (λ cells. (n : ℕ) → ¬ ReachesItself (cells_below cells) n) (sym cells_are) (none_back file top value clean small)
+
+    pub units_shown : units (cells_shown shown file.modules) ≤ unit_limit
+    units_shown = subst (λ cells. units cells ≤ unit_limit) (sym cells_are) are.few_units
+
+    pub answered_shown : (result : Result Design ResolveError) → MatchResult result (IsDesignFrom (cells_shown shown file.modules) number) (IsFaultFrom (cells_shown shown file.modules)) → MatchResult result (IsDesignOf file top) (IsFaultOf file top)
+    answered_shown result h =
+        answered result (subst (λ n. MatchResult result (IsDesignFrom (cells_from (reached file top)) n) (IsFaultFrom (cells_from (reached file top)))) are.number_is
+        (subst (λ cells. MatchResult result (IsDesignFrom cells number) (IsFaultFrom cells)) cells_are h))

@@ -1,8 +1,12 @@
 pub mod Answering
+pub mod Choosing
 pub mod FewUnits
 pub mod Fitting
 pub mod Joins
+pub mod Making
 pub mod Nodes
 pub mod Ordering
 pub mod OwnNames
+pub mod ShownOnce
+pub mod Showing
 pub mod Signals

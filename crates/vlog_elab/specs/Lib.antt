@@ -1,3 +1,4 @@
 pub mod Answers
+pub mod Interfaces
 pub mod Ready
 pub mod Units

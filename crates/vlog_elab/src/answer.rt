@@ -4,8 +4,9 @@ ghost use Rattle.net_graph.specs.Graph.{ReachesItself};
 ghost use Rattle.net_hier.specs.Design.{cells_below};
 ghost use Rattle.net_hier.specs.Units.{units};
 ghost use Rattle.net_hier.specs.Valid.{CellsFit, count_limit, unit_limit};
-ghost use Rattle.vlog_elab.specs.Answers.{HasDesign, IsDesignFrom, IsDesignOf, IsFaultFrom, IsFaultOf};
-ghost use Rattle.vlog_elab.specs.Ready.{AreReady};
+ghost use Rattle.vlog_elab.specs.Answers.{AreShown, AreShownFrom, HasDesign, IsDesignFrom, IsDesignOf, IsFaultFrom, IsFaultOf};
+ghost use Rattle.vlog_elab.specs.Interfaces.{cells_shown};
+ghost use Rattle.vlog_elab.specs.Ready.{AreReady, CanHaveCells};
 ghost use Rattle.vlog_elab.specs.Units.{cells_from};
 ghost use Rattle.vlog_elab.specs.declared.answer.ResolveError.TheVariants.{NoMemory};
 ghost use Rattle.vlog_ties.specs.Ties.{modules_in, most_joins};
@@ -13,6 +14,7 @@ ghost use Rattle.vlog_values.specs.Sizes.{vlog_size};
 ghost use Rattle.vlog_values.specs.Values.{IsVlogValue};
 
 use crate::cells::cells_of;
+use crate::interfaces::interfaces_of;
 use crate::units::{shows_few, units_of};
 use net_hier::build::{BuildFault, UNIT_LIMIT};
 use net_hier::{HCell, Hier};
@@ -21,7 +23,7 @@ use std::alloc::Global;
 use vlog_checked::{Checked, check_file};
 use vlog_design::names::NameSet;
 use vlog_rules::passes::ModuleScope;
-use vlog_values::VlogFile;
+use vlog_values::{Module, VlogFile};
 
 /// Why a file has no design.
 #[derive(Drop)]
@@ -32,6 +34,13 @@ pub enum ResolveError {
     TooBig(u64),
     /// Memory ran out.
     NoMemory,
+}
+
+/// What the reached modules show to one another, in file order, and the number of the top among them.
+#[derive(Drop)]
+pub struct Shown {
+    pub modules: Seq<Module>,
+    pub top: u32,
 }
 
 impl From<NoMemory> for ResolveError {
@@ -83,42 +92,37 @@ fn few_units(
     Ok(())
 }
 
-// The design of modules whose cells fit and of which none reaches itself.
-fn design_of(
+/// What modules show, where their units are within the limit.
+fn shown_from(
     alloc: Global,
     names: &NameSet,
     scopes: &[ModuleScope],
     top: u32,
     most: u64,
-) -> Result<Hier, ResolveError>
+) -> Result<Shown, ResolveError>
     requires ready { AreReady names.now (modules_in scopes.now) }
     requires most { most ≡ min (2 ^ 64 - 1)
         (sum_by (most_joins (modules_in scopes.now)) (modules_in scopes.now)) }
-    requires fit { CellsFit (cells_from (modules_in scopes.now)) top }
-    requires no_recursion { (number : ℕ)
-        → ¬ ReachesItself (cells_below (cells_from (modules_in scopes.now))) number }
-    ensures { MatchResult result (IsDesignFrom (cells_from (modules_in scopes.now)) top)
+    ensures { MatchResult result
+        (λ shown. AreShownFrom (modules_in scopes.now) top shown.modules shown.top)
         (IsFaultFrom (cells_from (modules_in scopes.now))) }
 {
     few_units(alloc, names, scopes, most)?;
-    let cells = cells_of(alloc, names, scopes)?;
-    let hier = built(alloc, cells, top)?;
-    Ok(hier)
+    let modules = interfaces_of(alloc, scopes)?;
+    Ok(Shown { modules, top })
 }
 
-/// The design of a file of at most 268,435,456 items under the module of this name.
-///
-/// # Errors
-/// `Refused`: the file breaks a rule; it is the first object, in file order, that breaks the lowest broken rule. `TooBig`: no rule is
-/// broken, and the units pass 33,554,432. `NoMemory`: memory ran out.
-pub fn elaborate(alloc: Global, file: &VlogFile, top: &Text) -> Result<Hier, ResolveError>
+/// What the reached modules of a file show, where it breaks no rule and their units are within the limit. The tables of the modules are
+/// left with it.
+fn shown_of(alloc: Global, file: &VlogFile, top: &Text) -> Result<Shown, ResolveError>
     requires value { IsVlogValue file.now }
     requires small { vlog_size file.now ≤ count_limit }
-    ensures { MatchResult result (IsDesignOf file.now top.now) (IsFaultOf file.now top.now) }
+    ensures { MatchResult result (λ shown. AreShown file.now top.now shown.modules shown.top)
+        (IsFaultOf file.now top.now) }
 {
     match check_file(alloc, file, top.bytes())? {
         Checked::Refused(refusal) => Err(ResolveError::Refused(refusal)),
-        Checked::Clean(clean) => design_of(
+        Checked::Clean(clean) => shown_from(
             alloc,
             &clean.names,
             &clean.scopes,
@@ -126,6 +130,37 @@ pub fn elaborate(alloc: Global, file: &VlogFile, top: &Text) -> Result<Hier, Res
             clean.most,
         ),
     }
+}
+
+/// The design of those modules of a file that are shown, whose cells fit and of which none reaches itself.
+fn design_of(alloc: Global, shown: Shown, file: VlogFile) -> Result<Hier, ResolveError>
+    requires can { CanHaveCells shown.modules file.modules }
+    requires fit { CellsFit (cells_shown shown.modules file.modules) shown.top }
+    requires no_recursion { (number : ℕ)
+        → ¬ ReachesItself (cells_below (cells_shown shown.modules file.modules)) number }
+    requires few_units { units (cells_shown shown.modules file.modules) ≤ unit_limit }
+    ensures { MatchResult result
+        (IsDesignFrom (cells_shown shown.modules file.modules) shown.top)
+        (IsFaultFrom (cells_shown shown.modules file.modules)) }
+{
+    let Shown { modules, top } = shown;
+    let cells = cells_of(alloc, modules.items(), file)?;
+    let hier = built(alloc, cells, top)?;
+    Ok(hier)
+}
+
+/// The design of a file of at most 268,435,456 items under the module of this name. Each module is left when its cell is made.
+///
+/// # Errors
+/// `Refused`: the file breaks a rule; it is the first object, in file order, that breaks the lowest broken rule. `TooBig`: no rule is
+/// broken, and the units pass 33,554,432. `NoMemory`: memory ran out.
+pub fn elaborate(alloc: Global, file: VlogFile, top: &Text) -> Result<Hier, ResolveError>
+    requires value { IsVlogValue file }
+    requires small { vlog_size file ≤ count_limit }
+    ensures { MatchResult result (IsDesignOf file top.now) (IsFaultOf file top.now) }
+{
+    let shown = shown_of(alloc, &file, top)?;
+    design_of(alloc, shown, file)
 }
 
 /// Whether a file of at most 268,435,456 items has a design under the module of this name: `Ok` exactly where `elaborate` answers one,

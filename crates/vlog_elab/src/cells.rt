@@ -1,10 +1,12 @@
 // The cells of a design.
-ghost use Rattle.std.specs.Prelude.{◌≡◌, ◌≤◌, IfOk};
-ghost use Rattle.net_hier.specs.Units.{units};
-ghost use Rattle.net_hier.specs.Valid.{unit_limit};
-ghost use Rattle.vlog_elab.specs.Ready.{AreReady};
-ghost use Rattle.vlog_elab.specs.Units.{cells_from};
+ghost use Rattle.std.specs.Prelude.{◌≡◌, ◌≤◌, ◌<◌, ◌^◌, ◌++◌, true, length, map, IfOk, OnOk};
+ghost use Rattle.std.specs.List.{AllByRecursion};
+ghost use Rattle.net_hier.specs.Valid.{Each, count_limit};
+ghost use Rattle.vlog_elab.specs.Interfaces.{cell_shown, cells_shown, is_shown};
+ghost use Rattle.vlog_elab.specs.Ready.{CanBeCell, CanHaveCells};
+ghost use Rattle.vlog_scopes.specs.Distinct.{AreDeclaredOnce, Distinct, module_names};
 ghost use Rattle.vlog_ties.specs.Ties.{modules_in};
+ghost use Rattle.vlog_values.specs.Sizes.{module_size};
 
 use net_hier::HCell;
 use nl_base::{NoMemory, Seq};
@@ -12,21 +14,87 @@ use std::alloc::Global;
 use vlog_cells::cell::cell_of;
 use vlog_design::names::NameSet;
 use vlog_rules::passes::ModuleScope;
+use vlog_rules::repeats::names_of_modules;
+use vlog_scopes::lists::distinct;
+use vlog_scopes::scopes::scope_of;
+use vlog_values::{Module, VlogFile};
 
-/// The cells of the modules, in their order.
-pub(crate) fn cells_of(
+/// The names of modules, which differ, in their order.
+fn names_shown<'a>(alloc: Global, shown: &'a [Module]) -> Result<NameSet<'a>, NoMemory>
+    requires { Distinct (module_names shown.now) }
+    ensures { IfOk result (λ names. names ≡ module_names shown.now) }
+{
+    let names = names_of_modules(alloc, shown)?;
+    let set = distinct(alloc, &names)?;
+    Ok(set)
+}
+
+/// The modules with the tables of their names, in their order.
+fn scopes_shown<'a>(alloc: Global, shown: &'a [Module]) -> Result<Vec<ModuleScope<'a>>, NoMemory>
+    requires once { AreDeclaredOnce shown.now }
+    requires small { AllByRecursion (λ m. module_size m ≤ count_limit) shown.now }
+    ensures { IfOk result (λ scopes. modules_in scopes.items ≡ shown.now) }
+{
+    let mut scopes = Vec::with_capacity(alloc, shown.len())?;
+    for m in shown {
+        scopes.push(scope_of(alloc, m)?)?;
+    }
+    Ok(scopes)
+}
+
+/// Adds the cell of a module, where it is one of those that are shown.
+#[tactic(auto, unfolding(crate::specs::Interfaces::cell_shown))]
+fn push_cell(
     alloc: Global,
     names: &NameSet,
     scopes: &[ModuleScope],
+    m: &Module,
+    cells: &mut Seq<HCell>,
+) -> Result<(), NoMemory>
+    requires named { names.now ≡ map (λ m. m.name) (modules_in scopes.now) }
+    requires few { length (modules_in scopes.now) < 2 ^ 32 }
+    requires fits { is_shown (modules_in scopes.now) m.now ≡ true → CanBeCell m.now }
+    ensures added { OnOk result (cells.new
+        ≡ cells.old ++ cell_shown (modules_in scopes.now) m.now) }
+{
+    if !names.has(m.name.bytes()) {
+        return Ok(());
+    }
+    let scope = scope_of(alloc, m)?;
+    let cell = cell_of(alloc, names, scopes, &scope)?;
+    cells.push(cell)
+}
+
+/// The cells of those modules that are shown, in their order. Each module is left when its cell is made.
+fn cells_made(
+    alloc: Global,
+    names: &NameSet,
+    scopes: &[ModuleScope],
+    modules: Seq<Module>,
 ) -> Result<Seq<HCell>, NoMemory>
-    requires ready { AreReady names.now (modules_in scopes.now) }
-    requires few_units { units (cells_from (modules_in scopes.now)) ≤ unit_limit }
-    ensures { IfOk result (λ cells. cells ≡ cells_from (modules_in scopes.now)) }
+    requires named { names.now ≡ map (λ m. m.name) (modules_in scopes.now) }
+    requires few { length (modules_in scopes.now) < 2 ^ 32 }
+    requires fit { Each (λ m. is_shown (modules_in scopes.now) m ≡ true → CanBeCell m) modules }
+    ensures { IfOk result (λ cells. cells ≡ cells_shown (modules_in scopes.now) modules) }
 {
     let mut cells = Seq::empty(alloc);
-    for scope in scopes {
-        let cell = cell_of(alloc, names, scopes, scope)?;
-        cells.push(cell)?;
+    for m in modules.into_vec() {
+        push_cell(alloc, names, scopes, &m, &mut cells)?;
     }
     Ok(cells)
+}
+
+/// The cells of those modules of the file that are shown, in file order, by what is shown.
+pub(crate) fn cells_of(
+    alloc: Global,
+    shown: &[Module],
+    file: VlogFile,
+) -> Result<Seq<HCell>, NoMemory>
+    requires { CanHaveCells shown.now file.modules }
+    ensures { IfOk result (λ cells. cells ≡ cells_shown shown.now file.modules) }
+{
+    let VlogFile { modules } = file;
+    let names = names_shown(alloc, shown)?;
+    let scopes = scopes_shown(alloc, shown)?;
+    cells_made(alloc, &names, &scopes, modules)
 }

@@ -8,9 +8,9 @@ pub returns-in-Ok : goal.returns-in-Ok
 returns-in-Ok g c =
     let read = rw c.in-Ok.is at c.read_vlog.ensures.reads in
     record {
-      sound = design_under_is_sound c.args.top.now c.in-Ok.file (rw c.in-Ok.is at c.read_vlog.ensures.value) c.design_under-found.result c.design_under-found.ensures;
-      reads = design_under_is_read c.args.top.now _ _ c.in-Ok.file read.value read.ended c.design_under-found.result c.design_under-found.ensures;
-      within = design_under_within c.args.top.now c.in-Ok.file (rw c.in-Ok.is at c.read_vlog.ensures.value) c.design_under-found.result c.design_under-found.ensures;
+      sound = design_under_is_sound c.args.top.now c.in-Ok.file (rw c.in-Ok.is at c.read_vlog.ensures.value) c.design_under.result c.design_under.ensures;
+      reads = design_under_is_read c.args.top.now _ _ c.in-Ok.file read.value read.ended c.design_under.result c.design_under.ensures;
+      within = design_under_within c.args.top.now c.in-Ok.file (rw c.in-Ok.is at c.read_vlog.ensures.value) c.design_under.result c.design_under.ensures;
       taken = text_takes _ _ _ _ _ _ c.read_vlog.result c.read_vlog.ensures.reads;
     }
 

@@ -1,22 +1,13 @@
-use Rattle.vlog_elab.proofs.Answering.{cells_done, cells_more, numbers_there, ready_there}
+use Rattle.std.proofs.Common.{◌≡◌, ap, subst, sym, true, ◌∙◌}
+use Rattle.std.specs.Prelude.{IfOk}
+use Rattle.net_hier.specs.Valid.{Each}
+use Rattle.vlog_elab.specs.Interfaces.{cells_shown, is_shown}
+use Rattle.vlog_elab.specs.Ready.{CanBeCell}
+use Rattle.vlog_ties.specs.Ties.{modules_in}
 use Rattle.vlog_elab.proofs.cells.cells_of.Goals as goal
 
-pub cell_of-requires-clause-valid : goal.cell_of-requires-clause-valid
-cell_of-requires-clause-valid c = (ready_there c.args.names.now c.args.scopes.now c.loop-scope.scope-index c.scope-item.result c.requires.ready c.loop-scope-test.true c.scope-item.is).value
-
-pub cell_of-requires-clause-small : goal.cell_of-requires-clause-small
-cell_of-requires-clause-small c = (ready_there c.args.names.now c.args.scopes.now c.loop-scope.scope-index c.scope-item.result c.requires.ready c.loop-scope-test.true c.scope-item.is).small
-
-pub cell_of-requires-clause-once : goal.cell_of-requires-clause-once
-cell_of-requires-clause-once c = (ready_there c.args.names.now c.args.scopes.now c.loop-scope.scope-index c.scope-item.result c.requires.ready c.loop-scope-test.true c.scope-item.is).once
-
-pub cell_of-requires-clause-numbers : goal.cell_of-requires-clause-numbers
-cell_of-requires-clause-numbers c = numbers_there c.args.names.now c.args.scopes.now c.loop-scope.scope-index c.scope-item.result c.requires.ready c.loop-scope-test.true c.scope-item.is c.requires.few_units
-
-pub loop-scope-preserved : goal.loop-scope-preserved
-loop-scope-preserved c =
-    cells_more c.args.scopes.now c.loop-scope.scope-index c.scope-item.result c.loop-scope.cells c.push.new.self c.in_ok-cell.cell c.loop-scope-test.true c.scope-item.is c.loop-scope.invariant c.in_ok-cell.ensures
-    c.in_ok-push.ensures.added
+pub cells_made-requires-clause-fit : goal.cells_made-requires-clause-fit
+cells_made-requires-clause-fit c = subst (λ ms. Each (λ m. is_shown ms m ≡ true → CanBeCell m) c.args.file.modules) (sym (ap modules_in c.deref.ensures.value ∙ c.in_ok-scopes.ensures)) c.requires.fit
 
 pub returns : goal.returns
-returns c = cells_done c.args.scopes.now c.loop-scope.scope-index c.loop-scope.cells c.loop-scope-test.false c.loop-scope.invariant
+returns c = subst (λ ms. IfOk c.cells_made.result (λ cells. cells ≡ cells_shown ms c.args.file.modules)) (ap modules_in c.deref.ensures.value ∙ c.in_ok-scopes.ensures) c.cells_made.ensures

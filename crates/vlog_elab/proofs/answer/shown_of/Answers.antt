@@ -1,0 +1,28 @@
+use Rattle.std.proofs.Common.{◌≡◌, ◌-◌, ◌^◌, ◌∙◌, ap, min, subst, sum_by, sym, Some}
+use Rattle.std.specs.Prelude.{MatchResult}
+use Rattle.vlog_checked.specs.Looks.{AreCleanModules, IsChecked}
+use Rattle.vlog_design.specs.Rules.{first_G}
+use Rattle.vlog_ties.specs.Ties.{modules_in, most_joins}
+use Rattle.vlog_elab.specs.Answers.{AreShown, IsFaultOf}
+use Rattle.vlog_elab.proofs.Answering.{ready_for, shown_for}
+use Rattle.vlog_elab.proofs.answer.shown_of.Goals as goal
+
+pub returns-in-Refused : goal.returns-in-Refused
+returns-in-Refused c = subst (λ top. first_G c.args.file.now top ≡ Some c.in-Refused.refusal) c.bytes.ensures (subst (IsChecked c.args.file.now c.bytes.result.now) c.in-Refused.is c.in_ok-refusal.ensures)
+
+pub shown_from-requires-clause-ready : goal.shown_from-requires-clause-ready
+shown_from-requires-clause-ready c =
+    let looked : AreCleanModules c.args.file.now c.bytes.result.now c.in-Clean.clean = subst (IsChecked c.args.file.now c.bytes.result.now) c.in-Clean.is c.in_ok-refusal.ensures in
+    ready_for c.args.file.now c.bytes.result.now c.requires.value c.requires.small looked.no_refusals (modules_in c.deref.result.now) (ap modules_in c.deref.ensures.value ∙ looked.modules_are) c.in-Clean.clean.names looked.names_are
+
+pub shown_from-requires-clause-most : goal.shown_from-requires-clause-most
+shown_from-requires-clause-most c =
+    let looked : AreCleanModules c.args.file.now c.bytes.result.now c.in-Clean.clean = subst (IsChecked c.args.file.now c.bytes.result.now) c.in-Clean.is c.in_ok-refusal.ensures in
+    looked.most_is ∙ ap (λ modules. min (2 ^ 64 - 1) (sum_by (most_joins modules) modules)) (sym (ap modules_in c.deref.ensures.value ∙ looked.modules_are))
+
+pub returns-in-Clean : goal.returns-in-Clean
+returns-in-Clean c =
+    let looked : AreCleanModules c.args.file.now c.bytes.result.now c.in-Clean.clean = subst (IsChecked c.args.file.now c.bytes.result.now) c.in-Clean.is c.in_ok-refusal.ensures in
+    subst (λ top. MatchResult c.shown_from.result (λ shown. AreShown c.args.file.now top shown.modules shown.top) (IsFaultOf c.args.file.now top)) c.bytes.ensures
+    (shown_for c.args.file.now c.bytes.result.now c.requires.value c.requires.small looked.no_refusals (modules_in c.deref.result.now) (ap modules_in c.deref.ensures.value ∙ looked.modules_are) c.in-Clean.clean.top looked.top_is
+    c.shown_from.result c.shown_from.ensures)
