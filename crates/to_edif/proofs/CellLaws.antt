@@ -1,6 +1,6 @@
 -- The cells of the file of a design, made one after another.
-use Rattle.std.proofs.Common.{arith, ◌≡◌, ◌⊎◌, inl, inr, ℕ, zero, suc, ◌+◌, ◌<◌, ◌≤◌, Bool, List, [], ◌∷◌, ◌++◌, Some, get_or, length, length-append, take, refl, sym, ap, ◌∙◌, subst}
-use Rattle.std.specs.Prelude.{slice_get}
+use Rattle.std.proofs.Common.{arith, ◌≡◌, ◌⊎◌, inl, inr, ℕ, zero, suc, ◌+◌, ◌<◌, ◌≤◌, Bool, List, [], ◌∷◌, ◌++◌, Option, None, Some, get_or, length, map, set, length-append, take, refl, sym, ap, ◌∙◌, subst}
+use Rattle.std.specs.Prelude.{slice_get, IfSome}
 use Rattle.std.proofs.lemmas.List.{take_all, take_more}
 use Rattle.std.proofs.lemmas.Option.{slice_get_within}
 use Rattle.net_graph.proofs.OrderLaws.{front_or_last}
@@ -8,7 +8,7 @@ use Rattle.net_hier.specs.Constants.{ConstantNames, name_of_constant}
 use Rattle.net_hier.specs.Design.{Design, IsCell}
 use Rattle.net_hier.specs.Facts.{cell_props}
 use Rattle.net_hier.specs.declared.cells.HCell.{HCell}
-use Rattle.net_bits.specs.Classes.{AreClasses, ClassTable}
+use Rattle.net_bits.specs.Classes.{AreClasses, AreClassesAt, ClassTable}
 use Rattle.edif_values.specs.declared.cell.Cell.{Cell}
 use Rattle.edif_plans.specs.Planned.{AreCells, IsMadeOf}
 use Rattle.edif_plans.specs.Made.{IsMadeUnder, new_cell_for}
@@ -17,7 +17,8 @@ use Rattle.edif_plans.specs.declared.head.Head.{Head}
 use Rattle.edif_plans.proofs.Lists.{get_within}
 use Rattle.edif_plans.specs.declared.plan.Plan.{Plan}
 use Rattle.edif_value_laws.specs.Named.{HasWords}
-use Rattle.to_edif.specs.Cells.{AreNewCells}
+use Rattle.edif_planning.specs.Classes.{AreAllClasses}
+use Rattle.to_edif.specs.Cells.{AreKept, AreNewCells}
 
 nothing_there : {A : Type 0} (place : ℕ) (x : A) → slice_get [] place ≡ Some x → ⊥
 nothing_there place x e = absurd cc
@@ -69,6 +70,32 @@ one_new names plan values place d cells new cell lt are e is words =
 
 pub all_new : (names : ConstantNames) (plan : Plan) (values : List Bool) (place : ℕ) (cells : List Cell) → length values ≤ place → AreNewCells names plan (take place values) cells → AreNewCells names plan values cells
 all_new names plan values place cells le are = subst (λ (l : List Bool). AreNewCells names plan l cells) (take_all place values le) are
+
+-- ---- the classes that are kept
+
+some_here : {A : Type 0} (xs : List A) (place : ℕ) (x : A) → slice_get (map Some xs) place ≡ Some (Some x) → slice_get xs place ≡ Some x
+some_here [] place x e = absurd cc
+some_here (y ∷ ys) zero x e = cc
+some_here (y ∷ ys) (suc place) x e = some_here ys place x e
+
+pub kept_all : (cells : List HCell) (all : List ClassTable) (kept : List (Option ClassTable)) → kept ≡ map Some all → AreAllClasses cells all → AreKept cells kept
+kept_all cells all kept e are = λ number cell classes is at. are.each number cell classes is (some_here all number classes (subst (λ (l : List (Option ClassTable)). slice_get l number ≡ Some (Some classes)) e at))
+
+less_here : {A : Type 0} (xs : List (Option A)) (taken place : ℕ) (x : A) → slice_get (set xs taken None) place ≡ Some (Some x) → slice_get xs place ≡ Some (Some x)
+less_here [] taken place x e = e
+less_here (y ∷ ys) zero zero x e = absurd cc
+less_here (y ∷ ys) zero (suc place) x e = e
+less_here (y ∷ ys) (suc taken) zero x e = e
+less_here (y ∷ ys) (suc taken) (suc place) x e = less_here ys taken place x e
+
+-- where those of one cell are taken, those of the others are kept
+pub kept_less : (cells : List HCell) (kept less : List (Option ClassTable)) (taken : ℕ) → less ≡ set kept taken None → AreKept cells kept → AreKept cells less
+kept_less cells kept less taken e are = λ number cell classes is at. are number cell classes is (less_here kept taken number classes (subst (λ (l : List (Option ClassTable)). slice_get l number ≡ Some (Some classes)) e at))
+
+-- what is taken for a cell is its classes
+pub taken_are : (cells : List HCell) (kept : List (Option ClassTable)) (number : ℕ) (slot : Option ClassTable) → slice_get kept number ≡ Some slot → AreKept cells kept → IfSome slot (AreClassesAt cells number)
+taken_are cells kept number None at are = tt
+taken_are cells kept number (Some classes) at are = λ cell is. are number cell classes is at
 
 -- ---- the cells of the design
 

@@ -1,5 +1,5 @@
 -- The cells of the file of a design.
-use Rattle.std.specs.Prelude.{◌≡◌, ℕ, ◌<◌, Bool, true, List, length, slice_get, Some}
+use Rattle.std.specs.Prelude.{◌≡◌, ℕ, ◌<◌, Bool, true, List, Option, length, slice_get, Some}
 use Rattle.edif_values.specs.declared.cell.Cell.{Cell}
 use Rattle.net_bits.specs.Classes.{AreClasses, ClassTable}
 use Rattle.net_hier.specs.Constants.{ConstantNames, name_of_constant}
@@ -10,6 +10,10 @@ use Rattle.edif_plans.specs.Made.{new_cell_for}
 use Rattle.edif_plans.specs.Plans.{HasConstant, head_at}
 use Rattle.edif_plans.specs.declared.plan.Plan.{Plan}
 use Rattle.edif_value_laws.specs.Named.{HasWords}
+
+-- the classes that are kept for a cell are its classes
+abbrev pub AreKept : List HCell → List (Option ClassTable) → Type 0
+AreKept cells kept = (number : ℕ) (cell : HCell) (classes : ClassTable) → IsCell cells number cell → slice_get kept number ≡ Some (Some classes) → AreClasses cell classes
 
 -- each of the first cells has a head, with an identifier for its port
 pub record HasNewHead (plan : Plan) (place : ℕ) : Type 0 where

@@ -8,7 +8,7 @@ ghost use Rattle.edif_plans.specs.Sound.{IsSoundDesign};
 ghost use Rattle.edif_values.specs.Values.{IsEdifValue};
 ghost use Rattle.to_edif.specs.Files.{IsNamedAfterTop};
 
-use crate::cells::{new_cells, with_cells};
+use crate::cells::{kept_of, new_cells, with_cells};
 use crate::file::{file_with, lone_name};
 use edif_planning::{Planned, all_classes, plan_of};
 use edif_value_laws::{stems_of, words_of};
@@ -23,10 +23,10 @@ fn file_of(
     alloc: Global,
     hier: &Hier,
     constants: &Constants,
-    all: &[Classes],
+    all: Vec<Classes>,
     planned: &Planned,
 ) -> Result<EdifFile, NoMemory>
-    requires classes { AreAllClasses hier.now.cells all.now }
+    requires classes { AreAllClasses hier.now.cells all.items }
     requires planned { IsPlanned constants.now hier.now planned.now }
     ensures same { IfOk result (IsEdifFor constants.now hier.now) }
     ensures named { IfOk result (IsNamedAfterTop hier.now) }
@@ -39,7 +39,8 @@ fn file_of(
     let top = &hier.cells()[hier.top() as usize];
     let word = top.name.bytes();
     let first = new_cells(alloc, constants, &planned.plan, planned.missing.as_slice())?;
-    let cells = with_cells(alloc, hier, constants, &planned.plan, all, first)?;
+    let kept = kept_of(alloc, all)?;
+    let cells = with_cells(alloc, hier, constants, &planned.plan, kept, first)?;
     let name = lone_name(alloc, word)?;
     let design_name = lone_name(alloc, word)?;
     let head = planned.plan.head(hier.top());
@@ -60,6 +61,6 @@ pub fn to_edif(alloc: Global, hier: &Hier, constants: &Constants) -> Result<Edif
 {
     let all = all_classes(alloc, hier)?;
     let planned = plan_of(alloc, hier, constants, all.as_slice())?;
-    let file = file_of(alloc, hier, constants, all.as_slice(), &planned)?;
+    let file = file_of(alloc, hier, constants, all, &planned)?;
     Ok(file)
 }

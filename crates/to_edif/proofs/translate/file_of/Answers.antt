@@ -3,6 +3,7 @@ use Rattle.net_hier.specs.Design.{IsCell}
 use Rattle.edif_plans.specs.Plans.{HasHead, head_of}
 use Rattle.edif_planning.proofs.ClassLaws.{cell_here}
 use Rattle.to_edif.specs.Cells.{AreNewCells}
+use Rattle.to_edif.proofs.CellLaws.{kept_all}
 use Rattle.to_edif.proofs.FileLaws.{edif_for, file_value, has_constants, have_heads, named_after_top, planned_file}
 use Rattle.to_edif.proofs.translate.file_of.Goals as goal
 
@@ -10,6 +11,9 @@ pub new_cells-requires : goal.new_cells-requires
 new_cells-requires c = λ place lt.
     let same = ap length c.as_slice.ensures.value in
     have_heads c.args.constants.now c.args.hier.now c.cells.ensures.valid.valid c.args.planned.now.missing.items c.args.planned.now.plan c.requires.planned.is_plan place (omega (arith, lt, same))
+
+pub with_cells-requires-clause-kept : goal.with_cells-requires-clause-kept
+with_cells-requires-clause-kept c = kept_all c.args.hier.now.cells c.args.all.items c.in_ok-kept.kept.items c.in_ok-kept.ensures c.requires.classes
 
 pub with_cells-requires-clause-constants : goal.with_cells-requires-clause-constants
 with_cells-requires-clause-constants c = has_constants c.args.constants.now c.args.hier.now c.cells.ensures.valid.valid c.args.planned.now.missing.items c.args.planned.now.plan c.requires.planned.is_plan
