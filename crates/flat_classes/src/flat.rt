@@ -3,9 +3,8 @@ ghost use Rattle.std.specs.Prelude.{ℕ, ◌≡◌, ◌<◌, ◌≤◌, length, 
 ghost use Rattle.net_hier.specs.FlatCount.{FlatCount};
 ghost use Rattle.flat_classes.specs.FlatFaults.{IsFlatFault};
 ghost use Rattle.flat_classes.specs.FlatSums.{IsFewFlat};
-ghost use Rattle.flat_numbers.specs.FlatJoins.{AreFew};
+ghost use Rattle.flat_numbers.specs.FlatJoins.{AreCellLinks, AreConstants, AreFew};
 ghost use Rattle.flat_classes.specs.Groups.{AreMembers};
-ghost use Rattle.flat_classes.specs.Kinds.{AreKinds};
 ghost use Rattle.flat_numbers.specs.TableParts.{HasTables, bases_in, spots_in};
 ghost use Rattle.flat_classes.specs.TerminalNumbers.{AreFlatLabels};
 ghost use Rattle.flat_classes.specs.Terminals.{AreFlatClasses};
@@ -19,7 +18,7 @@ use flat_numbers::joins::flat_joins;
 use flat_numbers::linked::least_linked;
 use flat_numbers::numbers::{Tables, tables_of};
 use flat_numbers::spots::Spot;
-use net_hier::{Constants, Hier};
+use net_hier::{Constants, Hier, Join};
 use nl_base::NoMemory;
 use std::alloc::Global;
 use std::marker::Model;
@@ -81,29 +80,24 @@ impl Model for Flat {
     ghost invariant = { λ f. AreGroupNumbers f.groups.items f.count (length f.terminals.items) };
 }
 
-/// For each number of a node the least number that is connected to it.
+/// For each number of a node the least number that is connected to it. The links of the cells are left with it.
 fn classes_of(
     alloc: Global,
     hier: &Hier,
     constants: &Constants,
     tables: &Tables,
-    kinds: &Kinds,
+    links: Vec<Vec<Join>>,
+    values: &[Option<bool>],
 ) -> Result<Vec<u32>, NoMemory>
     requires are_tables { HasTables hier.now tables.now }
-    requires are_kinds { AreKinds constants.now hier.now.cells kinds.now }
+    requires are_links { AreCellLinks hier.now.cells links.items }
+    requires are_constants { AreConstants constants.now hier.now.cells values.now }
     requires few { AreFew hier.now.cells }
     ensures { IfOk result (λ labels. AreFlatLabels constants.now hier.now (spots_in tables.now)
         (bases_in tables.now) tables.now.layout.count labels.items) }
 {
     let _cells = hier.cells();
-    let joins = flat_joins(
-        alloc,
-        hier,
-        tables,
-        constants,
-        kinds.links.as_slice(),
-        kinds.constants.as_slice(),
-    )?;
+    let joins = flat_joins(alloc, hier, tables, constants, links.as_slice(), values)?;
     let classes = least_linked(alloc, tables.layout.count, joins.as_slice())?;
     Ok(classes)
 }
@@ -117,14 +111,14 @@ fn flat_of(alloc: Global, hier: &Hier, constants: &Constants, count: u64) -> Res
     let _cells = hier.cells();
     let tables = tables_of(alloc, hier, count)?;
     let kinds = kinds_of(alloc, hier, constants)?;
-    let classes = classes_of(alloc, hier, constants, &tables, &kinds)?;
+    let Kinds {
+        links,
+        leaves: marks,
+        constants: values,
+    } = kinds;
+    let classes = classes_of(alloc, hier, constants, &tables, links, values.as_slice())?;
     let spots = tables.layout.spots.as_slice();
-    let leaves = leaves_of(
-        alloc,
-        spots,
-        kinds.leaves.as_slice(),
-        kinds.constants.as_slice(),
-    )?;
+    let leaves = leaves_of(alloc, spots, marks.as_slice(), values.as_slice())?;
     let terminals = terminals_of(alloc, hier, spots, leaves.as_slice())?;
     let labels = labels_of(
         alloc,

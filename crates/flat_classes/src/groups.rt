@@ -42,7 +42,7 @@ pub fn labels_of(
     ensures { IfOk result (λ found. HaveLabels hier.now.cells (spots_in tables.now) (bases_in
         tables.now) labels.now terminals.now found.items) }
 {
-    let mut found = Vec::new(alloc);
+    let mut found = Vec::with_capacity(alloc, terminals.len())?;
     for terminal in terminals {
         let number = terminal_number(hier, tables, *terminal);
         found.push(labels[number as usize])?;
@@ -80,7 +80,7 @@ pub fn numbers_in_order(
     ensures in_order { IfOk result (λ r. AreInOrder r.0.items r.1) }
 {
     let mut known = vec![in alloc; None; bound]?;
-    let mut numbers = Vec::new(alloc);
+    let mut numbers = Vec::with_capacity(alloc, values.len())?;
     let mut count: u32 = 0;
     for value in values {
         let number = number_of(&mut known, *value, count);

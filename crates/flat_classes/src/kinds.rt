@@ -39,6 +39,7 @@ fn stars_of(alloc: Global, classes: &Classes) -> Result<Vec<Join>, NoMemory>
     for class in 0..classes.count() {
         push_star(&mut links, classes.members(class))?;
     }
+    links.shrink_to_fit();
     Ok(links)
 }
 

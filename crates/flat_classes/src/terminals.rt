@@ -153,5 +153,6 @@ pub fn terminals_of(
     }
     terminals.push(Terminal::Zero)?;
     terminals.push(Terminal::One)?;
+    terminals.shrink_to_fit();
     Ok(terminals)
 }

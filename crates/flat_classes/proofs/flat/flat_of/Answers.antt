@@ -1,6 +1,7 @@
 use Rattle.std.proofs.Common.{◌≡◌, ◌<◌, ap, subst, subst₂, sym, ◌∙◌, refl, arith, length, slice_get, Some, All}
 use Rattle.std.proofs.lemmas.Option.{slice_get_within}
 use Rattle.net_hier.specs.declared.cells.HCell.{HCell}
+use Rattle.flat_numbers.specs.FlatJoins.{AreConstants}
 use Rattle.flat_numbers.specs.Layout.{base_of}
 use Rattle.flat_classes.specs.Groups.{AreSame}
 use Rattle.flat_numbers.specs.Numbers.{CellOf}
@@ -16,11 +17,14 @@ use Rattle.flat_classes.proofs.flat.flat_of.Goals as goal
 pub classes_of-requires-clause-few : goal.classes_of-requires-clause-few
 classes_of-requires-clause-few c = few_instances c.args.hier.now c.args.count c.cells-cells.ensures.valid.valid c.requires.counted c.requires.few
 
+pub classes_of-requires-clause-are_constants : goal.classes_of-requires-clause-are_constants
+classes_of-requires-clause-are_constants c = subst (AreConstants c.args.constants.now c.args.hier.now.cells) (sym c.as_slice.ensures.value) c.in_ok-kinds.ensures.constants
+
 pub leaves_of-requires-clause-leaves : goal.leaves_of-requires-clause-leaves
 leaves_of-requires-clause-leaves c = λ number spot e.
     let at = listed_cells c.in_ok-tables.ensures.is_layout.are_spots number spot (subst (λ ss. slice_get ss number ≡ Some spot) c.as_slice-spots.ensures.value e) in
     let lt = slice_get_within c.args.hier.now.cells spot.cell at.0 at.1 in
-    let l = ap length c.as_slice.ensures.value in
+    let l = ap length c.as_slice-2.ensures.value in
     omega (arith, lt, l, c.in_ok-kinds.ensures.leaves.len)
 
 pub terminals_of-requires-clause-bits : goal.terminals_of-requires-clause-bits
@@ -32,50 +36,50 @@ terminals_of-requires-clause-first c = ap (λ ss. slice_get ss 0) c.as_slice-spo
 pub terminals_of-requires-clause-leaves : goal.terminals_of-requires-clause-leaves
 terminals_of-requires-clause-leaves c =
     let l : c.in_ok-leaves.leaves.items ≡ (leaf_spots c.in_ok-tables.tables.layout.spots.items c.in_ok-kinds.kinds.leaves.items c.in_ok-kinds.kinds.constants.items) =
-    c.in_ok-leaves.ensures ∙ (ap (λ ss. leaf_spots ss c.as_slice.result.now c.as_slice-2.result.now) c.as_slice-spots.ensures.value ∙ subst₂ (λ ms ks. leaf_spots c.in_ok-tables.tables.layout.spots.items c.as_slice.result.now c.as_slice-2.result.now ≡ leaf_spots c.in_ok-tables.tables.layout.spots.items ms ks) c.as_slice.ensures.value c.as_slice-2.ensures.value refl) in
-    subst₂ (λ ss ls. All (λ leaf. (cell : HCell) × CellOf c.args.hier.now.cells ss leaf cell) ls) (sym c.as_slice-spots.ensures.value) (sym (c.as_slice-3.ensures.value ∙ l)) (leaves_of_cells c.args.constants.now c.args.hier.now c.cells-cells.ensures.valid.valid c.args.count c.in_ok-tables.tables.layout (rows_in c.in_ok-tables.tables.belows.items) (rows_in c.in_ok-tables.tables.offsets.items) c.in_ok-tables.ensures c.in_ok-kinds.kinds c.in_ok-kinds.ensures)
+    c.in_ok-leaves.ensures ∙ (ap (λ ss. leaf_spots ss c.as_slice-2.result.now c.as_slice-3.result.now) c.as_slice-spots.ensures.value ∙ subst₂ (λ ms ks. leaf_spots c.in_ok-tables.tables.layout.spots.items c.as_slice-2.result.now c.as_slice-3.result.now ≡ leaf_spots c.in_ok-tables.tables.layout.spots.items ms ks) c.as_slice-2.ensures.value c.as_slice-3.ensures.value refl) in
+    subst₂ (λ ss ls. All (λ leaf. (cell : HCell) × CellOf c.args.hier.now.cells ss leaf cell) ls) (sym c.as_slice-spots.ensures.value) (sym (c.as_slice-4.ensures.value ∙ l)) (leaves_of_cells c.args.constants.now c.args.hier.now c.cells-cells.ensures.valid.valid c.args.count c.in_ok-tables.tables.layout (rows_in c.in_ok-tables.tables.belows.items) (rows_in c.in_ok-tables.tables.offsets.items) c.in_ok-tables.ensures c.in_ok-kinds.kinds c.in_ok-kinds.ensures)
 
 pub labels_of-requires-clause-numbered : goal.labels_of-requires-clause-numbered
 labels_of-requires-clause-numbered c =
     let l : c.in_ok-leaves.leaves.items ≡ (leaf_spots c.in_ok-tables.tables.layout.spots.items c.in_ok-kinds.kinds.leaves.items c.in_ok-kinds.kinds.constants.items) =
-    c.in_ok-leaves.ensures ∙ (ap (λ ss. leaf_spots ss c.as_slice.result.now c.as_slice-2.result.now) c.as_slice-spots.ensures.value ∙ subst₂ (λ ms ks. leaf_spots c.in_ok-tables.tables.layout.spots.items c.as_slice.result.now c.as_slice-2.result.now ≡ leaf_spots c.in_ok-tables.tables.layout.spots.items ms ks) c.as_slice.ensures.value c.as_slice-2.ensures.value refl) in
+    c.in_ok-leaves.ensures ∙ (ap (λ ss. leaf_spots ss c.as_slice-2.result.now c.as_slice-3.result.now) c.as_slice-spots.ensures.value ∙ subst₂ (λ ms ks. leaf_spots c.in_ok-tables.tables.layout.spots.items c.as_slice-2.result.now c.as_slice-3.result.now ≡ leaf_spots c.in_ok-tables.tables.layout.spots.items ms ks) c.as_slice-2.ensures.value c.as_slice-3.ensures.value refl) in
     let t : c.in_ok-terminals.terminals.items ≡ terminals_of c.args.hier.now.cells c.in_ok-tables.tables.layout.spots.items (leaf_spots c.in_ok-tables.tables.layout.spots.items c.in_ok-kinds.kinds.leaves.items c.in_ok-kinds.kinds.constants.items) =
-    c.in_ok-terminals.ensures ∙ subst₂ (λ ss ls. terminals_of c.args.hier.now.cells c.as_slice-spots.result.now c.as_slice-3.result.now ≡ terminals_of c.args.hier.now.cells ss ls) c.as_slice-spots.ensures.value (c.as_slice-3.ensures.value ∙ l) refl in
-    subst (AreNumbered c.args.hier.now.cells c.in_ok-tables.tables.layout.spots.items (base_of c.in_ok-tables.tables.layout.bases.items c.in_ok-tables.tables.layout.count)) (sym (c.as_slice-5.ensures.value ∙ t)) (terminals_numbered c.args.constants.now c.args.hier.now c.cells-cells.ensures.valid.valid c.args.count c.in_ok-tables.tables.layout (rows_in c.in_ok-tables.tables.belows.items) (rows_in c.in_ok-tables.tables.offsets.items) c.in_ok-tables.ensures c.in_ok-kinds.kinds c.in_ok-kinds.ensures)
+    c.in_ok-terminals.ensures ∙ subst₂ (λ ss ls. terminals_of c.args.hier.now.cells c.as_slice-spots.result.now c.as_slice-4.result.now ≡ terminals_of c.args.hier.now.cells ss ls) c.as_slice-spots.ensures.value (c.as_slice-4.ensures.value ∙ l) refl in
+    subst (AreNumbered c.args.hier.now.cells c.in_ok-tables.tables.layout.spots.items (base_of c.in_ok-tables.tables.layout.bases.items c.in_ok-tables.tables.layout.count)) (sym (c.as_slice-6.ensures.value ∙ t)) (terminals_numbered c.args.constants.now c.args.hier.now c.cells-cells.ensures.valid.valid c.args.count c.in_ok-tables.tables.layout (rows_in c.in_ok-tables.tables.belows.items) (rows_in c.in_ok-tables.tables.offsets.items) c.in_ok-tables.ensures c.in_ok-kinds.kinds c.in_ok-kinds.ensures)
 
 pub numbers_in_order-requires-clause-few : goal.numbers_in_order-requires-clause-few
 numbers_in_order-requires-clause-few c =
     let l : c.in_ok-leaves.leaves.items ≡ (leaf_spots c.in_ok-tables.tables.layout.spots.items c.in_ok-kinds.kinds.leaves.items c.in_ok-kinds.kinds.constants.items) =
-    c.in_ok-leaves.ensures ∙ (ap (λ ss. leaf_spots ss c.as_slice.result.now c.as_slice-2.result.now) c.as_slice-spots.ensures.value ∙ subst₂ (λ ms ks. leaf_spots c.in_ok-tables.tables.layout.spots.items c.as_slice.result.now c.as_slice-2.result.now ≡ leaf_spots c.in_ok-tables.tables.layout.spots.items ms ks) c.as_slice.ensures.value c.as_slice-2.ensures.value refl) in
+    c.in_ok-leaves.ensures ∙ (ap (λ ss. leaf_spots ss c.as_slice-2.result.now c.as_slice-3.result.now) c.as_slice-spots.ensures.value ∙ subst₂ (λ ms ks. leaf_spots c.in_ok-tables.tables.layout.spots.items c.as_slice-2.result.now c.as_slice-3.result.now ≡ leaf_spots c.in_ok-tables.tables.layout.spots.items ms ks) c.as_slice-2.ensures.value c.as_slice-3.ensures.value refl) in
     let t : c.in_ok-terminals.terminals.items ≡ terminals_of c.args.hier.now.cells c.in_ok-tables.tables.layout.spots.items (leaf_spots c.in_ok-tables.tables.layout.spots.items c.in_ok-kinds.kinds.leaves.items c.in_ok-kinds.kinds.constants.items) =
-    c.in_ok-terminals.ensures ∙ subst₂ (λ ss ls. terminals_of c.args.hier.now.cells c.as_slice-spots.result.now c.as_slice-3.result.now ≡ terminals_of c.args.hier.now.cells ss ls) c.as_slice-spots.ensures.value (c.as_slice-3.ensures.value ∙ l) refl in
-    let have : HaveLabels c.args.hier.now.cells c.in_ok-tables.tables.layout.spots.items (base_of c.in_ok-tables.tables.layout.bases.items c.in_ok-tables.tables.layout.count) c.in_ok-classes.classes.items c.in_ok-terminals.terminals.items c.in_ok-labels.labels.items = subst₂ (λ cs ts. HaveLabels c.args.hier.now.cells c.in_ok-tables.tables.layout.spots.items (base_of c.in_ok-tables.tables.layout.bases.items c.in_ok-tables.tables.layout.count) cs ts c.in_ok-labels.labels.items) c.as_slice-4.ensures.value c.as_slice-5.ensures.value c.in_ok-labels.ensures in
+    c.in_ok-terminals.ensures ∙ subst₂ (λ ss ls. terminals_of c.args.hier.now.cells c.as_slice-spots.result.now c.as_slice-4.result.now ≡ terminals_of c.args.hier.now.cells ss ls) c.as_slice-spots.ensures.value (c.as_slice-4.ensures.value ∙ l) refl in
+    let have : HaveLabels c.args.hier.now.cells c.in_ok-tables.tables.layout.spots.items (base_of c.in_ok-tables.tables.layout.bases.items c.in_ok-tables.tables.layout.count) c.in_ok-classes.classes.items c.in_ok-terminals.terminals.items c.in_ok-labels.labels.items = subst₂ (λ cs ts. HaveLabels c.args.hier.now.cells c.in_ok-tables.tables.layout.spots.items (base_of c.in_ok-tables.tables.layout.bases.items c.in_ok-tables.tables.layout.count) cs ts c.in_ok-labels.labels.items) c.as_slice-5.ensures.value c.as_slice-6.ensures.value c.in_ok-labels.ensures in
     let few : length c.in_ok-terminals.terminals.items < 4294967296 = let n = terminals_few c.args.constants.now c.args.hier.now c.cells-cells.ensures.valid.valid c.args.count c.in_ok-tables.tables.layout (rows_in c.in_ok-tables.tables.belows.items) (rows_in c.in_ok-tables.tables.offsets.items) c.in_ok-tables.ensures c.in_ok-kinds.kinds c.in_ok-kinds.ensures c.requires.few (small_cells c.args.hier.now c.args.count c.cells-cells.ensures.valid.valid c.requires.counted c.requires.few) in let e = ap length t in omega (arith, n, e) in
-    let v = ap length c.as_slice-6.ensures.value in
+    let v = ap length c.as_slice-7.ensures.value in
     omega (arith, few, v, have.len)
 
 pub numbers_in_order-requires-clause-below : goal.numbers_in_order-requires-clause-below
 numbers_in_order-requires-clause-below c =
     let l : c.in_ok-leaves.leaves.items ≡ (leaf_spots c.in_ok-tables.tables.layout.spots.items c.in_ok-kinds.kinds.leaves.items c.in_ok-kinds.kinds.constants.items) =
-    c.in_ok-leaves.ensures ∙ (ap (λ ss. leaf_spots ss c.as_slice.result.now c.as_slice-2.result.now) c.as_slice-spots.ensures.value ∙ subst₂ (λ ms ks. leaf_spots c.in_ok-tables.tables.layout.spots.items c.as_slice.result.now c.as_slice-2.result.now ≡ leaf_spots c.in_ok-tables.tables.layout.spots.items ms ks) c.as_slice.ensures.value c.as_slice-2.ensures.value refl) in
+    c.in_ok-leaves.ensures ∙ (ap (λ ss. leaf_spots ss c.as_slice-2.result.now c.as_slice-3.result.now) c.as_slice-spots.ensures.value ∙ subst₂ (λ ms ks. leaf_spots c.in_ok-tables.tables.layout.spots.items c.as_slice-2.result.now c.as_slice-3.result.now ≡ leaf_spots c.in_ok-tables.tables.layout.spots.items ms ks) c.as_slice-2.ensures.value c.as_slice-3.ensures.value refl) in
     let t : c.in_ok-terminals.terminals.items ≡ terminals_of c.args.hier.now.cells c.in_ok-tables.tables.layout.spots.items (leaf_spots c.in_ok-tables.tables.layout.spots.items c.in_ok-kinds.kinds.leaves.items c.in_ok-kinds.kinds.constants.items) =
-    c.in_ok-terminals.ensures ∙ subst₂ (λ ss ls. terminals_of c.args.hier.now.cells c.as_slice-spots.result.now c.as_slice-3.result.now ≡ terminals_of c.args.hier.now.cells ss ls) c.as_slice-spots.ensures.value (c.as_slice-3.ensures.value ∙ l) refl in
-    let have : HaveLabels c.args.hier.now.cells c.in_ok-tables.tables.layout.spots.items (base_of c.in_ok-tables.tables.layout.bases.items c.in_ok-tables.tables.layout.count) c.in_ok-classes.classes.items c.in_ok-terminals.terminals.items c.in_ok-labels.labels.items = subst₂ (λ cs ts. HaveLabels c.args.hier.now.cells c.in_ok-tables.tables.layout.spots.items (base_of c.in_ok-tables.tables.layout.bases.items c.in_ok-tables.tables.layout.count) cs ts c.in_ok-labels.labels.items) c.as_slice-4.ensures.value c.as_slice-5.ensures.value c.in_ok-labels.ensures in
+    c.in_ok-terminals.ensures ∙ subst₂ (λ ss ls. terminals_of c.args.hier.now.cells c.as_slice-spots.result.now c.as_slice-4.result.now ≡ terminals_of c.args.hier.now.cells ss ls) c.as_slice-spots.ensures.value (c.as_slice-4.ensures.value ∙ l) refl in
+    let have : HaveLabels c.args.hier.now.cells c.in_ok-tables.tables.layout.spots.items (base_of c.in_ok-tables.tables.layout.bases.items c.in_ok-tables.tables.layout.count) c.in_ok-classes.classes.items c.in_ok-terminals.terminals.items c.in_ok-labels.labels.items = subst₂ (λ cs ts. HaveLabels c.args.hier.now.cells c.in_ok-tables.tables.layout.spots.items (base_of c.in_ok-tables.tables.layout.bases.items c.in_ok-tables.tables.layout.count) cs ts c.in_ok-labels.labels.items) c.as_slice-5.ensures.value c.as_slice-6.ensures.value c.in_ok-labels.ensures in
     let few : length c.in_ok-terminals.terminals.items < 4294967296 = let n = terminals_few c.args.constants.now c.args.hier.now c.cells-cells.ensures.valid.valid c.args.count c.in_ok-tables.tables.layout (rows_in c.in_ok-tables.tables.belows.items) (rows_in c.in_ok-tables.tables.offsets.items) c.in_ok-tables.ensures c.in_ok-kinds.kinds c.in_ok-kinds.ensures c.requires.few (small_cells c.args.hier.now c.args.count c.cells-cells.ensures.valid.valid c.requires.counted c.requires.few) in let e = ap length t in omega (arith, n, e) in
     let numbered : AreNumbered c.args.hier.now.cells c.in_ok-tables.tables.layout.spots.items (base_of c.in_ok-tables.tables.layout.bases.items c.in_ok-tables.tables.layout.count) c.in_ok-terminals.terminals.items = subst (AreNumbered c.args.hier.now.cells c.in_ok-tables.tables.layout.spots.items (base_of c.in_ok-tables.tables.layout.bases.items c.in_ok-tables.tables.layout.count)) (sym t) (terminals_numbered c.args.constants.now c.args.hier.now c.cells-cells.ensures.valid.valid c.args.count c.in_ok-tables.tables.layout (rows_in c.in_ok-tables.tables.belows.items) (rows_in c.in_ok-tables.tables.offsets.items) c.in_ok-tables.ensures c.in_ok-kinds.kinds c.in_ok-kinds.ensures) in
     let all = labels_below c.args.constants.now c.args.hier.now c.cells-cells.ensures.valid.valid c.args.count c.in_ok-tables.tables.layout (rows_in c.in_ok-tables.tables.belows.items) (rows_in c.in_ok-tables.tables.offsets.items) c.in_ok-tables.ensures c.in_ok-classes.classes.items c.in_ok-classes.ensures c.in_ok-terminals.terminals.items c.in_ok-labels.labels.items numbered have in
     let e : c.len.result ≡ c.in_ok-tables.tables.layout.count = omega (arith, c.len.ensures, c.in_ok-classes.ensures.len, c.in_ok-classes.classes.ok) in
-    subst₂ (λ n vs. All (λ value. value < n) vs) (sym e) (sym c.as_slice-6.ensures.value) all
+    subst₂ (λ n vs. All (λ value. value < n) vs) (sym e) (sym c.as_slice-7.ensures.value) all
 
 pub invariant_of-result : goal.invariant_of-result
 invariant_of-result c =
     let l : c.in_ok-leaves.leaves.items ≡ (leaf_spots c.in_ok-tables.tables.layout.spots.items c.in_ok-kinds.kinds.leaves.items c.in_ok-kinds.kinds.constants.items) =
-    c.in_ok-leaves.ensures ∙ (ap (λ ss. leaf_spots ss c.as_slice.result.now c.as_slice-2.result.now) c.as_slice-spots.ensures.value ∙ subst₂ (λ ms ks. leaf_spots c.in_ok-tables.tables.layout.spots.items c.as_slice.result.now c.as_slice-2.result.now ≡ leaf_spots c.in_ok-tables.tables.layout.spots.items ms ks) c.as_slice.ensures.value c.as_slice-2.ensures.value refl) in
+    c.in_ok-leaves.ensures ∙ (ap (λ ss. leaf_spots ss c.as_slice-2.result.now c.as_slice-3.result.now) c.as_slice-spots.ensures.value ∙ subst₂ (λ ms ks. leaf_spots c.in_ok-tables.tables.layout.spots.items c.as_slice-2.result.now c.as_slice-3.result.now ≡ leaf_spots c.in_ok-tables.tables.layout.spots.items ms ks) c.as_slice-2.ensures.value c.as_slice-3.ensures.value refl) in
     let t : c.in_ok-terminals.terminals.items ≡ terminals_of c.args.hier.now.cells c.in_ok-tables.tables.layout.spots.items (leaf_spots c.in_ok-tables.tables.layout.spots.items c.in_ok-kinds.kinds.leaves.items c.in_ok-kinds.kinds.constants.items) =
-    c.in_ok-terminals.ensures ∙ subst₂ (λ ss ls. terminals_of c.args.hier.now.cells c.as_slice-spots.result.now c.as_slice-3.result.now ≡ terminals_of c.args.hier.now.cells ss ls) c.as_slice-spots.ensures.value (c.as_slice-3.ensures.value ∙ l) refl in
-    let have : HaveLabels c.args.hier.now.cells c.in_ok-tables.tables.layout.spots.items (base_of c.in_ok-tables.tables.layout.bases.items c.in_ok-tables.tables.layout.count) c.in_ok-classes.classes.items c.in_ok-terminals.terminals.items c.in_ok-labels.labels.items = subst₂ (λ cs ts. HaveLabels c.args.hier.now.cells c.in_ok-tables.tables.layout.spots.items (base_of c.in_ok-tables.tables.layout.bases.items c.in_ok-tables.tables.layout.count) cs ts c.in_ok-labels.labels.items) c.as_slice-4.ensures.value c.as_slice-5.ensures.value c.in_ok-labels.ensures in
+    c.in_ok-terminals.ensures ∙ subst₂ (λ ss ls. terminals_of c.args.hier.now.cells c.as_slice-spots.result.now c.as_slice-4.result.now ≡ terminals_of c.args.hier.now.cells ss ls) c.as_slice-spots.ensures.value (c.as_slice-4.ensures.value ∙ l) refl in
+    let have : HaveLabels c.args.hier.now.cells c.in_ok-tables.tables.layout.spots.items (base_of c.in_ok-tables.tables.layout.bases.items c.in_ok-tables.tables.layout.count) c.in_ok-classes.classes.items c.in_ok-terminals.terminals.items c.in_ok-labels.labels.items = subst₂ (λ cs ts. HaveLabels c.args.hier.now.cells c.in_ok-tables.tables.layout.spots.items (base_of c.in_ok-tables.tables.layout.bases.items c.in_ok-tables.tables.layout.count) cs ts c.in_ok-labels.labels.items) c.as_slice-5.ensures.value c.as_slice-6.ensures.value c.in_ok-labels.ensures in
     let few : length c.in_ok-terminals.terminals.items < 4294967296 = let n = terminals_few c.args.constants.now c.args.hier.now c.cells-cells.ensures.valid.valid c.args.count c.in_ok-tables.tables.layout (rows_in c.in_ok-tables.tables.belows.items) (rows_in c.in_ok-tables.tables.offsets.items) c.in_ok-tables.ensures c.in_ok-kinds.kinds c.in_ok-kinds.ensures c.requires.few (small_cells c.args.hier.now c.args.count c.cells-cells.ensures.valid.valid c.requires.counted c.requires.few) in let e = ap length t in omega (arith, n, e) in
-    let v = ap length c.as_slice-6.ensures.value in
+    let v = ap length c.as_slice-7.ensures.value in
     record {
       len = omega (arith, c.in_ok-groups.ensures.same.len, v, have.len);
       few = few;
@@ -85,11 +89,11 @@ invariant_of-result c =
 pub returns : goal.returns
 returns c =
     let l : c.in_ok-leaves.leaves.items ≡ (leaf_spots c.in_ok-tables.tables.layout.spots.items c.in_ok-kinds.kinds.leaves.items c.in_ok-kinds.kinds.constants.items) =
-    c.in_ok-leaves.ensures ∙ (ap (λ ss. leaf_spots ss c.as_slice.result.now c.as_slice-2.result.now) c.as_slice-spots.ensures.value ∙ subst₂ (λ ms ks. leaf_spots c.in_ok-tables.tables.layout.spots.items c.as_slice.result.now c.as_slice-2.result.now ≡ leaf_spots c.in_ok-tables.tables.layout.spots.items ms ks) c.as_slice.ensures.value c.as_slice-2.ensures.value refl) in
+    c.in_ok-leaves.ensures ∙ (ap (λ ss. leaf_spots ss c.as_slice-2.result.now c.as_slice-3.result.now) c.as_slice-spots.ensures.value ∙ subst₂ (λ ms ks. leaf_spots c.in_ok-tables.tables.layout.spots.items c.as_slice-2.result.now c.as_slice-3.result.now ≡ leaf_spots c.in_ok-tables.tables.layout.spots.items ms ks) c.as_slice-2.ensures.value c.as_slice-3.ensures.value refl) in
     let t : c.in_ok-terminals.terminals.items ≡ terminals_of c.args.hier.now.cells c.in_ok-tables.tables.layout.spots.items (leaf_spots c.in_ok-tables.tables.layout.spots.items c.in_ok-kinds.kinds.leaves.items c.in_ok-kinds.kinds.constants.items) =
-    c.in_ok-terminals.ensures ∙ subst₂ (λ ss ls. terminals_of c.args.hier.now.cells c.as_slice-spots.result.now c.as_slice-3.result.now ≡ terminals_of c.args.hier.now.cells ss ls) c.as_slice-spots.ensures.value (c.as_slice-3.ensures.value ∙ l) refl in
-    let have : HaveLabels c.args.hier.now.cells c.in_ok-tables.tables.layout.spots.items (base_of c.in_ok-tables.tables.layout.bases.items c.in_ok-tables.tables.layout.count) c.in_ok-classes.classes.items c.in_ok-terminals.terminals.items c.in_ok-labels.labels.items = subst₂ (λ cs ts. HaveLabels c.args.hier.now.cells c.in_ok-tables.tables.layout.spots.items (base_of c.in_ok-tables.tables.layout.bases.items c.in_ok-tables.tables.layout.count) cs ts c.in_ok-labels.labels.items) c.as_slice-4.ensures.value c.as_slice-5.ensures.value c.in_ok-labels.ensures in
+    c.in_ok-terminals.ensures ∙ subst₂ (λ ss ls. terminals_of c.args.hier.now.cells c.as_slice-spots.result.now c.as_slice-4.result.now ≡ terminals_of c.args.hier.now.cells ss ls) c.as_slice-spots.ensures.value (c.as_slice-4.ensures.value ∙ l) refl in
+    let have : HaveLabels c.args.hier.now.cells c.in_ok-tables.tables.layout.spots.items (base_of c.in_ok-tables.tables.layout.bases.items c.in_ok-tables.tables.layout.count) c.in_ok-classes.classes.items c.in_ok-terminals.terminals.items c.in_ok-labels.labels.items = subst₂ (λ cs ts. HaveLabels c.args.hier.now.cells c.in_ok-tables.tables.layout.spots.items (base_of c.in_ok-tables.tables.layout.bases.items c.in_ok-tables.tables.layout.count) cs ts c.in_ok-labels.labels.items) c.as_slice-5.ensures.value c.as_slice-6.ensures.value c.in_ok-labels.ensures in
     let few : length c.in_ok-terminals.terminals.items < 4294967296 = let n = terminals_few c.args.constants.now c.args.hier.now c.cells-cells.ensures.valid.valid c.args.count c.in_ok-tables.tables.layout (rows_in c.in_ok-tables.tables.belows.items) (rows_in c.in_ok-tables.tables.offsets.items) c.in_ok-tables.ensures c.in_ok-kinds.kinds c.in_ok-kinds.ensures c.requires.few (small_cells c.args.hier.now c.args.count c.cells-cells.ensures.valid.valid c.requires.counted c.requires.few) in let e = ap length t in omega (arith, n, e) in
     flat_whole c.args.constants.now c.args.hier.now c.cells-cells.ensures.valid.valid c.args.count c.in_ok-tables.tables.layout (rows_in c.in_ok-tables.tables.belows.items) (rows_in c.in_ok-tables.tables.offsets.items) c.in_ok-tables.ensures c.in_ok-kinds.kinds c.in_ok-kinds.ensures c.in_ok-classes.classes.items c.in_ok-classes.ensures c.into_spots.result.items c.in_ok-leaves.leaves.items c.in_ok-terminals.terminals.items c.in_ok-labels.labels.items c.in_ok-groups.groups.items
-    (ap (λ v. v.items) c.into_spots.ensures) l t have (subst (λ vs. AreSame vs c.in_ok-groups.groups.items) c.as_slice-6.ensures.value c.in_ok-groups.ensures.same)
-    c.in_ok-groups.count (record { len = omega (arith, c.in_ok-groups.ensures.same.len, ap length c.as_slice-6.ensures.value, have.len); few = few; in_order = c.in_ok-groups.ensures.in_order })
+    (ap (λ v. v.items) c.into_spots.ensures) l t have (subst (λ vs. AreSame vs c.in_ok-groups.groups.items) c.as_slice-7.ensures.value c.in_ok-groups.ensures.same)
+    c.in_ok-groups.count (record { len = omega (arith, c.in_ok-groups.ensures.same.len, ap length c.as_slice-7.ensures.value, have.len); few = few; in_order = c.in_ok-groups.ensures.in_order })
