@@ -4,4 +4,4 @@ use Rattle.edif_making.specs.declared.refs.Scope.{Scope}
 
 -- what stands behind the borrows of a scope
 abbrev pub cell_plan_of : Scope → CellPlan
-cell_plan_of scope = record { cells = scope.hier.now.cells; plan = scope.plan.now; cell = scope.cell.now; head = scope.head.now; instances = scope.instances.now }
+cell_plan_of scope = record { cells = scope.cells.now; plan = scope.plan.now; cell = scope.cell.now; head = scope.head.now; instances = scope.instances.now }

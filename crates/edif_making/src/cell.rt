@@ -1,12 +1,11 @@
 // A cell of the file.
-ghost use Rattle.std.specs.Prelude.{◌≡◌, ◌∷◌, ◌<◌, [], None, get_or, length, map, IfOk};
+ghost use Rattle.std.specs.Prelude.{◌≡◌, ◌++◌, ◌∷◌, ◌<◌, [], None, get_or, length, map, IfOk};
 ghost use Rattle.std.specs.List.{AllByRecursion};
 ghost use Rattle.edif_values.specs.Values.{IsWord, IsProperty};
 ghost use Rattle.edif_values.specs.declared.cell.CellItem.TheVariants as cell_items;
 ghost use Rattle.edif_written.specs.Written.{cell_of as cell_for, contents_items_of, netlist};
 ghost use Rattle.edif_written.specs.Naming.{name_for, seen, value_of};
 ghost use Rattle.edif_written.specs.Sound.{AreSoundProps};
-ghost use Rattle.net_hier.specs.Facts.{cell_props as props_of_cell};
 ghost use Rattle.net_live.specs.Last.{last_of};
 ghost use Rattle.edif_plans.specs.Made.{new_cell_for, output_for};
 
@@ -18,7 +17,7 @@ use edif_values::{
     Cell, CellItem, CellKind, ContentsItem, Instance, InterfaceItem, NameDef, Net, Port, PortName,
     Property, View, ViewItem,
 };
-use net_hier::{ConstName, HCell, HProp, Hier};
+use net_hier::{ConstName, HCell, HProp};
 use net_live::{add_props, last_values};
 use nl_base::{Ident, NoMemory, Seq};
 use std::alloc::Global;
@@ -74,37 +73,32 @@ fn cell_items(
     Ok(Seq::of(items))
 }
 
-/// The properties of the cell of this number: the top's are followed by the design's.
+/// The properties of the cell, and then those of the design.
 fn cell_props<'a>(
     alloc: Global,
-    hier: &'a Hier,
-    number: u32,
     cell: &'a HCell,
+    design_props: &'a [HProp],
 ) -> Result<Vec<&'a HProp>, NoMemory>
-    ensures { IfOk result (λ found. seen found.items ≡ props_of_cell hier.now number cell.now) }
+    ensures { IfOk result (λ found. seen found.items ≡ cell.now.props ++ design_props.now) }
 {
     let mut found = Vec::new(alloc);
     add_props(cell.props.items(), &mut found)?;
-    if number != hier.top() {
-        return Ok(found);
-    }
-    add_props(hier.props(), &mut found)?;
+    add_props(design_props, &mut found)?;
     Ok(found)
 }
 
 /// The properties of the cell that is written, the last value of each name.
 pub(crate) fn cell_properties(
     alloc: Global,
-    hier: &Hier,
-    number: u32,
     cell: &HCell,
+    design_props: &[HProp],
 ) -> Result<Vec<Property>, NoMemory>
     ensures values { IfOk result
-        (λ made. map value_of made.items ≡ last_of (props_of_cell hier.now number cell.now)) }
-    ensures sound { AreSoundProps (props_of_cell hier.now number cell.now)
+        (λ made. map value_of made.items ≡ last_of (cell.now.props ++ design_props.now)) }
+    ensures sound { AreSoundProps (cell.now.props ++ design_props.now)
         → IfOk result (λ made. AllByRecursion IsProperty made.items) }
 {
-    let props = cell_props(alloc, hier, number, cell)?;
+    let props = cell_props(alloc, cell, design_props)?;
     let found = props.as_slice();
     let kept = last_values(alloc, found)?;
     let last = kept.as_slice();

@@ -3,7 +3,8 @@
 // The public contract in plain words: `cell_of` makes what is written for a cell of the design: its ports, instances and properties under
 // their names, an added instance for each constant that the cell needs, and a net for each class of connected nodes that joins something,
 // which joins its port bits and pin bits and the pins of the constants, and has the name of its first net, else of its first port bit, else
-// `net`. `new_cell` makes the cell of a constant. Only want of memory keeps them from that.
+// `net`. `new_cell` makes the cell of a constant. Only want of memory keeps them from that. Of the other cells of the design `cell_of` needs the
+// ports alone.
 //
 // EDIF 2 0 0: cell, view, interface, contents, net, joined, portRef, member, instanceRef.
 #![tactic(auto)]

@@ -9,7 +9,7 @@ ghost use Rattle.edif_making.specs.CellPlans.{cell_plan_of};
 use edif_naming::copied;
 use edif_plans::{Head, Instances, Plan};
 use edif_values::PortRef;
-use net_hier::{HCell, HInst, HPort, Hier, Node};
+use net_hier::{HCell, HInst, HPort, Node};
 use net_live::end_count;
 use nl_base::{Ident, Int, NoMemory, Range, Seq};
 use std::alloc::Global;
@@ -17,7 +17,7 @@ use std::alloc::Global;
 /// A cell that is written, with what its references name.
 #[derive(Clone, Copy)]
 pub struct Scope<'a> {
-    pub hier: &'a Hier,
+    pub cells: &'a [HCell],
     pub plan: &'a Plan,
     pub cell: &'a HCell,
     pub head: &'a Head,
@@ -177,7 +177,7 @@ fn pin_ref(
     bit: u32,
 ) -> Result<PortRef, NoMemory>
     requires fits { FitsCellPlan (cell_plan_of scope.now) }
-    requires bit { IsPinBit scope.now.hier.now.cells scope.now.cell.now instance port bit }
+    requires bit { IsPinBit scope.now.cells.now scope.now.cell.now instance port bit }
     ensures made { IfOk result
         (λ made. made ≡ pin_ref_for (cell_plan_of scope.now) instance port bit) }
     ensures sound { IfOk result IsPortRef }
@@ -185,8 +185,7 @@ fn pin_ref(
     let own = scope.cell.instances.items();
     let below = below_of(own, instance as usize);
     let head = scope.plan.head(below);
-    let cells = scope.hier.cells();
-    let ports = ports_of(cells, below as usize);
+    let ports = ports_of(scope.cells, below as usize);
     let idents = head.ports.items();
     let instances = scope.instances.idents.items();
     let made = inner_ref(

@@ -21,6 +21,15 @@ pub struct Hier {
     order: Seq<u32>,
 }
 
+/// What a design is made of: its cells, the number of its top cell, its own properties, and the order of its cells.
+#[derive(Drop)]
+pub struct HierParts {
+    pub cells: Seq<HCell>,
+    pub top: u32,
+    pub props: Seq<HProp>,
+    pub order: Seq<u32>,
+}
+
 impl Model for Hier {
     ghost use Rattle.net_hier.specs.Design.{Design};
     ghost use Rattle.net_hier.specs.Valid.{IsHier};
@@ -83,5 +92,26 @@ impl Hier {
         ensures valid { IsHier self.now }
     {
         self.order.items()
+    }
+    /// What the design is made of, to be left part by part.
+    pub fn into_parts(self) -> HierParts
+        ensures cells { result.cells ≡ self.cells }
+        ensures top { result.top ≡ self.top }
+        ensures props { result.props ≡ self.props }
+        ensures order { result.order ≡ self.order }
+        ensures valid { IsHier self }
+    {
+        let Hier {
+            cells,
+            top,
+            props,
+            order,
+        } = self;
+        HierParts {
+            cells,
+            top,
+            props,
+            order,
+        }
     }
 }

@@ -24,5 +24,5 @@ pub use build::BuildFault;
 pub use cells::{HCell, HInst, HNet, HPort, HProp};
 pub use constants::{ConstName, Constants};
 pub use fit::cells_fit;
-pub use hier::Hier;
+pub use hier::{Hier, HierParts};
 pub use nodes::{Join, Node};

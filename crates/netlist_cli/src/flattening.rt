@@ -46,9 +46,9 @@ fn flat_design(alloc: Global, hier: &Hier, constants: &Constants) -> Result<Hier
 }
 
 /// The EDIF file of a flattened design.
-fn edif_of(alloc: Global, flat: &Hier, constants: &Constants) -> Result<EdifFile, NoMemory>
-    requires { CanBeWritten flat.now }
-    ensures { IfOk result (IsFileFor constants.now flat.now) }
+fn edif_of(alloc: Global, flat: Hier, constants: &Constants) -> Result<EdifFile, NoMemory>
+    requires { CanBeWritten flat }
+    ensures { IfOk result (IsFileFor constants.now flat) }
 {
     let _cells = flat.cells();
     let file = to_edif(alloc, flat, constants)?;
@@ -63,7 +63,7 @@ fn flat_file(alloc: Global, hier: &Hier, constants: &Constants) -> Result<EdifFi
         hier.now.cells hier.now.top hier.now.props)) }
 {
     match flat_design(alloc, hier, constants) {
-        Ok(flat) => match edif_of(alloc, &flat, constants) {
+        Ok(flat) => match edif_of(alloc, flat, constants) {
             Ok(file) => Ok(file),
             Err(NoMemory) => Err(Failure::NoMemory),
         },

@@ -17,12 +17,12 @@ use to_edif::to_edif;
 /// Writes a design in EDIF, where these cells stand for the constants.
 fn put_edif<O: Sink>(
     alloc: Global,
-    hier: &Hier,
+    hier: Hier,
     constants: &Constants,
     output: &mut O,
 ) -> Result<(), Failure>
-    requires { IsSoundDesign hier.now }
-    ensures { MakesOf O.receipt any_design (IsEdifOf constants.now) hier.now
+    requires { IsSoundDesign hier }
+    ensures { MakesOf O.receipt any_design (IsEdifOf constants.now) hier
         output.old output.new result }
 {
     match to_edif(alloc, hier, constants) {
@@ -55,8 +55,7 @@ pub fn translate_back<S: Source, O: Sink>(
 {
     match read_design_under(alloc, top, input) {
         Ok(design) => {
-            let done = put_edif(alloc, &design, constants, output);
-            forget(design);
+            let done = put_edif(alloc, design, constants, output);
             done
         }
         Err(failure) => Err(failure),

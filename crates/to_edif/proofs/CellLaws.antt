@@ -19,6 +19,7 @@ use Rattle.edif_plans.specs.declared.plan.Plan.{Plan}
 use Rattle.edif_value_laws.specs.Named.{HasWords}
 use Rattle.edif_planning.specs.Classes.{AreAllClasses}
 use Rattle.to_edif.specs.Cells.{AreKept, AreNewCells}
+use Rattle.to_edif.proofs.Left.{other_kept}
 
 nothing_there : {A : Type 0} (place : ℕ) (x : A) → slice_get [] place ≡ Some x → ⊥
 nothing_there place x e = absurd cc
@@ -88,9 +89,19 @@ less_here (y ∷ ys) zero (suc place) x e = e
 less_here (y ∷ ys) (suc taken) zero x e = e
 less_here (y ∷ ys) (suc taken) (suc place) x e = less_here ys taken place x e
 
--- where those of one cell are taken, those of the others are kept
-pub kept_less : (cells : List HCell) (kept less : List (Option ClassTable)) (taken : ℕ) → less ≡ set kept taken None → AreKept cells kept → AreKept cells less
-kept_less cells kept less taken e are = λ number cell classes is at. are number cell classes is (less_here kept taken number classes (subst (λ (l : List (Option ClassTable)). slice_get l number ≡ Some (Some classes)) e at))
+elsewhere : {A : Type 0} (xs : List (Option A)) (taken place : ℕ) (x : A) → slice_get (set xs taken None) place ≡ Some (Some x) → ¬ (place ≡ taken)
+elsewhere [] taken place x e = absurd cc
+elsewhere (y ∷ ys) zero zero x e = absurd cc
+elsewhere (y ∷ ys) zero (suc place) x e = λ same. omega (arith, same)
+elsewhere (y ∷ ys) (suc taken) zero x e = λ same. omega (arith, same)
+elsewhere (y ∷ ys) (suc taken) (suc place) x e = λ same. elsewhere ys taken place x e (omega (arith, same))
+
+-- where those of one cell are taken and another cell stands in its place, those of the others are kept
+pub kept_less : (cells others : List HCell) (kept less : List (Option ClassTable)) (taken : ℕ) (other : HCell) → less ≡ set kept taken None → others ≡ set cells taken other → AreKept cells kept → AreKept others less
+kept_less cells others kept less taken other e f are = λ number cell classes is at.
+    let here : slice_get (set kept taken None) number ≡ Some (Some classes) = subst (λ (l : List (Option ClassTable)). slice_get l number ≡ Some (Some classes)) e at in
+    let same : slice_get others number ≡ slice_get cells number = ap (λ (l : List HCell). slice_get l number) f ∙ other_kept cells taken other number (elsewhere kept taken number classes here) in
+    are number cell classes (sym same ∙ is) (less_here kept taken number classes here)
 
 -- what is taken for a cell is its classes
 pub taken_are : (cells : List HCell) (kept : List (Option ClassTable)) (number : ℕ) (slot : Option ClassTable) → slice_get kept number ≡ Some slot → AreKept cells kept → IfSome slot (AreClassesAt cells number)

@@ -1,3 +1,4 @@
 pub mod CellLaws
 pub mod FileLaws
+pub mod Left
 pub mod Named

@@ -1,2 +1,4 @@
 pub mod Cells
 pub mod Files
+pub mod Left
+pub mod Settings

@@ -1,9 +1,14 @@
 // The cells of the file.
-ghost use Rattle.std.specs.Prelude.{◌≡◌, ◌<◌, Bool, List, Some, true, length, map, IfOk, IfSome};
+ghost use Rattle.std.specs.Prelude.{◌≡◌, ◌==◌, ◌<◌, ◌≤◌, Bool, List, [], None, Some, cond, true, length, map, set, IfOk, IfSome};
 ghost use Rattle.edif_plans.specs.Planned.{AreCells};
 ghost use Rattle.net_bits.specs.Classes.{AreClassesAt};
 ghost use Rattle.edif_plans.specs.Plans.{FitsCells};
 ghost use Rattle.edif_plans.specs.Sound.{AreStems};
+ghost use Rattle.net_hier.specs.Design.{IsCell};
+ghost use Rattle.net_hier.specs.declared.cells.HCell.{HCell as CellValue};
+ghost use Rattle.net_hier.specs.Valid.{IsHier, unit_limit};
+ghost use Rattle.to_edif.specs.Left.{shown_cell};
+ghost use Rattle.to_edif.specs.Settings.{design_of};
 ghost use Rattle.to_edif.specs.Cells.{AreKept, AreNewCells, HasConstants, HaveHeads};
 
 use edif_making::{cell_of, new_cell};
@@ -12,8 +17,8 @@ use edif_plans::Plan;
 use edif_value_laws::words_of;
 use edif_values::Cell;
 use net_bits::Classes;
-use net_hier::{Constants, Hier};
-use nl_base::NoMemory;
+use net_hier::{Constants, HCell, HProp, Hier, HierParts};
+use nl_base::{NoMemory, Seq};
 use std::alloc::Global;
 
 /// The new cells of these constants.
@@ -50,10 +55,10 @@ pub(crate) fn kept_of(alloc: Global, all: Vec<Classes>) -> Result<Vec<Option<Cla
 }
 
 /// Takes the classes that are kept for the cell of this number, where there are any.
-fn taken(hier: &Hier, kept: &mut Vec<Option<Classes>>, number: u32) -> Option<Classes>
-    requires { AreKept hier.now.cells kept.old.items }
-    ensures kept { AreKept hier.now.cells kept.new.items }
-    ensures classes { IfSome result (AreClassesAt hier.now.cells number) }
+fn taken(kept: &mut Vec<Option<Classes>>, cells: &[HCell], number: u32) -> Option<Classes>
+    requires { AreKept cells.now kept.old.items }
+    ensures kept { kept.new.items ≡ set kept.old.items number None }
+    ensures classes { IfSome result (AreClassesAt cells.now number) }
 {
     match kept.get_mut(number as usize) {
         Some(slot) => slot.take(),
@@ -62,47 +67,130 @@ fn taken(hier: &Hier, kept: &mut Vec<Option<Classes>>, number: u32) -> Option<Cl
 }
 
 /// The classes of the cell of this number: those that are kept, which are kept no longer, or else made anew.
+#[tactic(auto, using(crate::proofs::Left::few_here, crate::proofs::Left::classes_here))]
 fn classes_of(
     alloc: Global,
-    hier: &Hier,
     kept: &mut Vec<Option<Classes>>,
+    cells: &[HCell],
     number: u32,
 ) -> Result<Classes, NoMemory>
-    requires cell { number < length hier.now.cells }
-    requires kept { AreKept hier.now.cells kept.old.items }
-    ensures kept { AreKept hier.now.cells kept.new.items }
-    ensures classes { IfOk result (AreClassesAt hier.now.cells number) }
+    requires cell { number < length cells.now }
+    requires few { (cell : CellValue) → IsCell cells.now number cell
+        → length cell.joins ≤ unit_limit }
+    requires kept { AreKept cells.now kept.old.items }
+    ensures kept { kept.new.items ≡ set kept.old.items number None }
+    ensures classes { IfOk result (AreClassesAt cells.now number) }
 {
-    let cells = hier.cells();
-    if let Some(classes) = taken(hier, kept, number) {
+    if let Some(classes) = taken(kept, cells, number) {
         return Ok(classes);
     }
     let classes = Classes::of_cell_uncounted(alloc, &cells[number as usize])?;
     Ok(classes)
 }
 
-/// These cells, and then those of the design, in its order. The classes of a cell are left when it is made.
-pub(crate) fn with_cells(
+/// Leaves what the cell of this number is made of. It keeps its name, and its ports, to which other cells refer.
+fn leave_parts(alloc: Global, cells: &mut [HCell], number: u32)
+    requires { number < length cells.old }
+    ensures { (cell : CellValue) → IsCell cells.old number cell
+        → cells.new ≡ set cells.old number (shown_cell cell) }
+{
+    let cell = &mut cells[number as usize];
+    cell.instances = Seq::empty(alloc);
+    cell.nets = Seq::empty(alloc);
+    cell.joins = Seq::empty(alloc);
+    cell.props = Seq::empty(alloc);
+}
+
+/// What all cells of a file are made by: the number of the design's top, the design's own properties, the order of its cells, the cells of the
+/// constants, and the plan of the file.
+#[derive(Clone, Copy)]
+pub struct Setting<'a> {
+    pub top: u32,
+    pub props: &'a [HProp],
+    pub order: &'a [u32],
+    pub constants: &'a Constants,
+    pub plan: &'a Plan,
+}
+
+/// The properties of the design that stand behind those of the cell of this number: the top has them all.
+fn design_props<'a>(setting: &Setting<'a>, number: u32) -> &'a [HProp]
+    ensures { result.now ≡ cond (number == setting.now.top) setting.now.props.now [] }
+{
+    if number != setting.top {
+        return &[];
+    }
+    setting.props
+}
+
+/// These cells, and then those of the design, in its order. What a cell of the design is made of, and its classes, are left when what is written
+/// for it is made.
+fn made_in_order(
     alloc: Global,
-    hier: &Hier,
-    constants: &Constants,
-    plan: &Plan,
+    setting: &Setting<'_>,
+    cells: &mut [HCell],
     mut kept: Vec<Option<Classes>>,
     first: Vec<Cell>,
 ) -> Result<Vec<Cell>, NoMemory>
-    requires fits { FitsCells hier.now.cells plan.now }
-    requires kept { AreKept hier.now.cells kept.items }
-    requires constants { HasConstants hier.now plan.now }
-    requires stems { AreStems constants.now }
-    ensures { (values : List Bool) → AreNewCells constants.now plan.now values first.items
-        → IfOk result (λ made. AreCells constants.now hier.now plan.now values hier.now.order made.items) }
+    requires valid { IsHier (design_of setting.now cells.old) }
+    requires fits { FitsCells cells.old setting.now.plan.now }
+    requires kept { AreKept cells.old kept.items }
+    requires constants { HasConstants (design_of setting.now cells.old) setting.now.plan.now }
+    requires stems { AreStems setting.now.constants.now }
+    ensures { (values : List Bool)
+        → AreNewCells setting.now.constants.now setting.now.plan.now values first.items
+        → IfOk result (λ made. AreCells setting.now.constants.now
+        (design_of setting.now cells.old) setting.now.plan.now values setting.now.order.now
+        made.items) }
 {
-    let order = hier.order();
+    let order = setting.order;
     let mut made = first;
     for number in order {
-        let classes = classes_of(alloc, hier, &mut kept, *number)?;
-        let cell = cell_of(alloc, hier, constants, plan, *number, &classes)?;
+        let classes = classes_of(alloc, &mut kept, cells, *number)?;
+        let props = design_props(setting, *number);
+        let cell = cell_of(
+            alloc,
+            cells,
+            setting.constants,
+            setting.plan,
+            *number,
+            props,
+            &classes,
+        )?;
         made.push(cell)?;
+        leave_parts(alloc, cells, *number);
     }
     Ok(made)
+}
+
+/// These cells, and then those of the design, in its order.
+pub(crate) fn with_cells(
+    alloc: Global,
+    hier: Hier,
+    constants: &Constants,
+    plan: &Plan,
+    kept: Vec<Option<Classes>>,
+    first: Vec<Cell>,
+) -> Result<Vec<Cell>, NoMemory>
+    requires fits { FitsCells hier.cells plan.now }
+    requires kept { AreKept hier.cells kept.items }
+    requires constants { HasConstants hier plan.now }
+    requires stems { AreStems constants.now }
+    ensures { (values : List Bool) → AreNewCells constants.now plan.now values first.items
+        → IfOk result (λ made. AreCells constants.now hier plan.now values hier.order made.items) }
+{
+    let HierParts {
+        cells,
+        top,
+        props,
+        order,
+    } = hier.into_parts();
+    let setting = Setting {
+        top,
+        props: props.items(),
+        order: order.items(),
+        constants,
+        plan,
+    };
+    let mut left = cells.into_vec();
+    made_in_order(alloc, &setting, left.as_mut_slice(), kept, first)
 }

@@ -21,46 +21,47 @@ use std::alloc::Global;
 /// The file of a design with these classes, as it is planned.
 fn file_of(
     alloc: Global,
-    hier: &Hier,
+    hier: Hier,
     constants: &Constants,
     all: Vec<Classes>,
     planned: &Planned,
 ) -> Result<EdifFile, NoMemory>
-    requires classes { AreAllClasses hier.now.cells all.items }
-    requires planned { IsPlanned constants.now hier.now planned.now }
-    ensures same { IfOk result (IsEdifFor constants.now hier.now) }
-    ensures named { IfOk result (IsNamedAfterTop hier.now) }
-    ensures value { IfOk result (λ file. IsSoundDesign hier.now → IsEdifValue file) }
-    ensures planned { IfOk result (IsPlannedFile constants.now hier.now) }
+    requires classes { AreAllClasses hier.cells all.items }
+    requires planned { IsPlanned constants.now hier planned.now }
+    ensures same { IfOk result (IsEdifFor constants.now hier) }
+    ensures named { IfOk result (IsNamedAfterTop hier) }
+    ensures value { IfOk result (λ file. IsSoundDesign hier → IsEdifValue file) }
+    ensures planned { IfOk result (IsPlannedFile constants.now hier) }
 {
     // What `Constants` keeps is known of one whose names are read.
     let _zero = constants.zero();
     stems_of(constants);
-    let top = &hier.cells()[hier.top() as usize];
+    let number = hier.top();
+    let top = &hier.cells()[number as usize];
     let word = top.name.bytes();
+    let name = lone_name(alloc, word)?;
+    let design_name = lone_name(alloc, word)?;
     let first = new_cells(alloc, constants, &planned.plan, planned.missing.as_slice())?;
     let kept = kept_of(alloc, all)?;
     let cells = with_cells(alloc, hier, constants, &planned.plan, kept, first)?;
-    let name = lone_name(alloc, word)?;
-    let design_name = lone_name(alloc, word)?;
-    let head = planned.plan.head(hier.top());
+    let head = planned.plan.head(number);
     words_of(head);
     let file = file_with(alloc, name, design_name, cells, &head.cell)?;
     Ok(file)
 }
 
-/// The design as an EDIF file, with these cells for the constants.
+/// The design as an EDIF file, with these cells for the constants. Each cell of the design is left when what is written for it is made.
 ///
 /// # Errors
 /// `NoMemory`: memory ran out.
-pub fn to_edif(alloc: Global, hier: &Hier, constants: &Constants) -> Result<EdifFile, NoMemory>
-    ensures same { IfOk result (IsEdifFor constants.now hier.now) }
-    ensures named { IfOk result (IsNamedAfterTop hier.now) }
-    ensures value { IfOk result (λ file. IsSoundDesign hier.now → IsEdifValue file) }
-    ensures planned { IfOk result (IsPlannedFile constants.now hier.now) }
+pub fn to_edif(alloc: Global, hier: Hier, constants: &Constants) -> Result<EdifFile, NoMemory>
+    ensures same { IfOk result (IsEdifFor constants.now hier) }
+    ensures named { IfOk result (IsNamedAfterTop hier) }
+    ensures value { IfOk result (λ file. IsSoundDesign hier → IsEdifValue file) }
+    ensures planned { IfOk result (IsPlannedFile constants.now hier) }
 {
-    let all = all_classes(alloc, hier)?;
-    let planned = plan_of(alloc, hier, constants, all.as_slice())?;
+    let all = all_classes(alloc, &hier)?;
+    let planned = plan_of(alloc, &hier, constants, all.as_slice())?;
     let file = file_of(alloc, hier, constants, all, &planned)?;
     Ok(file)
 }

@@ -73,7 +73,7 @@ fn items_of(file: &EdifFile) -> Option<usize> {
 }
 
 /// How many items the contents of the top cell have, and how many bytes the file of the design is written in.
-fn sizes_of(alloc: Global, hier: &Hier, constants: &Constants) -> Option<(usize, u64)> {
+fn sizes_of(alloc: Global, hier: Hier, constants: &Constants) -> Option<(usize, u64)> {
     let file = to_edif(alloc, hier, constants).ok()?;
     let mut sink = CountSink::new();
     write_edif(&file, &mut sink).ok()?;
@@ -87,7 +87,7 @@ fn many_instances_are_translated(rt: HostRuntime) -> Result<(), Fail> {
     let text = module_of(alloc)?;
     let hier = design_of(alloc, text, b"top")?;
     let sizes = match (hier, constants_of(alloc, (b"GND", b"G"), (b"VCC", b"P"))?) {
-        (Some(hier), Some(constants)) => sizes_of(alloc, &hier, &constants),
+        (Some(hier), Some(constants)) => sizes_of(alloc, hier, &constants),
         _ => None,
     };
     assert!(rt; sizes == Some((599_999, 79_655_964)));

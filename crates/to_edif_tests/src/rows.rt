@@ -69,7 +69,7 @@ fn file_of(alloc: Global, row: Row) -> Result<Vec<u8>, NoMemory> {
 }
 
 /// Whether the file of a design is written into a sink.
-fn is_put(alloc: Global, hier: &Hier, constants: &Constants, sink: &mut MemSink) -> bool {
+fn is_put(alloc: Global, hier: Hier, constants: &Constants, sink: &mut MemSink) -> bool {
     match to_edif(alloc, hier, constants) {
         Ok(file) => write_edif(&file, sink).is_ok(),
         Err(_) => false,
@@ -79,7 +79,7 @@ fn is_put(alloc: Global, hier: &Hier, constants: &Constants, sink: &mut MemSink)
 /// Whether what is written of a design is this.
 fn is_written(
     alloc: Global,
-    hier: &Hier,
+    hier: Hier,
     constants: &Constants,
     written: &[u8],
 ) -> Result<bool, NoMemory> {
@@ -93,7 +93,7 @@ fn holds(alloc: Global, row: Row) -> Result<bool, NoMemory> {
     let hier = design_of(alloc, text, row.top)?;
     let written = file_of(alloc, row)?;
     match (hier, constants_of(alloc, row.zero, row.one)?) {
-        (Some(hier), Some(constants)) => is_written(alloc, &hier, &constants, written.as_slice()),
+        (Some(hier), Some(constants)) => is_written(alloc, hier, &constants, written.as_slice()),
         _ => Ok(false),
     }
 }

@@ -1,6 +1,5 @@
-use Rattle.std.proofs.Common.{◌≡◌, Some, ap, get_or, subst, sym, ◌∙◌}
+use Rattle.std.proofs.Common.{◌≡◌, ◌++◌, Some, subst, sym}
 use Rattle.std.specs.Prelude.{slice_get}
-use Rattle.net_hier.specs.Facts.{cell_props}
 use Rattle.net_hier.specs.declared.cells.HCell.{HCell}
 use Rattle.edif_plans.specs.Made.{IsMadeUnder}
 use Rattle.edif_plans.specs.Plans.{HasPorts, head_of}
@@ -13,21 +12,21 @@ head-head-requires c = c.requires.plan.heads c.args.number c.requires.cell
 
 pub cell_under-requires-clause-ports : goal.cell_under-requires-clause-ports
 cell_under-requires-clause-ports c =
-    let there : slice_get c.args.hier.now.cells c.args.number ≡ Some c.index-cells-place.result = is_at c.args.hier.now.cells c.args.number c.index-cells-place.result c.index-cells-place.result c.requires.cell (c.index-cells-place.is ∙ ap (λ l. get_or l c.args.number c.index-cells-place.result) c.cells-cells.ensures.cells) in
+    let there : slice_get c.args.cells.now c.args.number ≡ Some c.index-cells-place.result = is_at c.args.cells.now c.args.number c.index-cells-place.result c.index-cells-place.result c.requires.cell c.index-cells-place.is in
     subst (λ h. HasPorts h c.index-cells-place.result) (sym c.head-head.ensures) (c.requires.plan.ports c.args.number c.index-cells-place.result there)
 
 pub cell_under-requires-clause-good : goal.cell_under-requires-clause-good
 cell_under-requires-clause-good c =
-    let there : slice_get c.args.hier.now.cells c.args.number ≡ Some c.index-cells-place.result = is_at c.args.hier.now.cells c.args.number c.index-cells-place.result c.index-cells-place.result c.requires.cell (c.index-cells-place.is ∙ ap (λ l. get_or l c.args.number c.index-cells-place.result) c.cells-cells.ensures.cells) in
-    c.cells-cells.ensures.valid.valid.good_cells c.args.number c.index-cells-place.result there
+    let there : slice_get c.args.cells.now c.args.number ≡ Some c.index-cells-place.result = is_at c.args.cells.now c.args.number c.index-cells-place.result c.index-cells-place.result c.requires.cell c.index-cells-place.is in
+    c.requires.good c.index-cells-place.result there
 
 pub cell_under-requires-clause-classes : goal.cell_under-requires-clause-classes
 cell_under-requires-clause-classes c =
-    let there : slice_get c.args.hier.now.cells c.args.number ≡ Some c.index-cells-place.result = is_at c.args.hier.now.cells c.args.number c.index-cells-place.result c.index-cells-place.result c.requires.cell (c.index-cells-place.is ∙ ap (λ l. get_or l c.args.number c.index-cells-place.result) c.cells-cells.ensures.cells) in
+    let there : slice_get c.args.cells.now c.args.number ≡ Some c.index-cells-place.result = is_at c.args.cells.now c.args.number c.index-cells-place.result c.index-cells-place.result c.requires.cell c.index-cells-place.is in
     c.requires.classes c.index-cells-place.result there
 
 pub returns : goal.returns
 returns c =
-    let there : slice_get c.args.hier.now.cells c.args.number ≡ Some c.index-cells-place.result = is_at c.args.hier.now.cells c.args.number c.index-cells-place.result c.index-cells-place.result c.requires.cell (c.index-cells-place.is ∙ ap (λ l. get_or l c.args.number c.index-cells-place.result) c.cells-cells.ensures.cells) in
-    λ cell is. subst (λ (d : HCell). IsMadeUnder c.args.constants.now c.args.hier.now.cells c.args.plan.now (head_of c.args.plan.now c.args.number) d (cell_props c.args.hier.now c.args.number d) c.args.classes.now c.in_ok-made.made) (same_item (slice_get c.args.hier.now.cells c.args.number) c.index-cells-place.result cell there is)
-    (subst (λ h. IsMadeUnder c.args.constants.now c.args.hier.now.cells c.args.plan.now h c.index-cells-place.result (cell_props c.args.hier.now c.args.number c.index-cells-place.result) c.args.classes.now c.in_ok-made.made) c.head-head.ensures c.in_ok-made.ensures)
+    let there : slice_get c.args.cells.now c.args.number ≡ Some c.index-cells-place.result = is_at c.args.cells.now c.args.number c.index-cells-place.result c.index-cells-place.result c.requires.cell c.index-cells-place.is in
+    λ cell is. subst (λ (d : HCell). IsMadeUnder c.args.constants.now c.args.cells.now c.args.plan.now (head_of c.args.plan.now c.args.number) d (d.props ++ c.args.design_props.now) c.args.classes.now c.in_ok-made.made) (same_item (slice_get c.args.cells.now c.args.number) c.index-cells-place.result cell there is)
+    (subst (λ h. IsMadeUnder c.args.constants.now c.args.cells.now c.args.plan.now h c.index-cells-place.result (c.index-cells-place.result.props ++ c.args.design_props.now) c.args.classes.now c.in_ok-made.made) c.head-head.ensures c.in_ok-made.ensures)

@@ -28,12 +28,12 @@ instances_of-requires-clause-idents c = sym (idents_count c.items-own.result.now
 pub nets_of-requires-clause-fits : goal.nets_of-requires-clause-fits
 nets_of-requires-clause-fits c =
     let added : AreAddedTo c.args.cell.now.instances c.args.classes.now c.in_ok-instances.instances = subst (λ (l : List HInst). AreAddedTo l c.args.classes.now c.in_ok-instances.instances) c.items-own.ensures c.in_ok-instances.ensures.added in
-    cell_plan_fits (record { cells = c.args.hier.now.cells; plan = c.args.plan.now; cell = c.args.cell.now; head = c.args.head.now; instances = c.in_ok-instances.instances }) c.args.classes.now c.requires.plan c.requires.ports c.requires.good added
+    cell_plan_fits (record { cells = c.args.cells.now; plan = c.args.plan.now; cell = c.args.cell.now; head = c.args.head.now; instances = c.in_ok-instances.instances }) c.args.classes.now c.requires.plan c.requires.ports c.requires.good added
 
 pub nets_of-requires-clause-there : goal.nets_of-requires-clause-there
 nets_of-requires-clause-there c =
     let added : AreAddedTo c.args.cell.now.instances c.args.classes.now c.in_ok-instances.instances = subst (λ (l : List HInst). AreAddedTo l c.args.classes.now c.in_ok-instances.instances) c.items-own.ensures c.in_ok-instances.ensures.added in
-    refs_there (record { cells = c.args.hier.now.cells; plan = c.args.plan.now; cell = c.args.cell.now; head = c.args.head.now; instances = c.in_ok-instances.instances }) c.args.classes.now c.requires.classes c.requires.good added c.requires.constants
+    refs_there (record { cells = c.args.cells.now; plan = c.args.plan.now; cell = c.args.cell.now; head = c.args.head.now; instances = c.in_ok-instances.instances }) c.args.classes.now c.requires.classes c.requires.good added c.requires.constants
 
 pub ports_of-requires : goal.ports_of-requires
 ports_of-requires c = ap length c.items-idents.ensures ∙ (c.requires.ports ∙ ap length (sym c.items-shown.ensures))

@@ -25,5 +25,5 @@ pub returns-clause-made : goal.returns-clause-made
 returns-clause-made c =
     let is_below : c.below_of-below.result ≡ below_at c.args.scope.now.cell.now.instances c.args.instance = c.below_of-below.ensures ∙ ap (λ l. below_at l c.args.instance) c.items-own.ensures in
     let idents = c.items-idents.ensures ∙ (ap (λ h. h.ports) c.head-head.ensures ∙ ap (λ n. (head_of c.args.scope.now.plan.now n).ports) is_below) in
-    let ports = c.ports_of-ports.ensures ∙ (λ j. ports_at (c.cells-cells.ensures.cells j) (is_below j)) in
+    let ports = c.ports_of-ports.ensures ∙ ap (ports_at c.args.scope.now.cells.now) is_below in
     c.in_ok-made.ensures.made ∙ (λ j. record { port = get_or (idents j) c.args.port []; member = member_for (range_at (ports j) c.args.port) c.args.bit; instance = Some (get_or (c.items-instances.ensures j) c.args.instance []) })

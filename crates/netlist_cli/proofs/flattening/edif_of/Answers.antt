@@ -5,5 +5,5 @@ pub returns : goal.returns
 returns c = record {
   valid = c.cells-cells.ensures.valid.valid;
   same = c.in_ok-file.ensures.same;
-  value = c.in_ok-file.ensures.value (sound_design c.args.flat.now c.requires.short c.requires.sound);
+  value = c.in_ok-file.ensures.value (sound_design c.args.flat c.requires.short c.requires.sound);
 }
