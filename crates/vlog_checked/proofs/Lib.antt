@@ -2,8 +2,10 @@ pub mod Below
 pub mod Clean
 pub mod Differing
 pub mod Firsts
+pub mod FreeLaws
 pub mod Grouping
 pub mod ListLaws
+pub mod LookLaws
 pub mod Lookup
 pub mod Reaching
 pub mod TableLaws

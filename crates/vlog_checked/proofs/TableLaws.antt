@@ -66,10 +66,13 @@ once_at [] i m h is once = absurd (omega (arith, h))
 once_at (first ∷ rest) zero m h is once = subst (λ (o : Bor Module). declared_twice o.now ≡ []) (sym is) once.0
 once_at (first ∷ rest) (suc i) m h is once = once_at rest i m (omega (arith, h)) is once.1
 
+pub all_at : (P : Module → Type 0) (modules : List (Bor Module)) (i : ℕ) (m : Bor Module) → i < length modules → m ≡ get_or modules i m → AllByRecursion P (modules_of modules) → P m.now
+all_at P [] i m h is all = absurd (omega (arith, h))
+all_at P (first ∷ rest) zero m h is all = subst (λ (o : Bor Module). P o.now) (sym is) all.0
+all_at P (first ∷ rest) (suc i) m h is all = all_at P rest i m (omega (arith, h)) is all.1
+
 pub small_at : (modules : List (Bor Module)) (i : ℕ) (m : Bor Module) → i < length modules → m ≡ get_or modules i m → AllByRecursion (λ m. module_size m ≤ 268435456) (modules_of modules) → module_size m.now ≤ 268435456
-small_at [] i m h is small = absurd (omega (arith, h))
-small_at (first ∷ rest) zero m h is small = subst (λ (o : Bor Module). module_size o.now ≤ 268435456) (sym is) small.0
-small_at (first ∷ rest) (suc i) m h is small = small_at rest i m (omega (arith, h)) is small.1
+small_at = all_at (λ m. module_size m ≤ 268435456)
 
 -- modules that the file has once have names that differ
 pub differ_in : (file : VlogFile) → modules_twice file ≡ [] → Distinct (module_names file.modules)

@@ -1,3 +1,4 @@
+pub mod ByTables
 pub mod Clean
 pub mod Groups
 pub mod Looks

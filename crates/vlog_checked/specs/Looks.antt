@@ -3,21 +3,25 @@ use Rattle.std.specs.Prelude.{◌≡◌, ◌-◌, ◌^◌, [], map, min, sum_by,
 use Rattle.vlog_design.specs.Names.{Name}
 use Rattle.vlog_design.specs.Reach.{module_number, reached}
 use Rattle.vlog_design.specs.Rules.{first_G, refusals}
-use Rattle.vlog_ties.specs.Ties.{modules_in, most_joins}
+use Rattle.vlog_design.specs.Tables.{modules_of}
+use Rattle.vlog_shown.specs.Interfaces.{interface}
+use Rattle.vlog_ties.specs.Ties.{module_bits, most_joins}
 use Rattle.vlog_values.specs.declared.module.VlogFile.{VlogFile}
 use Rattle.vlog_checked.specs.declared.check.CleanModules.{CleanModules}
 use Rattle.vlog_checked.specs.declared.check.Checked.{Checked}
 use Rattle.vlog_checked.specs.declared.check.Checked.TheVariants.{Refused, Clean}
 
--- no rule is broken, and these are the reached modules, their names, the number of the top among them, and the bits of their left sides
+-- no rule is broken, and these are the reached modules, their names, what they show, the number of the top among them, and their bits
 pub record AreCleanModules (file : VlogFile) (top : Name) (checked : CleanModules) : Type 0 where
   pub no_refusals : refusals file top ≡ []
-  pub modules_are : modules_in checked.scopes.items ≡ reached file top
+  pub modules_are : modules_of checked.modules.items ≡ reached file top
   pub names_are : checked.names ≡ map (λ m. m.name) (reached file top)
+  pub shown_are : checked.shown ≡ map interface (reached file top)
   pub top_is : checked.top ≡ module_number (reached file top) top
   pub most_is : checked.most ≡ min (2 ^ 64 - 1) (sum_by (most_joins (reached file top)) (reached file top))
+  pub bits_is : checked.bits ≡ min (2 ^ 64 - 1) (sum_by module_bits (reached file top))
 
--- the first object of the least rule that is broken, or the reached modules with their tables where none is
+-- the first object of the least rule that is broken, or the reached modules where none is
 abbrev pub IsChecked : VlogFile → Name → Checked → Type 0
 IsChecked file top (Refused refusal) = first_G file top ≡ Some refusal
 IsChecked file top (Clean checked) = AreCleanModules file top checked

@@ -1,39 +1,44 @@
-// The first broken rule of a file, or its modules with their tables.
-ghost use Rattle.std.specs.Prelude.{◌≡◌, ◌≤◌, ◌<◌, ◌^◌, [], bytes_eq, length, IfOk};
+// The first broken rule of a file, or its modules and what they show.
+ghost use Rattle.std.specs.Prelude.{◌≡◌, ◌≤◌, ◌<◌, ◌^◌, [], bytes_eq, length, map, IfOk};
 ghost use Rattle.std.specs.List.{position_or_len};
+ghost use Rattle.vlog_checked.specs.ByTables.{AreLooked};
 ghost use Rattle.vlog_checked.specs.Groups.{file_refusals, module_refusals};
 ghost use Rattle.vlog_checked.specs.Looks.{IsChecked};
 ghost use Rattle.vlog_checked.specs.Tabled.{CanHaveTables};
 ghost use Rattle.vlog_design.specs.Reach.{reached};
 ghost use Rattle.vlog_design.specs.Tables.{modules_of};
-ghost use Rattle.vlog_ties.specs.Ties.{modules_in};
+ghost use Rattle.vlog_shown.specs.Interfaces.{interface};
 ghost use Rattle.vlog_values.specs.Sizes.{vlog_size};
 ghost use Rattle.vlog_values.specs.Values.{IsVlogValue};
 
+use crate::looks::{Look, looks_at};
 use crate::modules::{file_names, first_in_file, first_in_reached};
-use crate::tables::{first_in_tables, scopes_of};
-use nl_base::{NoMemory, Refusal};
+use crate::tables::first_by_look;
+use nl_base::{NoMemory, Refusal, Seq};
 use std::alloc::Global;
 use vlog_design::names::NameSet;
 use vlog_reach::reached_modules;
-use vlog_rules::library::ModulePorts;
-use vlog_rules::passes::ModuleScope;
 use vlog_scopes::library::library_of;
-use vlog_ties::sides::{Sides, sides_of};
+use vlog_shown::interfaces::interfaces_of;
+use vlog_shown::tables::{names_shown, scopes_shown};
 use vlog_values::{Module, VlogFile};
 
-/// The modules that are reached, in file order: their names, the tables of their names, the number of the top, and at most how many
-/// joins they have.
+/// The modules that are reached, in file order, their names, what they show to one another, the number of the top, and how many bits
+/// they have.
 #[derive(Drop)]
 pub struct CleanModules<'a> {
     /// The names of the modules.
     pub names: NameSet<'a>,
-    /// The modules with the tables of their names.
-    pub scopes: Vec<ModuleScope<'a>>,
+    /// The modules.
+    pub modules: Vec<&'a Module>,
+    /// What the modules show to one another.
+    pub shown: Seq<Module>,
     /// The number of the top.
     pub top: u32,
     /// The bits of the left sides of all that is tied, or 2^64-1 where there are more: there are no more joins.
     pub most: u64,
+    /// The bits of all ports and nets, or 2^64-1 where there are more.
+    pub bits: u64,
 }
 
 /// What the rules say of a file.
@@ -56,41 +61,18 @@ fn number_in(names: &NameSet, name: &[u8]) -> u32
     }
 }
 
-/// Tries the rules on modules with their tables.
-fn check_tables<'a>(
-    alloc: Global,
-    file: &'a VlogFile,
-    top: &[u8],
-    library: ModulePorts<'a>,
-    scopes: Vec<ModuleScope<'a>>,
-) -> Result<Checked<'a>, NoMemory>
-    requires named { file_refusals file.now top.now ≡ [] }
-    requires declared { module_refusals file.now.modules (reached file.now top.now) ≡ [] }
-    requires kept { CanHaveTables (reached file.now top.now) }
-    requires reached { modules_of library.modules.items ≡ reached file.now top.now }
-    requires tabled { modules_in scopes.items ≡ reached file.now top.now }
-    ensures { IfOk result (IsChecked file.now top.now) }
+/// What is seen of modules, where this is what they show.
+fn look_by(alloc: Global, modules: &[&Module], shown: &[Module]) -> Result<Look, NoMemory>
+    requires kept { CanHaveTables (modules_of modules.now) }
+    requires shown { shown.now ≡ map interface (modules_of modules.now) }
+    ensures { IfOk result (AreLooked (modules_of modules.now) (modules_of modules.now)) }
 {
-    let number = number_in(&library.names, top);
-    let tables = scopes.as_slice();
-    let sides = sides_of(alloc, &library.names, tables)?;
-    let Sides {
-        unequal,
-        loose,
-        most,
-    } = sides;
-    if let Some(refusal) = first_in_tables(alloc, &library, tables, number, unequal, loose)? {
-        return Ok(Checked::Refused(refusal));
-    }
-    Ok(Checked::Clean(CleanModules {
-        names: library.names,
-        scopes,
-        top: number,
-        most,
-    }))
+    let names = names_shown(alloc, shown)?;
+    let scopes = scopes_shown(alloc, shown)?;
+    looks_at(alloc, &names, &scopes, modules)
 }
 
-/// Makes the tables of the reached modules, and tries the rules on them.
+/// Tries the rules on the reached modules: each table is left before the next is made.
 fn examined_reached<'a>(
     alloc: Global,
     file: &'a VlogFile,
@@ -103,9 +85,21 @@ fn examined_reached<'a>(
     requires reached { modules_of modules.items ≡ reached file.now top.now }
     ensures { IfOk result (IsChecked file.now top.now) }
 {
+    let shown = interfaces_of(alloc, &modules)?;
+    let look = look_by(alloc, &modules, shown.items())?;
     let library = library_of(alloc, modules)?;
-    let scopes = scopes_of(alloc, &library.modules)?;
-    check_tables(alloc, file, top, library, scopes)
+    let number = number_in(&library.names, top);
+    if let Some(refusal) = first_by_look(alloc, &library, number, look.is_free)? {
+        return Ok(Checked::Refused(refusal));
+    }
+    Ok(Checked::Clean(CleanModules {
+        names: library.names,
+        modules: library.modules,
+        shown,
+        top: number,
+        most: look.most,
+        bits: look.bits,
+    }))
 }
 
 /// Tries the rules on the reached modules of a file with a top, whose modules have their own names.

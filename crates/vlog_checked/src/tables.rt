@@ -1,7 +1,8 @@
 // The rules on modules with the tables of their names.
-ghost use Rattle.std.specs.Prelude.{◌≡◌, ◌≤◌, ◌<◌, ◌++◌, length, map, IfOk};
+ghost use Rattle.std.specs.Prelude.{◌≡◌, ◌≤◌, ◌<◌, ◌++◌, true, length, map, IfOk};
 ghost use Rattle.std.specs.List.{AllByRecursion};
 ghost use Rattle.nl_base.specs.declared.rule.Rule.TheVariants.{G6, G7, G8, G13};
+ghost use Rattle.vlog_checked.specs.ByTables.{IsFree};
 ghost use Rattle.vlog_checked.specs.Groups.{connection_refusals, design_refusals, name_refusals, table_refusals, width_refusals};
 ghost use Rattle.vlog_checked.specs.Tabled.{CanHaveTables};
 ghost use Rattle.vlog_design.specs.Rules.{bad_selects, first_of, in_modules, unequal_widths, unknown_names, unsized};
@@ -23,10 +24,11 @@ use vlog_rules::wrong_uses::have_wrong_use;
 use vlog_scopes::recursion::first_recursion;
 use vlog_scopes::redeclared::Redeclared;
 use vlog_scopes::scopes::scope_of;
+use vlog_ties::sides::sides_of;
 use vlog_values::Module;
 
 /// The modules with the tables of their names, in their order.
-pub(crate) fn scopes_of<'a>(
+pub fn scopes_of<'a>(
     alloc: Global,
     modules: &[&'a Module],
 ) -> Result<Vec<ModuleScope<'a>>, NoMemory>
@@ -174,4 +176,65 @@ pub(crate) fn first_in_tables(
         return Ok(Some(refusal));
     }
     first_in_instances(alloc, &library.names, &library.modules, top)
+}
+
+/// The first object of modules that breaks a rule on what their names stand for, by the tables of all of them.
+fn first_by_tables(
+    alloc: Global,
+    library: &ModulePorts,
+    top: u32,
+) -> Result<Option<Refusal>, NoMemory>
+    requires kept { CanHaveTables (modules_of library.now.modules.items) }
+    requires within { top < length library.now.modules.items }
+    ensures { IfOk result (λ found. found
+        ≡ first_of (table_refusals (modules_of library.now.modules.items))) }
+{
+    let made = scopes_of(alloc, &library.modules)?;
+    let scopes = made.as_slice();
+    let sides = sides_of(alloc, &library.names, scopes)?;
+    first_in_tables(alloc, library, scopes, top, sides.unequal, sides.loose)
+}
+
+/// The first object of modules that breaks a rule on connections, parameters or instances, where none breaks one that needs a table.
+fn first_of_free(
+    alloc: Global,
+    library: &ModulePorts,
+    top: u32,
+) -> Result<Option<Refusal>, NoMemory>
+    requires kept { CanHaveTables (modules_of library.now.modules.items) }
+    requires within { top < length library.now.modules.items }
+    requires free { AllByRecursion (IsFree (modules_of library.now.modules.items))
+        (modules_of library.now.modules.items) }
+    ensures { IfOk result (λ found. found
+        ≡ first_of (table_refusals (modules_of library.now.modules.items))) }
+{
+    if let Some(refusal) = first_in_connections(alloc, library)? {
+        return Ok(Some(refusal));
+    }
+    let twice = EachStatement { rule: ParamsTwice };
+    if let Some(refusal) = first_in_modules(alloc, &twice, &library.modules)? {
+        return Ok(Some(refusal));
+    }
+    first_in_instances(alloc, &library.names, &library.modules, top)
+}
+
+/// The first object of modules that breaks a rule on what their names stand for. The tables of all modules are made only where it is
+/// not seen that no module breaks a rule that needs its table.
+pub(crate) fn first_by_look(
+    alloc: Global,
+    library: &ModulePorts,
+    top: u32,
+    is_free: bool,
+) -> Result<Option<Refusal>, NoMemory>
+    requires kept { CanHaveTables (modules_of library.now.modules.items) }
+    requires within { top < length library.now.modules.items }
+    requires free { is_free ≡ true → AllByRecursion (IsFree (modules_of library.now.modules.items))
+        (modules_of library.now.modules.items) }
+    ensures { IfOk result (λ found. found
+        ≡ first_of (table_refusals (modules_of library.now.modules.items))) }
+{
+    if is_free {
+        return first_of_free(alloc, library, top);
+    }
+    first_by_tables(alloc, library, top)
 }

@@ -1,9 +1,8 @@
 -- From the design of modules to the design of a file.
 use Rattle.std.proofs.Common.{◌≡◌, true, ℕ, zero, suc, ◌+◌, ◌-◌, ◌<◌, ◌≤◌, ◌^◌, List, [], ◌∷◌, ◌++◌, Some, None, Result, Ok, Err, length, map, min, sum_by, take, get_or, slice_get, refl, sym, ap, ◌∙◌, subst, arith}
 use Rattle.std.specs.Prelude.{MatchResult, option_map}
-use Rattle.std.specs.Option.{option_map_or}
 use Rattle.std.proofs.lemmas.List.{length-map, map-append, take_more}
-use Rattle.std.proofs.lemmas.List.Sums.{sum_by_more, sum_by_push}
+use Rattle.std.proofs.lemmas.List.Sums.{sum_by_push}
 use Rattle.std.proofs.lemmas.Option.{slice_get-get_or, slice_get-map}
 use Rattle.net_graph.specs.Graph.{IsFirstRecursion, ReachesItself}
 use Rattle.net_graph.specs.Marks.{marks_of}
@@ -17,16 +16,17 @@ use Rattle.vlog_design.specs.Reach.{module_number, modules_below, reached}
 use Rattle.vlog_design.specs.Rules.{first_G, first_of, refusals}
 use Rattle.vlog_rules.specs.declared.passes.ModuleScope.{ModuleScope}
 use Rattle.vlog_scopes.specs.Distinct.{Distinct, module_names}
-use Rattle.vlog_ties.specs.Ties.{modules_in}
+use Rattle.vlog_ties.specs.Ties.{modules_in, signal_width}
+use Rattle.vlog_shown.proofs.Lists.{all_once, all_small, names_same}
 use Rattle.vlog_values.specs.Sizes.{vlog_size}
 use Rattle.vlog_values.specs.Values.{IsVlogValue}
 use Rattle.vlog_values.specs.declared.module.Module.{Module}
 use Rattle.vlog_values.specs.declared.module.VlogFile.{VlogFile}
 use Rattle.vlog_elab.specs.Answers.{AreShown, AreShownFrom, HasDesign, IsDesignFrom, IsDesignOf, IsFaultFrom, IsFaultOf}
 use Rattle.vlog_checked.specs.Clean.{IsClean}
-use Rattle.vlog_elab.specs.Interfaces.{cells_shown, interface, is_shown}
+use Rattle.vlog_shown.specs.Interfaces.{cells_shown, interface, is_shown}
 use Rattle.vlog_elab.specs.Ready.{AreReady, CanBeCell, CanHaveCells, IsReady}
-use Rattle.vlog_elab.specs.Units.{cells_from, module_units, signal_width}
+use Rattle.vlog_elab.specs.Units.{cells_from, module_units}
 use Rattle.vlog_elab.specs.declared.answer.ResolveError.{ResolveError}
 use Rattle.vlog_elab.specs.declared.answer.Shown.{Shown}
 use Rattle.vlog_elab.specs.declared.answer.ResolveError.TheVariants.{Refused, TooBig, NoMemory}
@@ -34,7 +34,7 @@ use Rattle.vlog_checked.proofs.Clean.{clean_file}
 use Rattle.vlog_elab.proofs.Fitting.{none_back, numbers_fit, those_few, those_fit, those_small}
 use Rattle.vlog_checked.proofs.Reaching.{own_all, reached_from, those_values}
 use Rattle.vlog_checked.proofs.TableLaws.{differ_in, differ_marked}
-use Rattle.vlog_elab.proofs.Choosing.{all_once, all_small, marked_cells, name_there, names_same}
+use Rattle.vlog_elab.proofs.Choosing.{marked_cells, name_there}
 use Rattle.net_hier.proofs.Building.{built, in_range, top_within}
 use Rattle.vlog_elab.proofs.Ordering.{has_postorder}
 use Rattle.vlog_elab.proofs.Signals.{units_are}
@@ -47,18 +47,6 @@ first_reaches graph n i first = record {
 }
 
 -- ---- counting
-
--- the bits of one more port or net
-pub bits_more : (table : List Signal) (i : ℕ) (limit bits more : ℕ) → i < length table → bits ≡ min limit (sum_by signal_width (take i table)) → more ≡ option_map_or signal_width (slice_get table i) 0
-    → min (bits + more) limit ≡ min limit (sum_by signal_width (take (i + 1) table))
-bits_more table i limit bits more lt are is = by table lt are is
-  where
-    by : (table : List Signal) → i < length table → bits ≡ min limit (sum_by signal_width (take i table)) → more ≡ option_map_or signal_width (slice_get table i) 0 → min (bits + more) limit ≡ min limit (sum_by signal_width (take (i + 1) table))
-    by [] lt are is = absurd (omega arith)
-    by (d ∷ rest) lt are is =
-        let e : more ≡ signal_width (get_or (d ∷ rest) i d) = is ∙ ap (λ o. option_map_or signal_width o 0) (slice_get-get_or (d ∷ rest) i d lt) in
-        let f : sum_by signal_width (take (i + 1) (d ∷ rest)) ≡ sum_by signal_width (take i (d ∷ rest)) + signal_width (get_or (d ∷ rest) i d) = sum_by_more signal_width (d ∷ rest) i d lt in
-        grind arith
 
 pub scopes_more : (scopes : List ModuleScope) (i : ℕ) (x : ModuleScope) → i < length scopes → x ≡ get_or scopes i x → modules_in (take (i + 1) scopes) ≡ modules_in (take i scopes) ++ x.module.now ∷ []
 scopes_more scopes i x lt is =
@@ -77,10 +65,6 @@ all_taken [] zero h = refl
 all_taken [] (suc i) h = refl
 all_taken (x ∷ xs) zero h = absurd (omega arith)
 all_taken (x ∷ xs) (suc i) h = ap (λ ys. x ∷ ys) (all_taken xs i (omega arith))
-
--- the bits of all ports and nets
-pub bits_done : (table : List Signal) (i limit bits : ℕ) → length table ≤ i → bits ≡ min limit (sum_by signal_width (take i table)) → bits ≡ min limit (sum_by signal_width table)
-bits_done table i limit bits le are = are ∙ ap (λ those. min limit (sum_by signal_width those)) (all_taken table i le)
 
 -- the units of one module
 pub module_done : (ms : List Module) (m : Module) (table : List Signal) (limit bits joins : ℕ) → table ≡ signals m → bits ≡ min limit (sum_by signal_width table) → joins ≡ min limit (length (module_joins ms m)) → min (bits + joins) limit ≡ min limit (module_units ms m)

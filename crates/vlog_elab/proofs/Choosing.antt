@@ -1,19 +1,15 @@
 -- The modules of a file that are reached are those whose names are among theirs.
 use Rattle.std.proofs.Common.{◌≡◌, ℕ, zero, suc, ◌≤◌, Bool, true, false, cond, ◌||◌, List, [], ◌∷◌, ◌++◌, map, flat_map, slice_get, bytes_eq, Some, refl, sym, ap, ◌∙◌, arith}
-use Rattle.std.specs.List.{AllByRecursion}
 use Rattle.std.proofs.lemmas.Bool.{false≢true, or_from, or_parts}
 use Rattle.std.proofs.lemmas.Slice.Eq.{bytes_eq-Decides}
-use Rattle.net_hier.specs.Valid.{Each}
 use Rattle.vlog_design.specs.Design.{module_cell}
 use Rattle.vlog_design.specs.Names.{Name, has_name}
 use Rattle.vlog_design.specs.Reach.{marked}
-use Rattle.vlog_design.specs.Rules.{declared_twice}
 use Rattle.vlog_values.specs.declared.module.Module.{Module}
-use Rattle.vlog_scopes.specs.Distinct.{AreDeclaredOnce, Distinct, module_names}
-use Rattle.vlog_values.specs.Sizes.{module_size}
-use Rattle.vlog_elab.specs.Interfaces.{cell_shown, cells_shown, interface}
-use Rattle.vlog_elab.proofs.ShownOnce.{shown_once, shown_small}
-use Rattle.vlog_elab.proofs.Showing.{cell_same}
+use Rattle.vlog_scopes.specs.Distinct.{Distinct, module_names}
+use Rattle.vlog_shown.specs.Interfaces.{cell_shown, cells_shown, interface}
+use Rattle.vlog_shown.proofs.Lists.{names_same}
+use Rattle.vlog_shown.proofs.Showing.{cell_same}
 
 -- ---- items that are chosen by a test
 
@@ -81,21 +77,9 @@ name_there name (m ∷ ms) h = by (bytes_eq name m.name) refl h (name_there name
 
 -- ---- what modules show
 
-pub names_same : (ms : List Module) → module_names (map interface ms) ≡ module_names ms
-names_same [] = refl
-names_same (m ∷ ms) = ap (λ names. m.name ∷ names) (names_same ms)
-
 -- the cells of marked modules, by what they show
 pub marked_cells : (marks : List Bool) (ms : List Module) → Distinct (module_names ms) → cells_shown (map interface (marked marks ms)) ms ≡ map (module_cell (marked marks ms)) (marked marks ms)
 unfolding cell_shown
 marked_cells marks ms d =
     (λ j. chosen (λ m. cell_same (marked marks ms) m j) (λ m. has_name (names_same (marked marks ms) j) m.name) ms)
     ∙ marked_chosen (module_cell (marked marks ms)) marks ms d
-
-pub all_once : (ms : List Module) → Each (λ m. declared_twice m ≡ []) ms → AreDeclaredOnce (map interface ms)
-all_once [] h = tt
-all_once (m ∷ ms) h = (shown_once m (h 0 m refl), all_once ms (λ i x e. h (suc i) x e))
-
-pub all_small : (ms : List Module) → Each (λ m. module_size m ≤ 268435456) ms → AllByRecursion (λ m. module_size m ≤ 268435456) (map interface ms)
-all_small [] h = tt
-all_small (m ∷ ms) h = (omega (arith, shown_small m, h 0 m refl), all_small ms (λ i x e. h (suc i) x e))

@@ -7,6 +7,4 @@ pub mod Making
 pub mod Nodes
 pub mod Ordering
 pub mod OwnNames
-pub mod ShownOnce
-pub mod Showing
 pub mod Signals

@@ -20,7 +20,8 @@ use Rattle.vlog_design.specs.Rules.{too_wide}
 use Rattle.vlog_design.specs.declared.signals.SignalAt.TheVariants.{AtPort, AtNet}
 use Rattle.vlog_design.specs.declared.signals.Slot.{Slot}
 use Rattle.vlog_values.specs.declared.module.Module.{Module}
-use Rattle.vlog_elab.specs.Units.{module_units, signal_width}
+use Rattle.vlog_ties.specs.Ties.{signal_width}
+use Rattle.vlog_elab.specs.Units.{module_units}
 use Rattle.vlog_checked.proofs.ListLaws.{all_of, each_both, filter_none, map_none}
 
 -- ---- sums

@@ -10,7 +10,7 @@ use Rattle.vlog_design.specs.Reach.{module_number, reached}
 use Rattle.vlog_design.specs.Rules.{first_G, refusals}
 use Rattle.vlog_values.specs.declared.module.Module.{Module}
 use Rattle.vlog_values.specs.declared.module.VlogFile.{VlogFile}
-use Rattle.vlog_elab.specs.Interfaces.{interface}
+use Rattle.vlog_shown.specs.Interfaces.{interface}
 use Rattle.vlog_elab.specs.Units.{cells_from}
 use Rattle.vlog_elab.specs.declared.answer.ResolveError.{ResolveError}
 use Rattle.vlog_elab.specs.declared.answer.ResolveError.TheVariants.{Refused, TooBig, NoMemory}

@@ -1,4 +1,3 @@
 pub mod Answers
-pub mod Interfaces
 pub mod Ready
 pub mod Units

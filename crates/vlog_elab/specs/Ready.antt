@@ -9,7 +9,7 @@ use Rattle.vlog_scopes.specs.Distinct.{AreDeclaredOnce, Distinct, module_names}
 use Rattle.vlog_values.specs.Sizes.{module_size}
 use Rattle.vlog_values.specs.Values.{IsModule}
 use Rattle.vlog_values.specs.declared.module.Module.{Module}
-use Rattle.vlog_elab.specs.Interfaces.{is_shown}
+use Rattle.vlog_shown.specs.Interfaces.{is_shown}
 
 -- the module is small and, among these modules, breaks none of the rules on which its cell rests
 pub record IsReady (modules : List Module) (m : Module) : Type 0 where

@@ -1,18 +1,9 @@
 -- The units of modules, by their tables and joins.
-use Rattle.std.specs.Prelude.{ℕ, ◌+◌, List, length, map, sum_by}
-use Rattle.net_hier.specs.Cells.{width_of}
+use Rattle.std.specs.Prelude.{ℕ, ◌+◌, List, length, map}
 use Rattle.net_hier.specs.declared.cells.HCell.{HCell}
 use Rattle.vlog_design.specs.Design.{module_cell, module_joins}
-use Rattle.vlog_design.specs.Names.{Signal, signals}
+use Rattle.vlog_ties.specs.Ties.{module_bits}
 use Rattle.vlog_values.specs.declared.module.Module.{Module}
-
--- the width of a port or net
-abbrev pub signal_width : Signal → ℕ
-signal_width signal = width_of signal.slot.range
-
--- the bits of the ports and nets of a module
-abbrev pub module_bits : Module → ℕ
-module_bits m = sum_by signal_width (signals m)
 
 -- the bits of the ports and nets of a module, and its joins
 abbrev pub module_units : List Module → Module → ℕ

@@ -1,28 +1,28 @@
 // The design of a file, or why it has none.
-ghost use Rattle.std.specs.Prelude.{ℕ, ◌≡◌, ◌≤◌, ◌-◌, ◌^◌, min, sum_by, IfOk, MatchResult};
+ghost use Rattle.std.specs.Prelude.{ℕ, ◌≡◌, ◌≤◌, ◌-◌, ◌^◌, map, min, sum_by, IfOk, MatchResult};
 ghost use Rattle.net_graph.specs.Graph.{ReachesItself};
 ghost use Rattle.net_hier.specs.Design.{cells_below};
 ghost use Rattle.net_hier.specs.Units.{units};
 ghost use Rattle.net_hier.specs.Valid.{CellsFit, count_limit, unit_limit};
 ghost use Rattle.vlog_elab.specs.Answers.{AreShown, AreShownFrom, HasDesign, IsDesignFrom, IsDesignOf, IsFaultFrom, IsFaultOf};
-ghost use Rattle.vlog_elab.specs.Interfaces.{cells_shown};
 ghost use Rattle.vlog_elab.specs.Ready.{AreReady, CanHaveCells};
 ghost use Rattle.vlog_elab.specs.Units.{cells_from};
+ghost use Rattle.vlog_shown.specs.Interfaces.{cells_shown, interface};
 ghost use Rattle.vlog_elab.specs.declared.answer.ResolveError.TheVariants.{NoMemory};
-ghost use Rattle.vlog_ties.specs.Ties.{modules_in, most_joins};
+ghost use Rattle.vlog_design.specs.Tables.{modules_of};
+ghost use Rattle.vlog_ties.specs.Ties.{module_bits, most_joins};
 ghost use Rattle.vlog_values.specs.Sizes.{vlog_size};
 ghost use Rattle.vlog_values.specs.Values.{IsVlogValue};
 
 use crate::cells::cells_of;
-use crate::interfaces::interfaces_of;
-use crate::units::{shows_few, units_of};
+use crate::units::units_of;
 use net_hier::build::{BuildFault, UNIT_LIMIT};
 use net_hier::{HCell, Hier};
 use nl_base::{NoMemory, Refusal, Seq, Text};
 use std::alloc::Global;
-use vlog_checked::{Checked, check_file};
+use vlog_checked::tables::scopes_of;
+use vlog_checked::{Checked, CleanModules, check_file};
 use vlog_design::names::NameSet;
-use vlog_rules::passes::ModuleScope;
 use vlog_values::{Module, VlogFile};
 
 /// Why a file has no design.
@@ -69,51 +69,52 @@ fn built(alloc: Global, cells: Seq<HCell>, top: u32) -> Result<Hier, NoMemory>
 }
 
 // Whether the units of modules are within the limit of a design. The joins are counted only where the bits of all left sides, which are
-// no fewer, pass it.
+// no fewer, pass it with those of the ports and nets; then the tables of all modules are made.
 fn few_units(
     alloc: Global,
     names: &NameSet,
-    scopes: &[ModuleScope],
+    modules: &[&Module],
+    bits: u64,
     most: u64,
 ) -> Result<(), ResolveError>
-    requires ready { AreReady names.now (modules_in scopes.now) }
+    requires ready { AreReady names.now (modules_of modules.now) }
+    requires bits { bits ≡ min (2 ^ 64 - 1) (sum_by module_bits (modules_of modules.now)) }
     requires most { most ≡ min (2 ^ 64 - 1)
-        (sum_by (most_joins (modules_in scopes.now)) (modules_in scopes.now)) }
-    ensures { MatchResult result (λ done. units (cells_from (modules_in scopes.now)) ≤ unit_limit)
-        (IsFaultFrom (cells_from (modules_in scopes.now))) }
+        (sum_by (most_joins (modules_of modules.now)) (modules_of modules.now)) }
+    ensures { MatchResult result (λ done. units (cells_from (modules_of modules.now)) ≤ unit_limit)
+        (IsFaultFrom (cells_from (modules_of modules.now))) }
 {
-    if shows_few(scopes, most) {
+    if bits.saturating_add(most) <= UNIT_LIMIT {
         return Ok(());
     }
-    let count = units_of(alloc, names, scopes)?;
+    let scopes = scopes_of(alloc, modules)?;
+    let count = units_of(alloc, names, &scopes)?;
     if count > UNIT_LIMIT {
         return Err(ResolveError::TooBig(count));
     }
     Ok(())
 }
 
-/// What modules show, where their units are within the limit.
-fn shown_from(
-    alloc: Global,
-    names: &NameSet,
-    scopes: &[ModuleScope],
-    top: u32,
-    most: u64,
-) -> Result<Shown, ResolveError>
-    requires ready { AreReady names.now (modules_in scopes.now) }
-    requires most { most ≡ min (2 ^ 64 - 1)
-        (sum_by (most_joins (modules_in scopes.now)) (modules_in scopes.now)) }
-    ensures { MatchResult result
-        (λ shown. AreShownFrom (modules_in scopes.now) top shown.modules shown.top)
-        (IsFaultFrom (cells_from (modules_in scopes.now))) }
+/// What modules that break no rule show, where their units are within the limit.
+fn shown_from(alloc: Global, clean: CleanModules) -> Result<Shown, ResolveError>
+    requires ready { AreReady clean.names (modules_of clean.modules.items) }
+    requires shown { clean.shown ≡ map interface (modules_of clean.modules.items) }
+    requires bits { clean.bits
+        ≡ min (2 ^ 64 - 1) (sum_by module_bits (modules_of clean.modules.items)) }
+    requires most { clean.most ≡ min (2 ^ 64 - 1)
+        (sum_by (most_joins (modules_of clean.modules.items)) (modules_of clean.modules.items)) }
+    ensures { MatchResult result (λ shown. AreShownFrom (modules_of clean.entry.modules.items)
+        clean.entry.top shown.modules shown.top)
+        (IsFaultFrom (cells_from (modules_of clean.entry.modules.items))) }
 {
-    few_units(alloc, names, scopes, most)?;
-    let modules = interfaces_of(alloc, scopes)?;
-    Ok(Shown { modules, top })
+    few_units(alloc, &clean.names, &clean.modules, clean.bits, clean.most)?;
+    Ok(Shown {
+        modules: clean.shown,
+        top: clean.top,
+    })
 }
 
-/// What the reached modules of a file show, where it breaks no rule and their units are within the limit. The tables of the modules are
-/// left with it.
+/// What the reached modules of a file show, where it breaks no rule and their units are within the limit.
 fn shown_of(alloc: Global, file: &VlogFile, top: &Text) -> Result<Shown, ResolveError>
     requires value { IsVlogValue file.now }
     requires small { vlog_size file.now ≤ count_limit }
@@ -122,13 +123,7 @@ fn shown_of(alloc: Global, file: &VlogFile, top: &Text) -> Result<Shown, Resolve
 {
     match check_file(alloc, file, top.bytes())? {
         Checked::Refused(refusal) => Err(ResolveError::Refused(refusal)),
-        Checked::Clean(clean) => shown_from(
-            alloc,
-            &clean.names,
-            &clean.scopes,
-            clean.top,
-            clean.most,
-        ),
+        Checked::Clean(clean) => shown_from(alloc, clean),
     }
 }
 
@@ -175,6 +170,8 @@ pub fn check(alloc: Global, file: &VlogFile, top: &Text) -> Result<(), ResolveEr
 {
     match check_file(alloc, file, top.bytes())? {
         Checked::Refused(refusal) => Err(ResolveError::Refused(refusal)),
-        Checked::Clean(clean) => few_units(alloc, &clean.names, &clean.scopes, clean.most),
+        Checked::Clean(clean) => {
+            few_units(alloc, &clean.names, &clean.modules, clean.bits, clean.most)
+        }
     }
 }

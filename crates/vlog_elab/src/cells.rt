@@ -1,12 +1,9 @@
 // The cells of a design.
-ghost use Rattle.std.specs.Prelude.{◌≡◌, ◌≤◌, ◌<◌, ◌^◌, ◌++◌, true, length, map, IfOk, OnOk};
-ghost use Rattle.std.specs.List.{AllByRecursion};
-ghost use Rattle.net_hier.specs.Valid.{Each, count_limit};
-ghost use Rattle.vlog_elab.specs.Interfaces.{cell_shown, cells_shown, is_shown};
+ghost use Rattle.std.specs.Prelude.{◌≡◌, ◌<◌, ◌^◌, ◌++◌, true, length, map, IfOk, OnOk};
+ghost use Rattle.net_hier.specs.Valid.{Each};
+ghost use Rattle.vlog_shown.specs.Interfaces.{cell_shown, cells_shown, is_shown};
 ghost use Rattle.vlog_elab.specs.Ready.{CanBeCell, CanHaveCells};
-ghost use Rattle.vlog_scopes.specs.Distinct.{AreDeclaredOnce, Distinct, module_names};
 ghost use Rattle.vlog_ties.specs.Ties.{modules_in};
-ghost use Rattle.vlog_values.specs.Sizes.{module_size};
 
 use net_hier::HCell;
 use nl_base::{NoMemory, Seq};
@@ -14,36 +11,12 @@ use std::alloc::Global;
 use vlog_cells::cell::cell_of;
 use vlog_design::names::NameSet;
 use vlog_rules::passes::ModuleScope;
-use vlog_rules::repeats::names_of_modules;
-use vlog_scopes::lists::distinct;
 use vlog_scopes::scopes::scope_of;
+use vlog_shown::tables::{names_shown, scopes_shown};
 use vlog_values::{Module, VlogFile};
 
-/// The names of modules, which differ, in their order.
-fn names_shown<'a>(alloc: Global, shown: &'a [Module]) -> Result<NameSet<'a>, NoMemory>
-    requires { Distinct (module_names shown.now) }
-    ensures { IfOk result (λ names. names ≡ module_names shown.now) }
-{
-    let names = names_of_modules(alloc, shown)?;
-    let set = distinct(alloc, &names)?;
-    Ok(set)
-}
-
-/// The modules with the tables of their names, in their order.
-fn scopes_shown<'a>(alloc: Global, shown: &'a [Module]) -> Result<Vec<ModuleScope<'a>>, NoMemory>
-    requires once { AreDeclaredOnce shown.now }
-    requires small { AllByRecursion (λ m. module_size m ≤ count_limit) shown.now }
-    ensures { IfOk result (λ scopes. modules_in scopes.items ≡ shown.now) }
-{
-    let mut scopes = Vec::with_capacity(alloc, shown.len())?;
-    for m in shown {
-        scopes.push(scope_of(alloc, m)?)?;
-    }
-    Ok(scopes)
-}
-
 /// Adds the cell of a module, where it is one of those that are shown.
-#[tactic(auto, unfolding(crate::specs::Interfaces::cell_shown))]
+#[tactic(auto, unfolding(vlog_shown::specs::Interfaces::cell_shown))]
 fn push_cell(
     alloc: Global,
     names: &NameSet,

@@ -10,7 +10,6 @@
 
 mod answer;
 mod cells;
-mod interfaces;
 mod units;
 
 pub use answer::{ResolveError, check, elaborate};

@@ -9,4 +9,5 @@ pub mod Places
 pub mod Ranges
 pub mod SideLaws
 pub mod Spelled
+pub mod TableBits
 pub mod Valid

@@ -219,3 +219,11 @@ tied_most names (Supply name constant) = option_map_or (λ slot. width_of slot.r
 -- how many joins a module has at most: the bits of the left sides of what it ties
 unfoldable pub most_joins : List Module → Module → ℕ
 most_joins modules m = sum_by (tied_most (signals m)) (module_ties modules m)
+
+-- the width of a port or net
+abbrev pub signal_width : Signal → ℕ
+signal_width signal = width_of signal.slot.range
+
+-- the bits of the ports and nets of a module
+abbrev pub module_bits : Module → ℕ
+module_bits m = sum_by signal_width (signals m)

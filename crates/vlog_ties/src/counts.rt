@@ -1,12 +1,13 @@
 // The number of joins of a module before any is made, and how many there are at most.
-ghost use Rattle.std.specs.Prelude.{◌≡◌, ◌≤◌, ◌-◌, ◌^◌, [], All, count_by, flat_map, length, map, min, replicate, sum, sum_by, IfOk};
+ghost use Rattle.std.specs.Prelude.{◌≡◌, ◌≤◌, ◌-◌, ◌^◌, [], All, count_by, flat_map, length, map, min, replicate, slice_get, sum, sum_by, IfOk};
+ghost use Rattle.std.specs.Option.{option_map_or};
 ghost use Rattle.vlog_design.specs.Design.{module_joins};
 ghost use Rattle.vlog_design.specs.Exprs.{is_live, literals, live_width};
 ghost use Rattle.vlog_design.specs.Numbers.{HasDigits};
 ghost use Rattle.vlog_design.specs.Rules.{unequal_widths, unsized};
 ghost use Rattle.vlog_values.specs.Sizes.{module_size};
 ghost use Rattle.vlog_values.specs.Values.{IsModule};
-ghost use Rattle.vlog_ties.specs.Ties.{all_tied, modules_in, tie_literals, tied, tied_count, tied_most};
+ghost use Rattle.vlog_ties.specs.Ties.{all_tied, modules_in, signal_width, tie_literals, tied, tied_count, tied_most};
 
 use crate::tie::Tie;
 use crate::ties::ties_of;
@@ -160,4 +161,25 @@ pub(crate) fn most_joins(table: &Table, ties: &[Tie]) -> u64
         most = most.saturating_add(left_bits(table, tie));
     }
     most
+}
+
+/// How many bits the port or net of this number has.
+fn entry_bits(table: &Table, number: usize) -> u64
+    ensures { result ≡ option_map_or signal_width (slice_get table.now number) 0 }
+{
+    match table.entry(number) {
+        None => 0,
+        Some((_name, slot)) => range_width(slot.range),
+    }
+}
+
+/// How many bits the ports and nets have, or 2^64-1 where there are more.
+pub fn table_bits(table: &Table) -> u64
+    ensures { result ≡ min (2 ^ 64 - 1) (sum_by signal_width table.now) }
+{
+    let mut bits: u64 = 0;
+    for number in 0..table.len() {
+        bits = bits.saturating_add(entry_bits(table, number));
+    }
+    bits
 }

@@ -26,8 +26,8 @@ pub struct Sides {
     pub most: u64,
 }
 
-/// The sides of the module of a scope.
-fn sides_in_scope(
+/// The sides of the module of a scope, where `scopes` are the modules below it and `names` their names.
+pub fn sides_in_scope(
     alloc: Global,
     names: &NameSet,
     scopes: &[ModuleScope],

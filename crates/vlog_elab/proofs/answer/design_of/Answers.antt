@@ -1,7 +1,7 @@
 use Rattle.std.proofs.Common.{◌≡◌, ℕ, ap, sym, subst, ◌∙◌}
 use Rattle.net_graph.specs.Graph.{ReachesItself}
 use Rattle.net_hier.specs.Design.{cells_below}
-use Rattle.vlog_elab.specs.Interfaces.{cells_shown}
+use Rattle.vlog_shown.specs.Interfaces.{cells_shown}
 use Rattle.vlog_elab.proofs.answer.design_of.Goals as goal
 
 pub built-requires-clause-no_recursion : goal.built-requires-clause-no_recursion

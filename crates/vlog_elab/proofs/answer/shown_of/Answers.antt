@@ -1,8 +1,10 @@
-use Rattle.std.proofs.Common.{◌≡◌, ◌-◌, ◌^◌, ◌∙◌, ap, min, subst, sum_by, sym, Some}
+use Rattle.std.proofs.Common.{◌≡◌, ◌-◌, ◌^◌, ◌∙◌, ap, map, min, subst, sum_by, sym, Some}
 use Rattle.std.specs.Prelude.{MatchResult}
 use Rattle.vlog_checked.specs.Looks.{AreCleanModules, IsChecked}
 use Rattle.vlog_design.specs.Rules.{first_G}
-use Rattle.vlog_ties.specs.Ties.{modules_in, most_joins}
+use Rattle.vlog_design.specs.Tables.{modules_of}
+use Rattle.vlog_ties.specs.Ties.{module_bits, most_joins}
+use Rattle.vlog_shown.specs.Interfaces.{interface}
 use Rattle.vlog_elab.specs.Answers.{AreShown, IsFaultOf}
 use Rattle.vlog_elab.proofs.Answering.{ready_for, shown_for}
 use Rattle.vlog_elab.proofs.answer.shown_of.Goals as goal
@@ -13,16 +15,26 @@ returns-in-Refused c = subst (λ top. first_G c.args.file.now top ≡ Some c.in-
 pub shown_from-requires-clause-ready : goal.shown_from-requires-clause-ready
 shown_from-requires-clause-ready c =
     let looked : AreCleanModules c.args.file.now c.bytes.result.now c.in-Clean.clean = subst (IsChecked c.args.file.now c.bytes.result.now) c.in-Clean.is c.in_ok-refusal.ensures in
-    ready_for c.args.file.now c.bytes.result.now c.requires.value c.requires.small looked.no_refusals (modules_in c.deref.result.now) (ap modules_in c.deref.ensures.value ∙ looked.modules_are) c.in-Clean.clean.names looked.names_are
+    ready_for c.args.file.now c.bytes.result.now c.requires.value c.requires.small looked.no_refusals (modules_of c.in-Clean.clean.modules.items) looked.modules_are c.in-Clean.clean.names looked.names_are
+
+pub shown_from-requires-clause-bits : goal.shown_from-requires-clause-bits
+shown_from-requires-clause-bits c =
+    let looked : AreCleanModules c.args.file.now c.bytes.result.now c.in-Clean.clean = subst (IsChecked c.args.file.now c.bytes.result.now) c.in-Clean.is c.in_ok-refusal.ensures in
+    looked.bits_is ∙ ap (λ modules. min (2 ^ 64 - 1) (sum_by module_bits modules)) (sym looked.modules_are)
 
 pub shown_from-requires-clause-most : goal.shown_from-requires-clause-most
 shown_from-requires-clause-most c =
     let looked : AreCleanModules c.args.file.now c.bytes.result.now c.in-Clean.clean = subst (IsChecked c.args.file.now c.bytes.result.now) c.in-Clean.is c.in_ok-refusal.ensures in
-    looked.most_is ∙ ap (λ modules. min (2 ^ 64 - 1) (sum_by (most_joins modules) modules)) (sym (ap modules_in c.deref.ensures.value ∙ looked.modules_are))
+    looked.most_is ∙ ap (λ modules. min (2 ^ 64 - 1) (sum_by (most_joins modules) modules)) (sym looked.modules_are)
+
+pub shown_from-requires-clause-shown : goal.shown_from-requires-clause-shown
+shown_from-requires-clause-shown c =
+    let looked : AreCleanModules c.args.file.now c.bytes.result.now c.in-Clean.clean = subst (IsChecked c.args.file.now c.bytes.result.now) c.in-Clean.is c.in_ok-refusal.ensures in
+    looked.shown_are ∙ ap (map interface) (sym looked.modules_are)
 
 pub returns-in-Clean : goal.returns-in-Clean
 returns-in-Clean c =
     let looked : AreCleanModules c.args.file.now c.bytes.result.now c.in-Clean.clean = subst (IsChecked c.args.file.now c.bytes.result.now) c.in-Clean.is c.in_ok-refusal.ensures in
     subst (λ top. MatchResult c.shown_from.result (λ shown. AreShown c.args.file.now top shown.modules shown.top) (IsFaultOf c.args.file.now top)) c.bytes.ensures
-    (shown_for c.args.file.now c.bytes.result.now c.requires.value c.requires.small looked.no_refusals (modules_in c.deref.result.now) (ap modules_in c.deref.ensures.value ∙ looked.modules_are) c.in-Clean.clean.top looked.top_is
+    (shown_for c.args.file.now c.bytes.result.now c.requires.value c.requires.small looked.no_refusals (modules_of c.in-Clean.clean.modules.items) looked.modules_are c.in-Clean.clean.top looked.top_is
     c.shown_from.result c.shown_from.ensures)

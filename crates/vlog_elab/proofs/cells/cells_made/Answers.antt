@@ -2,7 +2,7 @@ use Rattle.std.proofs.Common.{ap, length, sym, ◌∙◌}
 use Rattle.std.proofs.lemmas.Iterator.Adapters.{YieldsList-from_vec}
 use Rattle.std.proofs.lemmas.Iterator.Consumers.{YieldsList-end, YieldsList-turn}
 use Rattle.std.proofs.lemmas.List.{map-id}
-use Rattle.vlog_elab.specs.Interfaces.{cell_shown, cells_shown}
+use Rattle.vlog_shown.specs.Interfaces.{cell_shown, cells_shown}
 use Rattle.vlog_ties.specs.Ties.{modules_in}
 use Rattle.vlog_elab.proofs.Making.{flat_more, taken_there}
 use Rattle.vlog_elab.proofs.cells.cells_made.Goals as goal

@@ -1,5 +1,5 @@
 use Rattle.std.proofs.Common.{◌≡◌}
-use Rattle.vlog_elab.specs.Interfaces.{cells_shown}
+use Rattle.vlog_shown.specs.Interfaces.{cells_shown}
 use Rattle.vlog_ties.specs.Ties.{modules_in}
 use Rattle.vlog_elab.proofs.cells.cells_made.Given as goal
 

@@ -1,7 +1,7 @@
 use Rattle.std.proofs.Common.{◌≡◌, ap, subst, sym, true, ◌∙◌}
 use Rattle.std.specs.Prelude.{IfOk}
 use Rattle.net_hier.specs.Valid.{Each}
-use Rattle.vlog_elab.specs.Interfaces.{cells_shown, is_shown}
+use Rattle.vlog_shown.specs.Interfaces.{cells_shown, is_shown}
 use Rattle.vlog_elab.specs.Ready.{CanBeCell}
 use Rattle.vlog_ties.specs.Ties.{modules_in}
 use Rattle.vlog_elab.proofs.cells.cells_of.Goals as goal

@@ -1,6 +1,0 @@
-use Rattle.std.proofs.Common.{◌≡◌, ◌-◌, ◌^◌, min, sum_by, take}
-use Rattle.vlog_elab.specs.Units.{signal_width}
-use Rattle.vlog_elab.proofs.units.table_bits.Given as goal
-
-abbrev pub invariant-loop-number : goal.invariant-loop-number
-invariant-loop-number l = l.bits ≡ min (2 ^ 64 - 1) (sum_by signal_width (take l.number l.table))

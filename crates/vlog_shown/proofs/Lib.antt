@@ -1,0 +1,5 @@
+pub mod Lists
+pub mod ShownOnce
+pub mod Showing
+pub mod Tabling
+pub mod Tied
