@@ -109,15 +109,15 @@ module _ (names : ConstantNames) (design : Design) (valid : IsValid design) (cou
 
   -- the labels of a design's numbers
   pub flat_labels : (rows read : List (Vec Join Global)) (joins handed : List NumberJoin) (labels : List ℕ) → read ≡ rows → handed ≡ joins → AreCellLinks design.cells rows →
-      AreFlatJoins names design.cells layout.spots.items (base_of layout.bases.items layout.count) (links_in read) joins → AreLabels layout.count handed labels →
+      AreFlatJoins names design.cells layout.spots.items (base_of layout.bases.items layout.count) (links_in design.cells read) joins → AreLabels layout.count handed labels →
       AreFlatLabels names design layout.spots.items (base_of layout.bases.items layout.count) layout.count labels
   flat_labels rows read joins handed labels e f links flat are =
-      let here : AreFlatJoins names design.cells layout.spots.items (base_of layout.bases.items layout.count) (links_in rows) joins = subst (λ r. AreFlatJoins names design.cells layout.spots.items (base_of layout.bases.items layout.count) (links_in r) joins) e flat in
+      let here : AreFlatJoins names design.cells layout.spots.items (base_of layout.bases.items layout.count) (links_in design.cells rows) joins = subst (λ r. AreFlatJoins names design.cells layout.spots.items (base_of layout.bases.items layout.count) (links_in design.cells r) joins) e flat in
       let labelled : AreLabels layout.count joins labels = subst (λ js. AreLabels layout.count js labels) f are in
       record {
         len = labelled.len;
         below = labelled.below;
-        connected = λ x y u v hx hy. labels_connected names design valid layout.spots.items facts (base_of layout.bases.items layout.count) layout.count tables.is_layout.are_bases (room design count layout belows offsets tables) (links_in rows) links.are joins here labels labelled x y u v hx hy;
+        connected = λ x y u v hx hy. labels_connected names design valid layout.spots.items facts (base_of layout.bases.items layout.count) layout.count tables.is_layout.are_bases (room design count layout belows offsets tables) (links_in design.cells rows) links.are joins here labels labelled x y u v hx hy;
       }
 
   pub first_spot : slice_get layout.spots.items 0 ≡ Some (top_spot design.top)

@@ -1,5 +1,5 @@
 -- links, leaves and constant cells of the first cells
-use Rattle.std.proofs.Common.{◌≡◌, ℕ, zero, suc, ◌+◌, ◌<◌, ◌≤◌, ◌⊎◌, ◌↔◌, inl, inr, List, [], ◌∷◌, ◌++◌, refl, sym, ◌∙◌, ap, subst, subst₂, slice_get, Some, Option, Bool, true, false, length, length-append, sum_by, arith, Vec, Global}
+use Rattle.std.proofs.Common.{◌≡◌, ℕ, zero, suc, ◌+◌, ◌<◌, ◌≤◌, ◌⊎◌, ◌↔◌, inl, inr, List, [], ◌∷◌, ◌++◌, refl, sym, ◌∙◌, ap, subst, slice_get, get_or, map, Some, Option, Bool, true, false, length, length-append, sum_by, arith, Vec, Global}
 use Rattle.std.specs.Prelude.{Contains, IsTrue}
 use Rattle.std.specs.List.{flat_map, range_with_len}
 use Rattle.std.proofs.lemmas.List.Elements.{Contains-append_cases}
@@ -20,10 +20,12 @@ use Rattle.net_hier.specs.declared.nodes.Node.{Node}
 use Rattle.net_hier.proofs.PathLaws.{same_element}
 use Rattle.net_bits.specs.Classes.{AreClasses, ClassTable, class_of, members_of}
 use Rattle.net_bits.proofs.CallerLaws.{connected_classes, member_of_class}
-use Rattle.flat_numbers.specs.FlatJoins.{links_in}
-use Rattle.flat_classes.specs.Kinds.{AreKinds, star, stars}
+use Rattle.flat_numbers.specs.FlatJoins.{joins_in, links_in, or_own}
+use Rattle.flat_classes.specs.Kinds.{AreKinds, IsKindOf, star, stars}
 use Rattle.flat_numbers.specs.Numbers.{AreLinks}
+use Rattle.flat_classes.specs.declared.kinds.Kind.{Kind}
 use Rattle.flat_classes.specs.declared.kinds.Kinds.{Kinds}
+use Rattle.flat_numbers.proofs.OwnLinks.{row_links}
 use Rattle.flat_numbers.proofs.Linking.{contains_there}
 use Rattle.flat_numbers.proofs.Rows.{last_or_less}
 use Rattle.flat_classes.proofs.Stars.{star_links}
@@ -155,7 +157,7 @@ pub record AreKindsUpTo (names : ConstantNames) (cells : List HCell) (done : ℕ
   pub links_len : length links ≡ done
   pub leaves_len : length leaves ≡ done
   pub constants_len : length constants ≡ done
-  pub links_are : (number : ℕ) (cell : HCell) → number < done → IsCell cells number cell → AreLinks cells cell (links_in links number)
+  pub links_are : (number : ℕ) (cell : HCell) → number < done → IsCell cells number cell → AreLinks cells cell (links_in cells links number)
   pub leaves_are : (number : ℕ) (cell : HCell) → number < done → IsCell cells number cell → (slice_get leaves number ≡ Some true) ↔ IsLeaf cell
   pub constants_are : (number : ℕ) (cell : HCell) (value : Bool) → number < done → IsCell cells number cell → (slice_get constants number ≡ Some (Some value)) ↔ IsConstantCell names value cell
 
@@ -164,14 +166,17 @@ read_before [] x i lt = absurd (omega arith)
 read_before (y ∷ xs) x zero lt = refl
 read_before (y ∷ xs) x (suc i) lt = read_before xs x i (omega arith)
 
-links_before : (rows : List (Vec Join Global)) (row : Vec Join Global) (i : ℕ) → i < length rows → links_in (rows ++ row ∷ []) i ≡ links_in rows i
-links_before [] row i lt = absurd (omega arith)
-links_before (first ∷ rows) row zero lt = refl
-links_before (first ∷ rows) row (suc i) lt = links_before rows row i (omega arith)
+abbrev row_in : List (Vec Join Global) → ℕ → List Join
+row_in rows number = get_or (map (λ row. row.items) rows) number []
 
-links_last : (rows : List (Vec Join Global)) (row : Vec Join Global) → links_in (rows ++ row ∷ []) (length rows) ≡ row.items
-links_last [] row = refl
-links_last (first ∷ rows) row = links_last rows row
+row_before : (rows : List (Vec Join Global)) (row : Vec Join Global) (i : ℕ) → i < length rows → row_in (rows ++ row ∷ []) i ≡ row_in rows i
+row_before [] row i lt = absurd (omega arith)
+row_before (first ∷ rows) row zero lt = refl
+row_before (first ∷ rows) row (suc i) lt = row_before rows row i (omega arith)
+
+row_last : (rows : List (Vec Join Global)) (row : Vec Join Global) → row_in (rows ++ row ∷ []) (length rows) ≡ row.items
+row_last [] row = refl
+row_last (first ∷ rows) row = row_last rows row
 
 truth_of : (b : Bool) → (Some b ≡ Some true) ↔ IsTrue b
 truth_of true = (λ e. refl, λ e. refl)
@@ -192,41 +197,40 @@ module _ (names : ConstantNames) (cells : List HCell) where
     constants_are = λ number cell value lt is. absurd (omega (arith, lt));
   }
 
-  pub kinds_next : (done : ℕ) (links more_links : List (Vec Join Global)) (leaves more_leaves : List Bool) (constants more_constants : List (Option Bool)) (row : Vec Join Global) (leaf : Bool) (constant : Option Bool) (cell : HCell) →
-      IsCell cells done cell → more_links ≡ links ++ row ∷ [] → more_leaves ≡ leaves ++ leaf ∷ [] → more_constants ≡ constants ++ constant ∷ [] →
-      AreLinks cells cell row.items → (IsTrue leaf ↔ IsLeaf cell) → ((value : Bool) → (constant ≡ Some value) ↔ IsConstantCell names value cell) →
-      AreKindsUpTo names cells done links leaves constants → AreKindsUpTo names cells (done + 1) more_links more_leaves more_constants
-  kinds_next done links more_links leaves more_leaves constants more_constants row leaf constant cell is e f g are_links is_leaf is_constant k = record {
+  pub kinds_next : (done : ℕ) (links more_links : List (Vec Join Global)) (leaves more_leaves : List Bool) (constants more_constants : List (Option Bool)) (kind : Kind) (cell : HCell) →
+      IsCell cells done cell → IsGoodCell cells cell → more_links ≡ links ++ kind.links ∷ [] → more_leaves ≡ leaves ++ kind.leaf ∷ [] → more_constants ≡ constants ++ kind.constant ∷ [] →
+      IsKindOf names cells cell kind → AreKindsUpTo names cells done links leaves constants → AreKindsUpTo names cells (done + 1) more_links more_leaves more_constants
+  kinds_next done links more_links leaves more_leaves constants more_constants kind cell is good e f g is_kind k = record {
     within = let lt = slice_get_within cells done cell is in omega (arith, lt);
-    links_len = ap length e ∙ last_len links row done k.links_len;
-    leaves_len = ap length f ∙ last_len leaves leaf done k.leaves_len;
-    constants_len = ap length g ∙ last_len constants constant done k.constants_len;
-    links_are = λ number other lt is_other. elim (last_or_less number done lt) as (λ _. AreLinks cells other (links_in more_links number)) [
-      | inl less ↦ subst (AreLinks cells other) (sym (ap (λ w. links_in w number) e ∙ links_before links row number (omega (arith, less, k.links_len)))) (k.links_are number other less is_other)
+    links_len = ap length e ∙ last_len links kind.links done k.links_len;
+    leaves_len = ap length f ∙ last_len leaves kind.leaf done k.leaves_len;
+    constants_len = ap length g ∙ last_len constants kind.constant done k.constants_len;
+    links_are = λ number other lt is_other. elim (last_or_less number done lt) as (λ _. AreLinks cells other (links_in cells more_links number)) [
+      | inl less ↦ subst (λ w. AreLinks cells other (or_own w (joins_in cells number))) (sym (ap (λ w. row_in w number) e ∙ row_before links kind.links number (omega (arith, less, k.links_len)))) (k.links_are number other less is_other)
       | inr p ↦
           let same : cell ≡ other = same_element cells number cell other (subst (λ n. IsCell cells n cell) (sym p) is) is_other in
-          let here : links_in more_links number ≡ row.items = ap (λ w. links_in w number) e ∙ (ap (links_in (links ++ row ∷ [])) (p ∙ sym k.links_len) ∙ links_last links row) in
-          subst₂ (AreLinks cells) same (sym here) are_links
+          let here : row_in more_links number ≡ kind.links.items = ap (λ w. row_in w number) e ∙ (ap (row_in (links ++ kind.links ∷ [])) (p ∙ sym k.links_len) ∙ row_last links kind.links) in
+          subst (λ w. AreLinks cells other (or_own w (joins_in cells number))) (sym here) (row_links cells number other is_other (subst (IsGoodCell cells) same good) kind.links.items (subst (λ (c : HCell). (kind.links.items ≡ []) ⊎ AreLinks cells c kind.links.items) same is_kind.links))
     ];
     leaves_are = λ number other lt is_other. elim (last_or_less number done lt) as (λ _. (slice_get more_leaves number ≡ Some true) ↔ IsLeaf other) [
       | inl less ↦
-          let r : slice_get more_leaves number ≡ slice_get leaves number = ap (λ w. slice_get w number) f ∙ read_before leaves leaf number (omega (arith, less, k.leaves_len)) in
+          let r : slice_get more_leaves number ≡ slice_get leaves number = ap (λ w. slice_get w number) f ∙ read_before leaves kind.leaf number (omega (arith, less, k.leaves_len)) in
           let old = k.leaves_are number other less is_other in
           (λ h. old.0 (sym r ∙ h), λ h. r ∙ old.1 h)
       | inr p ↦
           let same : cell ≡ other = same_element cells number cell other (subst (λ n. IsCell cells n cell) (sym p) is) is_other in
-          let r : slice_get more_leaves number ≡ Some leaf = ap (λ w. slice_get w number) f ∙ (ap (slice_get (leaves ++ leaf ∷ [])) (p ∙ sym k.leaves_len) ∙ get_last leaves leaf) in
-          (λ h. subst IsLeaf same (is_leaf.0 ((truth_of leaf).0 (sym r ∙ h))), λ h. r ∙ (truth_of leaf).1 (is_leaf.1 (subst IsLeaf (sym same) h)))
+          let r : slice_get more_leaves number ≡ Some kind.leaf = ap (λ w. slice_get w number) f ∙ (ap (slice_get (leaves ++ kind.leaf ∷ [])) (p ∙ sym k.leaves_len) ∙ get_last leaves kind.leaf) in
+          (λ h. subst IsLeaf same (is_kind.leaf.0 ((truth_of kind.leaf).0 (sym r ∙ h))), λ h. r ∙ (truth_of kind.leaf).1 (is_kind.leaf.1 (subst IsLeaf (sym same) h)))
     ];
     constants_are = λ number other value lt is_other. elim (last_or_less number done lt) as (λ _. (slice_get more_constants number ≡ Some (Some value)) ↔ IsConstantCell names value other) [
       | inl less ↦
-          let r : slice_get more_constants number ≡ slice_get constants number = ap (λ w. slice_get w number) g ∙ read_before constants constant number (omega (arith, less, k.constants_len)) in
+          let r : slice_get more_constants number ≡ slice_get constants number = ap (λ w. slice_get w number) g ∙ read_before constants kind.constant number (omega (arith, less, k.constants_len)) in
           let old = k.constants_are number other value less is_other in
           (λ h. old.0 (sym r ∙ h), λ h. r ∙ old.1 h)
       | inr p ↦
           let same : cell ≡ other = same_element cells number cell other (subst (λ n. IsCell cells n cell) (sym p) is) is_other in
-          let r : slice_get more_constants number ≡ Some constant = ap (λ w. slice_get w number) g ∙ (ap (slice_get (constants ++ constant ∷ [])) (p ∙ sym k.constants_len) ∙ get_last constants constant) in
-          (λ h. subst (IsConstantCell names value) same ((is_constant value).0 (inner_some constant value (sym r ∙ h))), λ h. r ∙ ap Some ((is_constant value).1 (subst (IsConstantCell names value) (sym same) h)))
+          let r : slice_get more_constants number ≡ Some kind.constant = ap (λ w. slice_get w number) g ∙ (ap (slice_get (constants ++ kind.constant ∷ [])) (p ∙ sym k.constants_len) ∙ get_last constants kind.constant) in
+          (λ h. subst (IsConstantCell names value) same ((is_kind.constant value).0 (inner_some kind.constant value (sym r ∙ h))), λ h. r ∙ ap Some ((is_kind.constant value).1 (subst (IsConstantCell names value) (sym same) h)))
     ];
   }
     where

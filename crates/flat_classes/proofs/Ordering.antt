@@ -1,7 +1,8 @@
 -- numbers of values in the order of first values
-use Rattle.std.proofs.Common.{◌≡◌, ◌≢◌, ℕ, zero, suc, ◌+◌, ◌<◌, ◌≤◌, inl, inr, List, [], ◌∷◌, ◌++◌, refl, sym, ◌∙◌, ap, subst, set, get_or, Some, None, Option, length, arith}
-use Rattle.std.proofs.lemmas.List.{length-append, length-set, get_or_append_left}
-use Rattle.flat_classes.specs.Groups.{AreInOrder, AreSame, group_at}
+use Rattle.std.proofs.Common.{◌≡◌, ◌≢◌, ℕ, zero, suc, ◌+◌, ◌<◌, ◌≤◌, inl, inr, List, [], ◌∷◌, ◌++◌, refl, sym, ◌∙◌, ap, subst, set, get_or, Some, None, Option, Bool, true, false, cond, ◌==◌, length, replicate, arith}
+use Rattle.std.proofs.lemmas.List.{length-append, length-replicate, length-set, get_or_append_left}
+use Rattle.std.proofs.lemmas.Bool.{eqb-true}
+use Rattle.flat_classes.specs.Groups.{AreInOrder, AreSame, group_at, known_number, known_numbers}
 use Rattle.flat_numbers.proofs.Forests.{same_or_other}
 use Rattle.flat_numbers.proofs.Rows.{last_or_less}
 
@@ -20,10 +21,10 @@ set_away (y ∷ xs) (suc i) x (suc j) differ = set_away xs i x j (λ e. differ (
 one_of : (o : Option ℕ) (m n : ℕ) → o ≡ Some m → o ≡ Some n → m ≡ n
 one_of o m n e f = cc
 
-none_some : (o : Option ℕ) (n : ℕ) → o ≡ None → o ≡ Some n → ⊥
+pub none_some : (o : Option ℕ) (n : ℕ) → o ≡ None → o ≡ Some n → ⊥
 none_some o n e f = cc
 
-some_same : (m n : ℕ) → Some m ≡ Some n → m ≡ n
+pub some_same : (m n : ℕ) → Some m ≡ Some n → m ≡ n
 some_same m n e = cc
 
 -- the numbers of the first values
@@ -163,9 +164,42 @@ ordered_whole values bound done known numbers count are = record {
   ordered = λ place lesser lt less. are.ordered place lesser (omega (arith, lt, are.len)) less;
 }
 
-pub table_length : (known table : List (Option ℕ)) (v number count : ℕ) → ((n : ℕ) → get_or known v None ≡ Some n → (number ≡ n) × (table ≡ known)) → (get_or known v None ≡ None → (number ≡ count) × (table ≡ set known v (Some count))) → length table ≡ length known
-table_length known table v number count if_known if_new = by (get_or known v None) refl
+-- ---- the list that the code keeps, in which the greatest value stands for none
+pub told : (number : ℕ) → number ≢ 4294967295 → known_number number ≡ Some number
+told number differ = by (number == 4294967295) refl
   where
-    by : (o : Option ℕ) → get_or known v None ≡ o → length table ≡ length known
-    by None e = ap length (if_new e).1 ∙ length-set known v (Some count)
-    by (Some n) e = ap length (if_known n e).1
+    by : (b : Bool) → (number == 4294967295) ≡ b → known_number number ≡ Some number
+    by true e = absurd (differ (eqb-true number 4294967295 e))
+    by false e = ap (λ b. cond b None (Some number)) e
+
+pub untold : (number : ℕ) → number ≡ 4294967295 → known_number number ≡ None
+untold number e = ap known_number e
+
+pub read_known : (known : List ℕ) (value number : ℕ) → value < length known → number ≡ get_or known value 0 → get_or (known_numbers known) value None ≡ known_number number
+read_known [] value number lt e = absurd (omega arith)
+read_known (first ∷ known) zero number lt e = ap known_number (sym e)
+read_known (first ∷ known) (suc value) number lt e = read_known known value number (omega arith) e
+
+pub all_untold : (n : ℕ) → known_numbers (replicate n 4294967295) ≡ replicate n None
+all_untold zero = refl
+all_untold (suc n) = ap (λ w. None ∷ w) (all_untold n)
+
+nothing_known : (n v : ℕ) (o : Option ℕ) → o ≡ None → get_or (replicate n o) v None ≡ None
+nothing_known zero v o e = refl
+nothing_known (suc n) zero o e = e
+nothing_known (suc n) (suc v) o e = nothing_known n v o e
+
+pub ordered_first : (values known : List ℕ) (bound : ℕ) → known ≡ replicate bound 4294967295 → AreOrdered values bound 0 (known_numbers known) [] 0
+ordered_first values known bound e =
+    let all : known_numbers known ≡ replicate bound None = ap known_numbers e ∙ all_untold bound in
+    let none : (v : ℕ) → get_or (known_numbers known) v None ≡ None = λ v. ap (λ w. get_or w v None) all ∙ nothing_known bound v None refl in
+    record {
+      len = refl;
+      known_len = ap length all ∙ length-replicate bound None;
+      few = omega arith;
+      seen = λ i lt. absurd (omega (arith, lt));
+      within = λ v n f. absurd (none_some (get_or (known_numbers known) v None) n (none v) f);
+      once = λ v w n f g. absurd (none_some (get_or (known_numbers known) v None) n (none v) f);
+      used = λ n lt. absurd (omega (arith, lt));
+      ordered = λ i lesser lt less. absurd (omega (arith, lt));
+    }

@@ -1,8 +1,7 @@
 -- the way from a spot up to the top, and the names of its instances
 use Rattle.std.proofs.Common.{◌≡◌, ℕ, zero, suc, ◌+◌, ◌<◌, ◌≤◌, inl, inr, List, [], ◌∷◌, ◌++◌, refl, sym, ◌∙◌, ap, subst, slice_get, get_or, set, Some, length, map, take, append_assoc, arith}
-use Rattle.std.specs.Prelude.{Contains, All}
 use Rattle.std.specs.Option.{option_and_then}
-use Rattle.std.proofs.lemmas.List.{length-append, length-take-le, length-set, take_more, take_more_set, append-nil, take_all}
+use Rattle.std.proofs.lemmas.List.{length-append, length-take-le, length-set, take_more_set, append-nil}
 use Rattle.std.proofs.lemmas.Option.{get_or_from_slice_get}
 use Rattle.net_hier.specs.Design.{Design, IsCell}
 use Rattle.net_hier.specs.Paths.{Path}
@@ -11,10 +10,9 @@ use Rattle.net_hier.specs.declared.cells.HCell.{HCell}
 use Rattle.net_hier.specs.declared.cells.HInst.{HInst}
 use Rattle.flat_numbers.specs.Spots.{AreSpots, IsSpotBelow, IsSpotOf}
 use Rattle.flat_numbers.specs.declared.spots.Spot.{Spot}
-use Rattle.flat_numbers.proofs.Linking.{contains_there}
 use Rattle.flat_numbers.proofs.PathSpots.{spot_has_path}
 use Rattle.flat_numbers.proofs.SpotLaws.{HasParent, SpotFacts, spot_facts}
-use Rattle.flat_classes.proofs.KindLaws.{first_or_rest, in_first, in_rest, nothing_in}
+use Rattle.flat_classes.proofs.KindLaws.{first_or_rest, nothing_in}
 use Rattle.flat_classes.specs.Ways.{AreInner, IsInner, IsWay, at_top, below, instance_name, instance_of, name_of}
 
 -- ---- walking up

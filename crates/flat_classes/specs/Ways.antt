@@ -1,5 +1,5 @@
 -- The way from a spot up to the top, and the path of each spot.
-use Rattle.std.specs.Prelude.{◌≡◌, ℕ, ◌<◌, List, [], ◌∷◌, map, slice_get, Option, Some, None, Contains, length, slice_index_or}
+use Rattle.std.specs.Prelude.{◌≡◌, ℕ, ◌<◌, List, [], ◌∷◌, slice_get, Option, Some, None, Contains, length, slice_index_or}
 use Rattle.std.specs.Option.{option_and_then}
 use Rattle.net_hier.specs.Cells.{IsPortBit}
 use Rattle.net_hier.specs.Paths.{Path}

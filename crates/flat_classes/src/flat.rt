@@ -102,6 +102,18 @@ fn classes_of(
     Ok(classes)
 }
 
+/// The spots of tables that are not needed any more.
+fn spots_of(tables: Tables) -> Vec<Spot>
+    ensures { result ≡ tables.layout.spots }
+{
+    let Tables {
+        layout,
+        belows: _,
+        offsets: _,
+    } = tables;
+    layout.into_spots()
+}
+
 /// The flat classes of a design of this flat count, which is within the limit.
 fn flat_of(alloc: Global, hier: &Hier, constants: &Constants, count: u64) -> Result<Flat, NoMemory>
     requires few { count ≤ 2000000 }
@@ -109,8 +121,8 @@ fn flat_of(alloc: Global, hier: &Hier, constants: &Constants, count: u64) -> Res
     ensures { IfOk result (AreFlatClasses constants.now hier.now) }
 {
     let _cells = hier.cells();
-    let tables = tables_of(alloc, hier, count)?;
     let kinds = kinds_of(alloc, hier, constants)?;
+    let tables = tables_of(alloc, hier, count)?;
     let Kinds {
         links,
         leaves: marks,
@@ -127,14 +139,12 @@ fn flat_of(alloc: Global, hier: &Hier, constants: &Constants, count: u64) -> Res
         classes.as_slice(),
         terminals.as_slice(),
     )?;
-    let (groups, count) = numbers_in_order(alloc, classes.len(), labels.as_slice())?;
-    let Tables {
-        layout,
-        belows: _,
-        offsets: _,
-    } = tables;
+    let bound = classes.len();
+    drop(classes);
+    let spots = spots_of(tables);
+    let (groups, count) = numbers_in_order(alloc, bound, labels.as_slice())?;
     Ok(Flat {
-        spots: layout.into_spots(),
+        spots,
         leaves,
         terminals,
         groups,

@@ -1,6 +1,6 @@
 // The groups of connected terminals.
-ghost use Rattle.std.specs.Prelude.{ℕ, ◌≡◌, ◌+◌, ◌<◌, ◌≤◌, ◌^◌, All, None, Option, Some, map, length, slice_get, slice_index_or, slice_set, IfOk};
-ghost use Rattle.flat_classes.specs.Groups.{AreInOrder, AreMembers, AreSame};
+ghost use Rattle.std.specs.Prelude.{ℕ, ◌≡◌, ◌+◌, ◌-◌, ◌<◌, ◌≤◌, ◌^◌, All, None, Option, Some, map, length, slice_get, slice_index_or, slice_set, IfOk};
+ghost use Rattle.flat_classes.specs.Groups.{AreInOrder, AreMembers, AreSame, known_numbers};
 ghost use Rattle.flat_numbers.specs.TableParts.{HasTables, bases_in, spots_in};
 ghost use Rattle.flat_classes.specs.TerminalNumbers.{AreNumbered, HaveLabels, TerminalNumber};
 
@@ -50,21 +50,26 @@ pub fn labels_of(
     Ok(found)
 }
 
+/// Stands for no number in a list of the numbers of values. No value has so great a number, and
+/// four bytes each are half of what an `Option` takes.
+const UNKNOWN: u32 = u32::MAX;
+
 /// The number of a value, which is the next one where the value has none yet.
-fn number_of(known: &mut [Option<u32>], value: u32, next: u32) -> u32
-    requires { value < length known.old }
-    ensures known { (number : ℕ) → slice_index_or known.old value None ≡ Some number →
-        (result ≡ number) × (known.new ≡ known.old) }
-    ensures unknown { slice_index_or known.old value None ≡ None → (result ≡ next) ×
-        (known.new ≡ slice_set known.old value (Some next)) }
+fn number_of(known: &mut [u32], value: u32, next: u32) -> u32
+    requires value { value < length known.old }
+    requires next { next < 2 ^ 32 - 1 }
+    ensures known { (number : ℕ) → slice_index_or (known_numbers known.old) value None ≡ Some number
+        → (result ≡ number) × (known_numbers known.new ≡ known_numbers known.old) }
+    ensures unknown { slice_index_or (known_numbers known.old) value None ≡ None → (result ≡ next) ×
+        (known_numbers known.new ≡ slice_set (known_numbers known.old) value (Some next)) }
+    ensures len { length known.new ≡ length known.old }
 {
-    match known[value as usize] {
-        Some(number) => number,
-        None => {
-            known[value as usize] = Some(next);
-            next
-        }
+    let number = known[value as usize];
+    if number != UNKNOWN {
+        return number;
     }
+    known[value as usize] = next;
+    next
 }
 
 /// Numbers of values below the bound: equal values have one number, and others differ. They are
@@ -79,7 +84,7 @@ pub fn numbers_in_order(
     ensures same { IfOk result (λ r. AreSame values.now r.0.items) }
     ensures in_order { IfOk result (λ r. AreInOrder r.0.items r.1) }
 {
-    let mut known = vec![in alloc; None; bound]?;
+    let mut known = vec![in alloc; UNKNOWN; bound]?;
     let mut numbers = Vec::with_capacity(alloc, values.len())?;
     let mut count: u32 = 0;
     for value in values {
@@ -99,7 +104,7 @@ pub fn members_of(alloc: Global, groups: &[u32], count: u32) -> Result<Vec<Vec<u
     ensures { IfOk result (λ lists. AreMembers groups.now count (map (λ list. list.items)
         lists.items)) }
 {
-    let mut members = Vec::new(alloc);
+    let mut members = Vec::with_capacity(alloc, count as usize)?;
     for _group in 0..count {
         members.push(Vec::new(alloc))?;
     }

@@ -4,6 +4,7 @@ pub mod Forests
 pub mod Linking
 pub mod NumberLaws
 pub mod Offsets
+pub mod OwnLinks
 pub mod PathSpots
 pub mod Places
 pub mod Reading

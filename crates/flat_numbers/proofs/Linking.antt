@@ -1,5 +1,5 @@
 -- the joins of a spot, one after the other
-use Rattle.std.proofs.Common.{◌≡◌, ℕ, zero, suc, get_or, Vec, Global, ◌+◌, ◌<◌, ◌≤◌, ◌⊎◌, inl, inr, List, [], ◌∷◌, ◌++◌, refl, sym, ◌∙◌, ap, subst, subst₂, slice_get, Option, Some, None, Bool, length, arith}
+use Rattle.std.proofs.Common.{◌≡◌, ℕ, ◌+◌, ◌<◌, ◌≤◌, ◌⊎◌, inl, inr, List, [], ◌∷◌, ◌++◌, refl, sym, ◌∙◌, ap, subst, subst₂, slice_get, Option, Some, None, Bool, length, arith}
 use Rattle.std.specs.Prelude.{Contains}
 use Rattle.std.proofs.lemmas.List.Elements.{Contains-append_left, Contains-get_or, Contains-push, Contains-push_cases}
 use Rattle.std.proofs.lemmas.Option.{get_or_from_slice_get, slice_get_within}
@@ -13,10 +13,9 @@ use Rattle.net_graph.proofs.OrderLaws.{StandsIn, contained}
 use Rattle.net_hier.proofs.PathLaws.{same_element}
 use Rattle.net_hier.specs.declared.cells.HCell.{HCell}
 use Rattle.net_hier.specs.declared.nodes.Join.{Join}
-use Rattle.flat_numbers.specs.FlatJoins.{AreConstants, ConstantAt, ConstantsOf, Extends, InstanceAt, LinksOf, links_in}
+use Rattle.flat_numbers.specs.FlatJoins.{AreConstants, ConstantAt, ConstantsOf, Extends, InstanceAt, LinksOf}
 use Rattle.flat_numbers.specs.Numbers.{AreFlatJoins, CellOf, FlatJoin, by_link, by_constant, NodeNumber, constant_number}
 use Rattle.flat_numbers.specs.declared.spots.Spot.{Spot}
-use Rattle.flat_numbers.proofs.Reading.{element_read}
 use Rattle.flat_numbers.proofs.Rows.{last_or_less}
 
 -- one of the first joins of the cell at the spot has nodes of these numbers
@@ -231,14 +230,3 @@ module _ (names : ConstantNames) (cells : List HCell) (spots : List Spot) (base 
     ],
     λ f. (extends u v).1 (inr (from_flat done le u v f)),
   )
-
--- the row that the code has read
-pub links_read : (rows : List (Vec Join Global)) (number : ℕ) (row : Vec Join Global) (list : List Join) → number < length rows → row ≡ get_or rows number row → list ≡ row.items → list ≡ links_in rows number
-links_read rows number row list lt e f =
-    let there : slice_get rows number ≡ Some row = element_read rows number row lt e in
-    f ∙ sym (row_items rows number row there)
-  where
-    row_items : (rows : List (Vec Join Global)) (number : ℕ) (row : Vec Join Global) → slice_get rows number ≡ Some row → links_in rows number ≡ row.items
-    row_items [] number row there = absurd (cc)
-    row_items (first ∷ rest) zero row there = let p : first ≡ row = cc in ap (λ (w : Vec Join Global). w.items) p
-    row_items (first ∷ rest) (suc number) row there = row_items rest number row there

@@ -77,7 +77,7 @@ bit_no_pin cell instance port bit node a (port_place is) e = cc
 bit_no_pin cell instance port bit node a (net_place lt) e = cc
 
 -- the nodes of a join are the cell's
-joined_nodes : (cells : List HCell) (cell : HCell) → IsGoodCell cells cell → (join : Join) → Contains cell.joins join → IsNode cells cell join.a × IsNode cells cell join.b
+pub joined_nodes : (cells : List HCell) (cell : HCell) → IsGoodCell cells cell → (join : Join) → Contains cell.joins join → IsNode cells cell join.a × IsNode cells cell join.b
 joined_nodes cells cell good join c = let s = contained cell.joins join c in good.joins_in_range s.place join s.is_there
 
 -- an instance of a constant cell has the pin

@@ -1,4 +1,4 @@
-use Rattle.std.specs.Prelude.{◌≡◌, ℕ, ◌≤◌, ◌⊎◌, ◌↔◌, List, [], length, map, slice_get, slice_index_or, Option, Some, Bool, Contains}
+use Rattle.std.specs.Prelude.{◌≡◌, ℕ, ◌≤◌, ◌⊎◌, ◌↔◌, List, [], ◌∷◌, length, map, slice_get, slice_index_or, Option, Some, None, Bool, Contains}
 use Rattle.std.proofs.Common.{Vec, Global}
 use Rattle.net_hier.specs.Valid.{IsNode}
 use Rattle.flat_numbers.specs.declared.joins.NumberJoin.{NumberJoin}
@@ -35,14 +35,27 @@ pub record HasLinks (cells : List HCell) (spots : List Spot) (number : ℕ) (lin
   pub of_cell : CellOf cells spots number cell
   pub are_nodes : AreOfCell cells cell links
 
--- the list of each row
-abbrev pub links_in : List (Vec Join Global) → ℕ → List Join
-links_in rows number = slice_index_or (map (λ row. row.items) rows) number []
+abbrev pub joins_of : Option HCell → List Join
+joins_of None = []
+joins_of (Some cell) = cell.joins
+
+-- the joins of the cell of this number
+abbrev pub joins_in : List HCell → ℕ → List Join
+joins_in cells number = joins_of (slice_get cells number)
+
+-- these links, or the cell's own joins where there is none
+abbrev pub or_own : List Join → List Join → List Join
+or_own [] own = own
+or_own (link ∷ links) own = link ∷ links
+
+-- the links of the cell of this number: an empty row stands for the cell's own joins
+abbrev pub links_in : List HCell → List (Vec Join Global) → ℕ → List Join
+links_in cells rows number = or_own (slice_index_or (map (λ row. row.items) rows) number []) (joins_in cells number)
 
 -- for each cell links that connect what its joins connect
 pub record AreCellLinks (cells : List HCell) (links : List (Vec Join Global)) : Type 0 where
   pub len : length links ≡ length cells
-  pub are : (number : ℕ) (cell : HCell) → IsCell cells number cell → AreLinks cells cell (links_in links number)
+  pub are : (number : ℕ) (cell : HCell) → IsCell cells number cell → AreLinks cells cell (links_in cells links number)
 
 -- the table says for each cell whether it is one for a constant, and for which
 pub record AreConstants (names : ConstantNames) (cells : List HCell) (constants : List (Option Bool)) : Type 0 where

@@ -1,12 +1,13 @@
 // The joins of the numbers.
-ghost use Rattle.std.specs.Prelude.{ℕ, ◌≡◌, ◌<◌, ◌≤◌, length, IfOk, OnOk};
+ghost use Rattle.std.specs.Prelude.{ℕ, ◌≡◌, ◌<◌, ◌≤◌, length, slice_get, Some, IfOk, OnOk};
 ghost use Rattle.flat_numbers.specs.FlatJoins.{AreCellLinks, AreConstants, AreFew, ConstantAt, ConstantsOf, Extends, HasLinks, InstanceAt, LinksOf, links_in};
 ghost use Rattle.flat_numbers.specs.Numbers.{AreFlatJoins};
+ghost use Rattle.flat_numbers.specs.declared.spots.Spot.{Spot as SpotValue};
 ghost use Rattle.flat_numbers.specs.TableParts.{HasTables, bases_in, spots_in};
 
 use crate::numbers::{Tables, node_number};
 use crate::spots::Spot;
-use net_hier::{Constants, Hier, Join, Node};
+use net_hier::{Constants, HCell, Hier, Join, Node};
 use nl_base::NoMemory;
 use std::alloc::Global;
 
@@ -50,15 +51,19 @@ fn push_constant(
     }
 }
 
-/// The links of the cell at a spot.
-fn links_at<'a>(spot: Spot, links: &'a [Vec<Join>]) -> &'a [Join]
-    requires { spot.cell < length links.now }
-    ensures { result.now ≡ links_in links.now spot.cell }
+/// The links of the cell at a spot. Where its row has none they are its own joins, which lie in
+/// the design already.
+fn links_at<'a>(spot: Spot, cells: &'a [HCell], links: &'a [Vec<Join>]) -> &'a [Join]
+    requires cells { spot.cell < length cells.now }
+    requires links { length links.now ≡ length cells.now }
+    ensures { result.now ≡ links_in cells.now links.now spot.cell }
 {
-    links[spot.cell as usize].as_slice()
+    let row = links[spot.cell as usize].as_slice();
+    let joins = cells[spot.cell as usize].joins.items();
+    if row.is_empty() { joins } else { row }
 }
 
-/// Adds the links of the cell at a spot, by the numbers of their nodes.
+/// Adds these links of the cell at a spot, by the numbers of their nodes.
 fn push_links(
     hier: &Hier,
     tables: &Tables,
@@ -114,6 +119,29 @@ fn push_constants(
     Ok(())
 }
 
+/// How many joins the numbers of all spots have, or 2^64-1 where there are more: each spot but the
+/// top's is that of an instance.
+fn count_of_joins(
+    cells: &[HCell],
+    spots: &[Spot],
+    links: &[Vec<Join>],
+    constants: &[Option<bool>],
+) -> usize
+    requires cells { (number : ℕ) (spot : SpotValue) → slice_get spots.now number ≡ Some spot →
+        spot.cell < length cells.now }
+    requires links { length links.now ≡ length cells.now }
+    requires constants { length constants.now ≡ length cells.now }
+{
+    let mut count: usize = 0;
+    for spot in spots {
+        count = count.saturating_add(links_at(*spot, cells, links).len());
+        if constants[spot.cell as usize].is_some() {
+            count = count.saturating_add(1);
+        }
+    }
+    count
+}
+
 /// The joins of the numbers of all spots: for each the links of its cell, and the pins of its
 /// instances of constant cells.
 pub fn flat_joins(
@@ -129,12 +157,13 @@ pub fn flat_joins(
     requires are_constants { AreConstants names.now hier.now.cells constants.now }
     requires few { AreFew hier.now.cells }
     ensures { IfOk result (λ joins. AreFlatJoins names.now hier.now.cells (spots_in tables.now)
-        (bases_in tables.now) (links_in links.now) joins.items) }
+        (bases_in tables.now) (links_in hier.now.cells links.now) joins.items) }
 {
-    let _cells = hier.cells();
-    let mut joins = Vec::new(alloc);
+    let cells = hier.cells();
+    let count = count_of_joins(cells, tables.layout.spots.as_slice(), links, constants);
+    let mut joins = Vec::with_capacity(alloc, count)?;
     for number in 0..tables.layout.spots.len() {
-        let here = links_at(tables.layout.spots[number], links);
+        let here = links_at(tables.layout.spots[number], cells, links);
         push_links(hier, tables, here, number as u32, &mut joins)?;
         push_constants(hier, tables, names, constants, number as u32, &mut joins)?;
     }

@@ -50,7 +50,7 @@ fn join_roots(parents: &mut [u32], join: &NumberJoin)
 fn own_parents(alloc: Global, count: u32) -> Result<Vec<u32>, NoMemory>
     ensures { IfOk result (λ parents. parents.items ≡ range_with_len 0 count) }
 {
-    let mut parents = Vec::new(alloc);
+    let mut parents = Vec::with_capacity(alloc, count as usize)?;
     for number in 0..count {
         parents.push(number)?;
     }

@@ -18,7 +18,7 @@ fn rows_of(alloc: Global, cells: &[HCell], spots: &[Spot]) -> Result<Vec<Vec<u32
     ensures { IfOk result (λ rows. RowsFit cells.now spots.now (length spots.now) (map (λ row.
         row.items) rows.items)) }
 {
-    let mut rows = Vec::new(alloc);
+    let mut rows = Vec::with_capacity(alloc, spots.len())?;
     for spot in spots {
         rows.push(vec![in alloc; 0; cells[spot.cell as usize].instances.len()]?)?;
     }
@@ -44,9 +44,10 @@ fn offsets_of_cell(alloc: Global, cell: &HCell) -> Result<Vec<u32>, NoMemory>
     requires { port_bits cell.now ≤ 2000001 }
     ensures { IfOk result (λ row. AreOffsetsOf cell.now row.items) }
 {
-    let mut row = Vec::new(alloc);
+    let ports = cell.ports.items();
+    let mut row = Vec::with_capacity(alloc, ports.len() + 1)?;
     let mut before: u32 = 0;
-    for port in cell.ports.items() {
+    for port in ports {
         row.push(before)?;
         before += port_width(port) as u32;
     }
@@ -59,7 +60,7 @@ pub fn offsets_of(alloc: Global, cells: &[HCell]) -> Result<Vec<Vec<u32>>, NoMem
     requires { AreSmall cells.now }
     ensures { IfOk result (λ rows. AreOffsets cells.now (map (λ row. row.items) rows.items)) }
 {
-    let mut rows = Vec::new(alloc);
+    let mut rows = Vec::with_capacity(alloc, cells.len())?;
     for cell in cells {
         rows.push(offsets_of_cell(alloc, cell)?)?;
     }

@@ -69,6 +69,8 @@ pub fn layout_of(alloc: Global, cells: &[HCell], top: u32, count: u64) -> Result
         base += numbers(cell);
         push_below(&mut stack, number, cell.instances.items())?;
     }
+    spots.shrink_to_fit();
+    bases.shrink_to_fit();
     Ok(Layout {
         spots,
         bases,

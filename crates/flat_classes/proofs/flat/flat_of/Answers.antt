@@ -68,7 +68,7 @@ numbers_in_order-requires-clause-below c =
     let few : length c.in_ok-terminals.terminals.items < 4294967296 = let n = terminals_few c.args.constants.now c.args.hier.now c.cells-cells.ensures.valid.valid c.args.count c.in_ok-tables.tables.layout (rows_in c.in_ok-tables.tables.belows.items) (rows_in c.in_ok-tables.tables.offsets.items) c.in_ok-tables.ensures c.in_ok-kinds.kinds c.in_ok-kinds.ensures c.requires.few (small_cells c.args.hier.now c.args.count c.cells-cells.ensures.valid.valid c.requires.counted c.requires.few) in let e = ap length t in omega (arith, n, e) in
     let numbered : AreNumbered c.args.hier.now.cells c.in_ok-tables.tables.layout.spots.items (base_of c.in_ok-tables.tables.layout.bases.items c.in_ok-tables.tables.layout.count) c.in_ok-terminals.terminals.items = subst (AreNumbered c.args.hier.now.cells c.in_ok-tables.tables.layout.spots.items (base_of c.in_ok-tables.tables.layout.bases.items c.in_ok-tables.tables.layout.count)) (sym t) (terminals_numbered c.args.constants.now c.args.hier.now c.cells-cells.ensures.valid.valid c.args.count c.in_ok-tables.tables.layout (rows_in c.in_ok-tables.tables.belows.items) (rows_in c.in_ok-tables.tables.offsets.items) c.in_ok-tables.ensures c.in_ok-kinds.kinds c.in_ok-kinds.ensures) in
     let all = labels_below c.args.constants.now c.args.hier.now c.cells-cells.ensures.valid.valid c.args.count c.in_ok-tables.tables.layout (rows_in c.in_ok-tables.tables.belows.items) (rows_in c.in_ok-tables.tables.offsets.items) c.in_ok-tables.ensures c.in_ok-classes.classes.items c.in_ok-classes.ensures c.in_ok-terminals.terminals.items c.in_ok-labels.labels.items numbered have in
-    let e : c.len.result ≡ c.in_ok-tables.tables.layout.count = omega (arith, c.len.ensures, c.in_ok-classes.ensures.len, c.in_ok-classes.classes.ok) in
+    let e : c.len-bound.result ≡ c.in_ok-tables.tables.layout.count = omega (arith, c.len-bound.ensures, c.in_ok-classes.ensures.len, c.in_ok-classes.classes.ok) in
     subst₂ (λ n vs. All (λ value. value < n) vs) (sym e) (sym c.as_slice-7.ensures.value) all
 
 pub invariant_of-result : goal.invariant_of-result
@@ -94,6 +94,6 @@ returns c =
     c.in_ok-terminals.ensures ∙ subst₂ (λ ss ls. terminals_of c.args.hier.now.cells c.as_slice-spots.result.now c.as_slice-4.result.now ≡ terminals_of c.args.hier.now.cells ss ls) c.as_slice-spots.ensures.value (c.as_slice-4.ensures.value ∙ l) refl in
     let have : HaveLabels c.args.hier.now.cells c.in_ok-tables.tables.layout.spots.items (base_of c.in_ok-tables.tables.layout.bases.items c.in_ok-tables.tables.layout.count) c.in_ok-classes.classes.items c.in_ok-terminals.terminals.items c.in_ok-labels.labels.items = subst₂ (λ cs ts. HaveLabels c.args.hier.now.cells c.in_ok-tables.tables.layout.spots.items (base_of c.in_ok-tables.tables.layout.bases.items c.in_ok-tables.tables.layout.count) cs ts c.in_ok-labels.labels.items) c.as_slice-5.ensures.value c.as_slice-6.ensures.value c.in_ok-labels.ensures in
     let few : length c.in_ok-terminals.terminals.items < 4294967296 = let n = terminals_few c.args.constants.now c.args.hier.now c.cells-cells.ensures.valid.valid c.args.count c.in_ok-tables.tables.layout (rows_in c.in_ok-tables.tables.belows.items) (rows_in c.in_ok-tables.tables.offsets.items) c.in_ok-tables.ensures c.in_ok-kinds.kinds c.in_ok-kinds.ensures c.requires.few (small_cells c.args.hier.now c.args.count c.cells-cells.ensures.valid.valid c.requires.counted c.requires.few) in let e = ap length t in omega (arith, n, e) in
-    flat_whole c.args.constants.now c.args.hier.now c.cells-cells.ensures.valid.valid c.args.count c.in_ok-tables.tables.layout (rows_in c.in_ok-tables.tables.belows.items) (rows_in c.in_ok-tables.tables.offsets.items) c.in_ok-tables.ensures c.in_ok-kinds.kinds c.in_ok-kinds.ensures c.in_ok-classes.classes.items c.in_ok-classes.ensures c.into_spots.result.items c.in_ok-leaves.leaves.items c.in_ok-terminals.terminals.items c.in_ok-labels.labels.items c.in_ok-groups.groups.items
-    (ap (λ v. v.items) c.into_spots.ensures) l t have (subst (λ vs. AreSame vs c.in_ok-groups.groups.items) c.as_slice-7.ensures.value c.in_ok-groups.ensures.same)
+    flat_whole c.args.constants.now c.args.hier.now c.cells-cells.ensures.valid.valid c.args.count c.in_ok-tables.tables.layout (rows_in c.in_ok-tables.tables.belows.items) (rows_in c.in_ok-tables.tables.offsets.items) c.in_ok-tables.ensures c.in_ok-kinds.kinds c.in_ok-kinds.ensures c.in_ok-classes.classes.items c.in_ok-classes.ensures c.spots_of-spots.result.items c.in_ok-leaves.leaves.items c.in_ok-terminals.terminals.items c.in_ok-labels.labels.items c.in_ok-groups.groups.items
+    (ap (λ v. v.items) c.spots_of-spots.ensures) l t have (subst (λ vs. AreSame vs c.in_ok-groups.groups.items) c.as_slice-7.ensures.value c.in_ok-groups.ensures.same)
     c.in_ok-groups.count (record { len = omega (arith, c.in_ok-groups.ensures.same.len, ap length c.as_slice-7.ensures.value, have.len); few = few; in_order = c.in_ok-groups.ensures.in_order })

@@ -1,9 +1,8 @@
-use Rattle.std.proofs.Common.{arith, subst, sym, length, ap, ◌<◌}
+use Rattle.std.proofs.Common.{arith, length, ap, ◌<◌}
 use Rattle.net_hier.specs.Design.{IsCell}
 use Rattle.net_hier.specs.declared.cells.HCell.{HCell}
 use Rattle.net_hier.proofs.PathLaws.{element_there}
-use Rattle.flat_numbers.specs.Numbers.{AreLinks}
-use Rattle.flat_classes.proofs.KindLaws.{both_values, kinds_next, kinds_whole, stars_are_links}
+use Rattle.flat_classes.proofs.KindLaws.{kinds_next, kinds_whole}
 use Rattle.flat_classes.proofs.kinds.kinds_of.Goals as goal
 
 pub loop-number-preserved : goal.loop-number-preserved
@@ -12,11 +11,8 @@ loop-number-preserved c =
     let at = element_there c.args.hier.now.cells c.loop-number.number lt in
     let cell : HCell = at.0 in
     let is : IsCell c.args.hier.now.cells c.loop-number.number cell = at.1 in
-    let good = c.cells-cells.ensures.valid.valid.good_cells c.loop-number.number cell is in
-    let links : AreLinks c.args.hier.now.cells cell c.in_ok-stars_of.field-0.items = subst (AreLinks c.args.hier.now.cells cell) (sym c.in_ok-stars_of.ensures) (stars_are_links c.args.hier.now.cells cell c.in_ok-classes.classes good (c.in_ok-classes.ensures cell is)) in
     kinds_next c.args.constants.now c.args.hier.now.cells c.loop-number.number c.loop-number.links.items c.push.new.self.items c.loop-number.leaves.items c.push-in-loop-number.new.self.items c.loop-number.values.items c.push-in-loop-number-2.new.self.items
-    c.in_ok-stars_of.field-0 c.is_leaf.result c.constant_of.result cell is c.in_ok-push.ensures.items c.in_ok-push-2.ensures.items c.in_ok-push-3.ensures.items
-    links (c.is_leaf.ensures cell is) (both_values c.args.constants.now cell c.constant_of.result (c.constant_of.ensures.zero cell is) (c.constant_of.ensures.one cell is)) c.loop-number.invariant
+    c.in_ok-kind.kind cell is (c.cells-cells.ensures.valid.valid.good_cells c.loop-number.number cell is) c.in_ok-push.ensures.items c.in_ok-push-2.ensures.items c.in_ok-push-3.ensures.items (c.in_ok-kind.ensures cell is) c.loop-number.invariant
 
 pub returns : goal.returns
 returns c =

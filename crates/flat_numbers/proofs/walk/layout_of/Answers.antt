@@ -1,8 +1,9 @@
-use Rattle.std.proofs.Common.{◌≡◌, ◌+◌, ◌++◌, [], ◌∷◌, length, length-append, reverse, arith, rules, subst, ap, ◌∙◌}
+use Rattle.std.proofs.Common.{◌≡◌, ◌+◌, ◌++◌, [], ◌∷◌, length, length-append, reverse, arith, rules, subst, subst₂, sym, ap, ◌∙◌}
 use Rattle.std.specs.Vec.{vec_len}
 use Rattle.net_hier.specs.Design.{IsCell}
-use Rattle.flat_numbers.specs.Numbers.{numbers_of}
-use Rattle.flat_numbers.specs.Spots.{spots_below, top_spot}
+use Rattle.flat_numbers.specs.Layout.{base_of}
+use Rattle.flat_numbers.specs.Numbers.{AreBases, numbers_of}
+use Rattle.flat_numbers.specs.Spots.{Walks, spots_below, top_spot}
 use Rattle.flat_numbers.proofs.Reading.{element_read, nothing_there}
 use Rattle.flat_numbers.proofs.SpotWalk.{KeepsSpots, keeps_ends, keeps_first, keeps_next, keeps_same, taken_few, taken_within}
 use Rattle.flat_numbers.proofs.walk.layout_of.Goals as goal
@@ -64,4 +65,11 @@ returns c =
     let none : vec_len c.loop-spot.stack ≡ 0 = c.in_default.ensures.cases.0 in
     let empty : c.loop-spot.stack.items ≡ [] = nothing_there c.loop-spot.stack.items (omega (arith, none, c.loop-spot.stack.ok)) in
     let e = keeps_ends c.args.cells.now c.args.top c.args.count c.loop-spot.spots.items c.loop-spot.bases.items c.loop-spot.base (subst (λ w. KeepsSpots c.args.cells.now c.args.top c.args.count c.loop-spot.spots.items w c.loop-spot.bases.items c.loop-spot.base) empty c.loop-spot.invariant) in
-    record { are_spots = e.0; len = c.loop-spot.invariant.len; are_bases = c.loop-spot.invariant.are_bases; few = e.1 }
+    let spots : c.shrink_to_fit.new.self.items ≡ c.loop-spot.spots.items = c.shrink_to_fit.ensures.items in
+    let bases : c.shrink_to_fit-2.new.self.items ≡ c.loop-spot.bases.items = c.shrink_to_fit-2.ensures.items in
+    record {
+      are_spots = subst (λ ss. Walks c.args.cells.now 0 (top_spot c.args.top ∷ []) ss) (sym spots) e.0;
+      len = ap length bases ∙ (c.loop-spot.invariant.len ∙ sym (ap length spots));
+      are_bases = subst₂ (λ ss bs. AreBases c.args.cells.now ss (base_of bs c.loop-spot.base) c.loop-spot.base) (sym spots) (sym bases) c.loop-spot.invariant.are_bases;
+      few = ap (λ n. n + c.loop-spot.base) (ap length spots) ∙ e.1;
+    }
