@@ -1,22 +1,13 @@
 -- lists of places by their groups, and lists that loops make
-use Rattle.std.proofs.Common.{◌≡◌, ℕ, ◌+◌, ◌<◌, List, [], ◌∷◌, ◌++◌, sym, ◌∙◌, ap, set, get_or, Bool, true, false, cond, eqb, ◌==◌, length, map, take, replicate, filter, arith, Vec, Global}
+use Rattle.std.proofs.Common.{◌≡◌, ℕ, suc, ◌+◌, ◌-◌, ◌<◌, List, [], ◌∷◌, ◌++◌, refl, sym, ◌∙◌, ap, get_or, Bool, true, false, cond, ◌==◌, length, take, filter, arith}
 use Rattle.std.specs.List.{flat_map, range_with_len}
-use Rattle.std.proofs.lemmas.Grind.{common_steps, flat_map-append}
-use Rattle.std.proofs.lemmas.List.{append-nil, length-set, length-replicate, get_or-map, map-set, take_more, get_or-replicate}
+use Rattle.std.proofs.lemmas.Grind.{flat_map-append}
+use Rattle.std.proofs.lemmas.List.{append-nil, take_more}
 use Rattle.std.proofs.lemmas.List.Elements.{filter-append}
+use Rattle.std.proofs.lemmas.List.FromFn.{get_or-map-range_with_len, length-map-range_with_len}
 use Rattle.flat_classes.specs.Groups.{AreMembers, group_at}
 use Rattle.flat_numbers.proofs.Reading.{range_last}
-
--- the places before `done` stand in the lists of their groups
-pub record HasPlaces (groups : List ℕ) (count done : ℕ) (lists : List (List ℕ)) : Type 0 where
-  pub len : length lists ≡ count
-  pub members : (group : ℕ) → group < count → get_or lists group [] ≡ filter (λ place. group_at groups place == group) (range_with_len 0 done)
-
-abbrev grow : List (List ℕ) → ℕ → ℕ → List (List ℕ)
-grow lists a x = set lists a (get_or lists a [] ++ x ∷ [])
-
-grow_at : (lists : List (List ℕ)) (a n x : ℕ) → a < length lists → get_or (grow lists a x) n [] ≡ get_or lists n [] ++ cond (eqb a n) (x ∷ []) []
-grow_at lists a n x h = grind (arith, common_steps)
+use Rattle.net_bits.specs.Parts.{AreGroups, part, parts, places_from}
 
 zero_and : (n : ℕ) → 0 + n ≡ n
 zero_and n = omega arith
@@ -30,27 +21,31 @@ filter_one p x b e = ap (λ t. cond t (x ∷ []) []) e
 pub filter_range : (p : ℕ → Bool) (n : ℕ) (b : Bool) → p n ≡ b → filter p (range_with_len 0 (n + 1)) ≡ filter p (range_with_len 0 n) ++ cond b (n ∷ []) []
 filter_range p n b e = ap (filter p) (range_more n) ∙ (filter-append p (range_with_len 0 n) (n ∷ []) ∙ ap (λ t. filter p (range_with_len 0 n) ++ t) (filter_one p n b e))
 
-pub places_more : (groups : List ℕ) (count place group : ℕ) (lists : List (List ℕ)) → group_at groups place ≡ group → group < count → HasPlaces groups count place lists → HasPlaces groups count (place + 1) (grow lists group place)
-places_more groups count place group lists e lt has =
-    let inside : group < length lists = omega (arith, lt, has.len) in
-    record {
-      len = length-set lists group (get_or lists group [] ++ place ∷ []) ∙ has.len;
-      members = λ other l.
-          grow_at lists group other place inside
-          ∙ (ap (λ t. t ++ cond (eqb group other) (place ∷ []) []) (has.members other l)
-          ∙ sym (filter_range (λ p. group_at groups p == other) place (eqb group other) (ap (λ g. g == other) e)));
-    }
+-- the places of a number, by what stands at each
+places_read : (f : ℕ → ℕ) (from number : ℕ) (xs : List ℕ) → ((k : ℕ) → k < length xs → f (from + k) ≡ get_or xs k 0) → places_from from xs number ≡ filter (λ place. f place == number) (range_with_len from (length xs))
+places_read f from number [] reads = refl
+places_read f from number (x ∷ xs) reads =
+    let here : from + 0 ≡ from = omega arith in
+    let first : f from ≡ x = ap f (sym here) ∙ reads 0 (omega arith) in
+    let others : List ℕ = filter (λ place. f place == number) (range_with_len (from + 1) (length xs)) in
+    let rest : places_from (from + 1) xs number ≡ others = places_read f (from + 1) number xs (λ k lt. let there : from + 1 + k ≡ from + suc k = omega arith in ap f there ∙ reads (suc k) (omega (arith, lt))) in
+    ap (λ places. cond (x == number) (from ∷ places) places) rest ∙ ap (λ y. cond (y == number) (from ∷ others) others) (sym first)
 
-pub places_first : (groups : List ℕ) (count : ℕ) → HasPlaces groups count 0 (replicate count [])
-places_first groups count = record { len = length-replicate count []; members = λ group l. get_or-replicate count group [] [] l }
+-- how many lists lie one behind the other, and each of them
+pub parts_count : {X : Type 0} (starts : List ℕ) (items : List X) → length (parts starts items) ≡ length starts - 1
+parts_count starts items = length-map-range_with_len (part starts items) 0 (length starts - 1)
 
-pub places_whole : (groups : List ℕ) (count : ℕ) (lists : List (List ℕ)) (done : ℕ) → done ≡ length groups → HasPlaces groups count done lists → AreMembers groups count lists
-places_whole groups count lists done e has = record { len = has.len; members = λ group l. has.members group l ∙ ap (λ n. filter (λ place. group_at groups place == group) (range_with_len 0 n)) e }
+pub parts_read : {X : Type 0} (starts : List ℕ) (items : List X) (number : ℕ) → number + 1 < length starts → get_or (parts starts items) number [] ≡ part starts items number
+parts_read starts items number h = get_or-map-range_with_len (part starts items) 0 (length starts - 1) number number [] (omega (arith, h)) (omega arith)
 
-pub places_view : (vs : List (Vec ℕ Global)) (a x : ℕ) (old new : Vec ℕ Global) → a < length vs → old ≡ get_or vs a old → new.items ≡ old.items ++ x ∷ [] → map (λ v. v.items) (set vs a new) ≡ grow (map (λ v. v.items) vs) a x
-places_view vs a x old new h o n =
-    map-set (λ (v : Vec ℕ Global). v.items) vs a new
-    ∙ ap (λ t. set (map (λ v. v.items) vs) a t) (n ∙ ap (λ t. t ++ x ∷ []) (ap (λ (v : Vec ℕ Global). v.items) o ∙ sym (get_or-map (λ (v : Vec ℕ Global). v.items) vs a old [] h)))
+-- lists that lie one behind the other are those of the groups
+pub members_are : (groups : List ℕ) (count : ℕ) (starts places : List ℕ) → AreGroups groups count starts places → AreMembers groups count (parts starts places)
+members_are groups count starts places are = record {
+  len = omega (arith, parts_count starts places, are.sums.len);
+  members = λ group lt.
+      parts_read starts places group (omega (arith, lt, are.sums.len))
+      ∙ (are.each group lt ∙ places_read (group_at groups) 0 group groups (λ k below. let there : 0 + k ≡ k = omega arith in ap (group_at groups) there));
+}
 
 -- a filtered list, one more item of the list gone over
 pub filter_taken : {X : Type 0} (p : X → Bool) (xs : List X) (i : ℕ) (d : X) (b : Bool) → i < length xs → p (get_or xs i d) ≡ b → filter p (take (i + 1) xs) ≡ filter p (take i xs) ++ cond b (get_or xs i d ∷ []) []

@@ -10,8 +10,9 @@ ghost use Rattle.flat_classes.specs.TerminalNumbers.{AreFlatLabels};
 ghost use Rattle.flat_classes.specs.Terminals.{AreFlatClasses};
 ghost use Rattle.flat_classes.specs.declared.flat.FlatFault.TheVariants.{NoMemory};
 
-use crate::groups::{labels_of, members_of, numbers_in_order};
+use crate::groups::{labels_of, numbers_in_order};
 use crate::kinds::{Kinds, kinds_of};
+use crate::members::{Members, members_of};
 use crate::terminals::{leaves_of, terminals_of};
 use flat_numbers::counts::flat_count;
 use flat_numbers::joins::flat_joins;
@@ -200,9 +201,8 @@ impl Flat {
     }
 
     /// For each group the places of its terminals, in order.
-    pub fn members(&self, alloc: Global) -> Result<Vec<Vec<u32>>, NoMemory>
-        ensures { IfOk result (λ lists. AreMembers self.now.groups self.now.count
-            (map (λ list. list.items) lists.items)) }
+    pub fn members(&self, alloc: Global) -> Result<Members, NoMemory>
+        ensures { IfOk result (AreMembers self.now.groups self.now.count) }
     {
         let members = members_of(alloc, self.groups.as_slice(), self.count)?;
         Ok(members)

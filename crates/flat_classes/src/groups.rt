@@ -1,6 +1,6 @@
 // The groups of connected terminals.
 ghost use Rattle.std.specs.Prelude.{ℕ, ◌≡◌, ◌+◌, ◌-◌, ◌<◌, ◌≤◌, ◌^◌, All, None, Option, Some, map, length, slice_get, slice_index_or, slice_set, IfOk};
-ghost use Rattle.flat_classes.specs.Groups.{AreInOrder, AreMembers, AreSame, known_numbers};
+ghost use Rattle.flat_classes.specs.Groups.{AreInOrder, AreSame, known_numbers};
 ghost use Rattle.flat_numbers.specs.TableParts.{HasTables, bases_in, spots_in};
 ghost use Rattle.flat_classes.specs.TerminalNumbers.{AreNumbered, HaveLabels, TerminalNumber};
 
@@ -95,21 +95,4 @@ pub fn numbers_in_order(
         }
     }
     Ok((numbers, count))
-}
-
-/// For each group the places of its terminals, in order.
-pub fn members_of(alloc: Global, groups: &[u32], count: u32) -> Result<Vec<Vec<u32>>, NoMemory>
-    requires few { length groups.now < 2 ^ 32 }
-    requires within { All (λ group. group < count) groups.now }
-    ensures { IfOk result (λ lists. AreMembers groups.now count (map (λ list. list.items)
-        lists.items)) }
-{
-    let mut members = Vec::with_capacity(alloc, count as usize)?;
-    for _group in 0..count {
-        members.push(Vec::new(alloc))?;
-    }
-    for place in 0..groups.len() {
-        members[groups[place] as usize].push(place as u32)?;
-    }
-    Ok(members)
 }

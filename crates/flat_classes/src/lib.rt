@@ -15,7 +15,9 @@ pub mod flat;
 mod groups;
 mod kinds;
 pub mod laws;
+pub mod members;
 mod terminals;
 
 pub use flat::{FLAT_LIMIT, Flat, FlatFault, Terminal};
 pub use flat_numbers::{Spot, flat_count};
+pub use members::Members;

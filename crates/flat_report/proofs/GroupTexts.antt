@@ -1,5 +1,5 @@
 -- the lists of places of the groups
-use Rattle.std.proofs.Common.{◌≡◌, ℕ, zero, suc, ◌+◌, ◌<◌, inl, inr, List, [], ◌∷◌, refl, sym, ◌∙◌, ap, subst, get_or, Bool, cond, true, false, length, map, filter, ◌==◌, arith}
+use Rattle.std.proofs.Common.{◌≡◌, ℕ, zero, suc, ◌+◌, ◌<◌, inl, inr, List, [], ◌∷◌, refl, sym, ◌∙◌, ap, subst, get_or, length, map, ◌==◌, arith}
 use Rattle.std.specs.Prelude.{All, Contains}
 use Rattle.std.specs.List.{range_with_len}
 use Rattle.std.proofs.lemmas.List.FromFn.{length-map-range_with_len}
@@ -49,12 +49,3 @@ places_within groups group bound e = all_of (λ place. place < bound) (places_of
 -- a list among those of the groups
 pub member_within : (flat : FlatValue) (lists : List (List ℕ)) (i bound : ℕ) → AreMembers flat.groups flat.count lists → i < length lists → length flat.groups ≡ bound → All (λ place. place < bound) (get_or lists i [])
 member_within flat lists i bound are lt e = subst (All (λ place. place < bound)) (sym (are.members i (omega (arith, lt, are.len)))) (places_within flat.groups i bound e)
-
--- how many lists pass
-pub passed_long : {A : Type 0} (f : A → List ℕ) (test : List ℕ → Bool) (xs : List A) → length (filter (λ x. test (f x)) xs) ≡ length (filter test (map f xs))
-passed_long f test [] = refl
-passed_long f test (x ∷ xs) = by (test (f x)) (passed_long f test xs)
-  where
-    by : (b : Bool) → length (filter (λ y. test (f y)) xs) ≡ length (filter test (map f xs)) → length (cond b (x ∷ filter (λ y. test (f y)) xs) (filter (λ y. test (f y)) xs)) ≡ length (cond b (f x ∷ filter test (map f xs)) (filter test (map f xs)))
-    by true e = ap suc e
-    by false e = e

@@ -1,5 +1,5 @@
 // The report.
-ghost use Rattle.std.specs.Prelude.{ℕ, ◌≡◌, ◌<◌, ◌≤◌, List, [], All, IfOk, filter, length, map, slice_get};
+ghost use Rattle.std.specs.Prelude.{ℕ, ◌≡◌, ◌<◌, ◌≤◌, List, [], All, IfOk, filter, length, slice_get};
 ghost use Rattle.flat_classes.specs.Groups.{AreMembers};
 ghost use Rattle.flat_classes.specs.Terminals.{AreFlatClasses};
 ghost use Rattle.flat_numbers.specs.Spots.{AreSpots};
@@ -14,7 +14,7 @@ ghost use Rattle.nl_output.specs.Writing.{Puts, Writes, state};
 use crate::lines::{put_count, put_design, put_terminals};
 use crate::path::put_path;
 use edif_writer::string::write_string;
-use flat_classes::{Flat, FlatFault, Spot};
+use flat_classes::{Flat, FlatFault, Members, Spot};
 use net_hier::{Constants, Hier};
 use nl_base::NoMemory;
 use nl_io::{Failed, Sink};
@@ -95,14 +95,17 @@ fn has_two(places: &[u32]) -> bool
     2 <= places.len()
 }
 
-/// How many of the lists have two items or more.
-fn groups_of_two(members: &[Vec<u32>]) -> usize
-    ensures { result ≡ length (filter (λ list. has_two list.items) members.now) }
+/// How many groups have two places or more.
+fn groups_of_two(members: &Members) -> usize
+    ensures { result ≡ length (filter has_two members.now) }
 {
-    members
-        .iter()
-        .filter(|list| has_two(list.as_slice()))
-        .count()
+    let mut count = 0;
+    for group in 0..members.count() {
+        if has_two(members.of(group)) {
+            count += 1;
+        }
+    }
+    count
 }
 
 /// Puts a group of two terminals or more: the line `net` and the terminals at these places.
@@ -133,23 +136,21 @@ pub fn put_net<O: Sink>(
 fn put_nets<O: Sink>(
     hier: &Hier,
     flat: &Flat,
-    members: &[Vec<u32>],
+    members: &Members,
     room: &mut [u32],
     output: &mut Output,
     sink: &mut O,
 )
     requires classes { (names : ConstantNames) × AreFlatClasses names hier.now flat.now }
-    requires members { AreMembers flat.now.groups flat.now.count
-        (map (λ list. list.items) members.now) }
+    requires members { AreMembers flat.now.groups flat.now.count members.now }
     requires room { length flat.now.spots ≤ length room.old }
     ensures { (paths : List Path) → ArePaths hier.now.cells flat.now.spots paths →
-        Puts (nets_then hier.now.cells flat.now.spots paths flat.now.terminals
-        (map (λ list. list.items) members.now))
+        Puts (nets_then hier.now.cells flat.now.spots paths flat.now.terminals members.now)
         (state O.receipt sink.old output.old)
         (state O.receipt sink.new output.new) }
 {
-    for places in members {
-        put_net(hier, flat, places.as_slice(), room, output, sink);
+    for group in 0..members.count() {
+        put_net(hier, flat, members.of(group), room, output, sink);
     }
 }
 
@@ -157,14 +158,13 @@ fn put_nets<O: Sink>(
 fn put_report<O: Sink>(
     hier: &Hier,
     flat: &Flat,
-    members: &[Vec<u32>],
+    members: &Members,
     room: &mut [u32],
     output: &mut Output,
     sink: &mut O,
 )
     requires classes { (names : ConstantNames) × AreFlatClasses names hier.now flat.now }
-    requires members { AreMembers flat.now.groups flat.now.count
-        (map (λ list. list.items) members.now) }
+    requires members { AreMembers flat.now.groups flat.now.count members.now }
     requires room { length flat.now.spots ≤ length room.old }
     ensures { (paths : List Path) → ArePaths hier.now.cells flat.now.spots paths →
         Puts (report_then hier.now flat.now paths)
@@ -182,13 +182,12 @@ fn put_report<O: Sink>(
 fn write_report<O: Sink>(
     hier: &Hier,
     flat: &Flat,
-    members: &[Vec<u32>],
+    members: &Members,
     room: &mut [u32],
     sink: &mut O,
 ) -> Result<(), Failed>
     requires classes { (names : ConstantNames) × AreFlatClasses names hier.now flat.now }
-    requires members { AreMembers flat.now.groups flat.now.count
-        (map (λ list. list.items) members.now) }
+    requires members { AreMembers flat.now.groups flat.now.count members.now }
     requires room { length flat.now.spots ≤ length room.old }
     ensures { (paths : List Path) → ArePaths hier.now.cells flat.now.spots paths →
         Writes O.receipt sink.old sink.new (report_then hier.now flat.now paths [])
@@ -226,7 +225,7 @@ pub fn report<O: Sink>(
     };
     let members = flat.members(alloc)?;
     let mut room = room_for(alloc, flat.spots())?;
-    match write_report(hier, &flat, members.as_slice(), &mut room, sink) {
+    match write_report(hier, &flat, &members, &mut room, sink) {
         Ok(()) => Ok(()),
         Err(_) => Err(ReportError::Failed),
     }

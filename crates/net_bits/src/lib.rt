@@ -4,7 +4,8 @@
 // other ends of its joins; `Classes` gives two joined nodes one number exactly where they are locally connected, counts the classes in the
 // order of their least nodes, lists the nodes of each in order, and takes at most one step for each joined node and two for each join;
 // `is_leaf` and `constant_of` answer what the definitions of net_hier say; `Names` is a set, up to case where it was made so, and
-// `fresh_name` answers the least number whose name is not in it; `Word` puts short words together without memory.
+// `fresh_name` answers the least number whose name is not in it; `Word` puts short words together without memory; `groups_of` lists the
+// places of a list by the numbers that stand there.
 //
 // Nets join ports and pins as in EDIF 2 0 0 (net, joined) and as ports, nets and continuous assignments do in IEEE 1364-2005, clauses 6 and 12.
 #![tactic(auto)]
@@ -17,7 +18,7 @@ pub mod fresh;
 mod joined;
 pub mod leaf;
 pub mod names;
-mod parts;
+pub mod parts;
 pub mod steps;
 pub mod word;
 

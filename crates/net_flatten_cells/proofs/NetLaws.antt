@@ -1,11 +1,11 @@
 -- the nets of groups, and their joins
-use Rattle.std.proofs.Common.{◌≡◌, ℕ, ◌+◌, ◌<◌, ◌≤◌, List, [], ◌∷◌, ◌++◌, true, sym, ◌∙◌, ap, subst, get_or, length, drop, filter, map, leb, eqb, arith, All, Vec, Global}
+use Rattle.std.proofs.Common.{◌≡◌, ℕ, ◌+◌, ◌<◌, ◌≤◌, List, [], ◌∷◌, ◌++◌, true, sym, ◌∙◌, ap, subst, get_or, length, drop, filter, map, leb, eqb, arith, All}
 use Rattle.std.specs.List.{range_with_len}
 use Rattle.std.proofs.lemmas.Bool.Decides.{nat_tests}
-use Rattle.std.proofs.lemmas.List.{get_or-map, length-map}
 use Rattle.std.proofs.lemmas.List.Folds.{list_any_at}
 use Rattle.std.proofs.lemmas.List.FromFn.{map-range_with_len_more}
 use Rattle.std.proofs.lemmas.Map.Steps.{le-length_from_below}
+use Rattle.std.proofs.lemmas.Option.{get_or_from_slice_get, slice_get-get_or}
 use Rattle.flat_classes.specs.Groups.{AreGroupNumbers, AreMembers}
 use Rattle.flat_classes.specs.Terminals.{FlatValue}
 use Rattle.flat_classes.specs.declared.flat.Terminal.{Terminal}
@@ -16,7 +16,7 @@ use Rattle.net_hier.specs.declared.cells.HNet.{HNet}
 use Rattle.net_hier.specs.declared.nodes.Join.{Join}
 
 -- the joins of the groups before this place are made, and their nets have the numbers below `net`
-pub record JoinsMade (terminals : List Terminal) (leaves : List ℕ) (groups : List (Vec ℕ Global)) (place : ℕ) (joins : List Join) (net : ℕ) : Type 0 where
+pub record JoinsMade (terminals : List Terminal) (leaves : List ℕ) (groups : List (List ℕ)) (place : ℕ) (joins : List Join) (net : ℕ) : Type 0 where
   pub few : net ≤ place
   pub count : net + length (wide (drop place groups)) ≡ length (wide groups)
   pub made : joins ++ joins_from terminals leaves net (wide (drop place groups)) ≡ joins_from terminals leaves 0 (wide groups)
@@ -41,14 +41,14 @@ groups_few groups count places are =
     same : (a b : ℕ) → b ≡ a → eqb a b ≡ true
     same a b e = grind (arith, nat_tests)
 
-module _ (flat : FlatValue) (lists : List (Vec ℕ Global)) (are : AreMembers flat.groups flat.count (map (λ list. list.items) lists)) where
+module _ (flat : FlatValue) (lists : List (List ℕ)) (are : AreMembers flat.groups flat.count lists) where
   pub wide_wired : wide lists ≡ wired flat
-  wide_wired = ap (filter (λ members. leb 2 (length members))) (members_are flat (map (λ list. list.items) lists) are)
+  wide_wired = ap (filter (λ members. leb 2 (length members))) (members_are flat lists are)
 
   pub lists_few : (places : ℕ) → AreGroupNumbers flat.groups flat.count places → length lists ≤ places
-  lists_few places numbers = let f = groups_few flat.groups flat.count places numbers in let l = length-map lists (λ (list : Vec ℕ Global). list.items) in omega (arith, f, l, are.len)
+  lists_few places numbers = let f = groups_few flat.groups flat.count places numbers in omega (arith, f, are.len)
 
   pub lists_within : (bound : ℕ) → length flat.groups ≡ bound → AreWithin bound lists
   lists_within bound e k d lt =
-      let long = length-map lists (λ (list : Vec ℕ Global). list.items) in
-      subst (All (λ place. place < bound)) (get_or-map (λ (list : Vec ℕ Global). list.items) lists k d [] lt) (member_within flat (map (λ list. list.items) lists) k bound are (omega (arith, lt, long)) e)
+      let one : get_or lists k [] ≡ get_or lists k d = get_or_from_slice_get lists k (get_or lists k d) [] (slice_get-get_or lists k d lt) in
+      subst (All (λ place. place < bound)) one (member_within flat lists k bound are lt e)

@@ -6,7 +6,7 @@ ghost use Rattle.net_flatten_cells.specs.Wired.{AreWithin, HasSpot, HaveSpots, w
 ghost use Rattle.net_flatten_rules.specs.FlatDesign.{join_at, joins_from, node_of, numbered_net, wired};
 
 use crate::places::Places;
-use flat_classes::{Flat, Terminal};
+use flat_classes::{Flat, Members, Terminal};
 use net_hier::{HNet, Join, Node};
 use nl_base::{NoMemory, Seq, Text, spell_u64};
 use std::alloc::Global;
@@ -55,7 +55,7 @@ fn joins_of(
     alloc: Global,
     terminals: &[Terminal],
     leaves: &Places,
-    groups: &[Vec<u32>],
+    groups: &Members,
 ) -> Result<(Seq<Join>, u32), NoMemory>
     requires spots { HaveSpots leaves.now.count terminals.now }
     requires groups { AreWithin (length terminals.now) groups.now }
@@ -66,9 +66,10 @@ fn joins_of(
 {
     let mut joins = Seq::empty(alloc);
     let mut net: u32 = 0;
-    for members in groups {
+    for group in 0..groups.count() {
+        let members = groups.of(group);
         if members.len() >= 2 {
-            push_joins(&mut joins, terminals, leaves, net, members.as_slice())?;
+            push_joins(&mut joins, terminals, leaves, net, members)?;
             net += 1;
         }
     }
@@ -85,7 +86,7 @@ pub fn flat_joins(alloc: Global, flat: &Flat, leaves: &Places) -> Result<(Seq<Jo
     ensures count { IfOk result (λ made. made.1 ≡ length (wired flat.now)) }
 {
     let members = flat.members(alloc)?;
-    joins_of(alloc, flat.terminals(), leaves, members.as_slice())
+    joins_of(alloc, flat.terminals(), leaves, &members)
 }
 
 /// The net of a number.

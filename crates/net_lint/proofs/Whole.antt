@@ -3,7 +3,7 @@ use Rattle.std.proofs.Common.{◌≡◌, ℕ, ◌<◌, List, [], ◌∷◌, refl
 use Rattle.std.specs.Prelude.{Contains}
 use Rattle.std.specs.List.{range_with_len}
 use Rattle.std.proofs.lemmas.List.{get_or-map, length-map}
-use Rattle.std.proofs.lemmas.Option.{get_or_from_slice_get, slice_get_within}
+use Rattle.std.proofs.lemmas.Option.{get_or_from_slice_get, slice_get-get_or, slice_get_within}
 use Rattle.net_graph.proofs.OrderLaws.{contained}
 use Rattle.net_hier.specs.Constants.{ConstantNames}
 use Rattle.net_hier.specs.Design.{Design}
@@ -27,10 +27,6 @@ use Rattle.net_lint.proofs.Several.{several_are}
 abbrev pub lists_in : List (Vec ℕ Global) → List (List ℕ)
 lists_in rows = map (λ (row : Vec ℕ Global). row.items) rows
 
-map_rows : {A : Type 0} (f : List ℕ → A) (rows : List (Vec ℕ Global)) → map (λ (row : Vec ℕ Global). f row.items) rows ≡ map f (lists_in rows)
-map_rows f [] = refl
-map_rows f (row ∷ rows) = ap (λ w. f row.items ∷ w) (map_rows f rows)
-
 -- what holds of all of a list holds of one of its elements, and of those that are kept
 all_at : (P : ℕ → Type 0) (xs : List ℕ) → All P xs → (x : ℕ) → Contains xs x → P x
 all_at P xs all x c = let s = contained xs x c in subst P (get_or_from_slice_get xs s.place x 0 s.is_there) (all s.place 0 (slice_get_within xs s.place x s.is_there))
@@ -41,54 +37,52 @@ kept_all P test xs all = all_of P (filter test xs) (λ x c. all_at P xs all x (f
 pub kept_below : (test : ℕ → Bool) (n bound : ℕ) → n ≡ bound → All (λ place. place < bound) (filter test (range_with_len 0 n))
 kept_below test n bound e = all_of (λ place. place < bound) (filter test (range_with_len 0 n)) (λ place c. let lt = below_range n place (from_filter test (range_with_len 0 n) place c).0 in omega (arith, lt, e))
 
-module _ (flat : FlatValue) (members : List (Vec ℕ Global)) (of : AreMembers flat.groups flat.count (lists_in members)) (bound : ℕ) (len : length flat.groups ≡ bound) where
+module _ (flat : FlatValue) (members : List (List ℕ)) (of : AreMembers flat.groups flat.count members) (bound : ℕ) (len : length flat.groups ≡ bound) where
   -- the places of each group are those of terminals
-  pub members_below : All (λ (row : Vec ℕ Global). All (λ place. place < bound) row.items) members
+  pub members_below : All (All (λ place. place < bound)) members
   members_below k d lt =
-      let long = length-map members (λ (row : Vec ℕ Global). row.items) in
-      subst (All (λ place. place < bound)) (get_or-map (λ (row : Vec ℕ Global). row.items) members k d [] lt) (member_within flat (lists_in members) k bound of (omega (arith, lt, long)) len)
+      let one : get_or members k [] ≡ get_or members k d = get_or_from_slice_get members k (get_or members k d) [] (slice_get-get_or members k d lt) in
+      subst (All (λ place. place < bound)) one (member_within flat members k bound of lt len)
 
-  module _ (roles : List Role) (drivers : List (Vec ℕ Global)) (are : lists_in drivers ≡ map (λ (row : Vec ℕ Global). drivers_among roles row.items) members) where
+  module _ (roles : List Role) (drivers : List (Vec ℕ Global)) (are : lists_in drivers ≡ map (drivers_among roles) members) where
     pub drivers_many : length drivers ≡ flat.count
     drivers_many =
         let a = length-map drivers (λ (row : Vec ℕ Global). row.items) in
         let b = ap length are in
-        let c = length-map members (λ (row : Vec ℕ Global). drivers_among roles row.items) in
-        let d = length-map members (λ (row : Vec ℕ Global). row.items) in
+        let c = length-map members (drivers_among roles) in
         let e = of.len in
-        omega (arith, a, b, c, d, e)
+        omega (arith, a, b, c, e)
 
     -- the drivers of each group
     pub drivers_of : (group : ℕ) → group < flat.count → get_or (lists_in drivers) group [] ≡ drivers_among roles (places_of flat.groups group)
     drivers_of group lt =
         let e = of.len in
-        ap (λ ls. get_or ls group []) (are ∙ map_rows (drivers_among roles) members)
-        ∙ (get_or-map (drivers_among roles) (lists_in members) group [] [] (omega (arith, lt, e)) ∙ ap (drivers_among roles) (of.members group lt))
+        ap (λ ls. get_or ls group []) are ∙ (get_or-map (drivers_among roles) members group [] [] (omega (arith, lt, e)) ∙ ap (drivers_among roles) (of.members group lt))
 
     pub drivers_below : All (λ (row : Vec ℕ Global). All (λ place. place < bound) row.items) drivers
     drivers_below k d lt =
         let n = drivers_many in
         let e = of.len in
         let inside : k < flat.count = omega (arith, lt, n) in
-        let group : All (λ place. place < bound) (places_of flat.groups k) = subst (All (λ place. place < bound)) (of.members k inside) (member_within flat (lists_in members) k bound of (omega (arith, inside, e)) len) in
+        let group : All (λ place. place < bound) (places_of flat.groups k) = subst (All (λ place. place < bound)) (of.members k inside) (member_within flat members k bound of (omega (arith, inside, e)) len) in
         subst (All (λ place. place < bound)) (sym (drivers_of k inside) ∙ get_or-map (λ (row : Vec ℕ Global). row.items) drivers k d [] lt) (kept_all (λ place. place < bound) (λ place. is_driver (role_at roles place)) (places_of flat.groups k) group)
 
-module _ (names : ConstantNames) (design : Design) (valid : IsValid design) (flat : FlatValue) (are : AreFlatClasses names design flat) (members : List (Vec ℕ Global)) (of : AreMembers flat.groups flat.count (lists_in members)) where
+module _ (names : ConstantNames) (design : Design) (valid : IsValid design) (flat : FlatValue) (are : AreFlatClasses names design flat) (members : List (List ℕ)) (of : AreMembers flat.groups flat.count members) where
   abbrev view : View
   view = view_of names design flat
 
   abbrev roles : List Role
   roles = roles_of design.cells flat
 
-  module _ (findings : List Finding) (found : findings ≡ map (λ (row : Vec ℕ Global). finding_of roles row.items) members) where
+  module _ (findings : List Finding) (found : findings ≡ map (finding_of roles) members) where
     -- what is found at a place is found in its group
     found_read : (place : ℕ) → place < length flat.terminals → get_or findings (group_at flat.groups place) Driven ≡ found_at names design valid flat are place
     found_read place lt =
         let m = many names design valid flat are in
         let below : group_at flat.groups place < flat.count = are.are_numbers.in_order.within place (omega (arith, lt, m)) in
         let e = of.len in
-        ap (λ fs. get_or fs (group_at flat.groups place) Driven) (found ∙ map_rows (finding_of roles) members)
-        ∙ (get_or-map (finding_of roles) (lists_in members) (group_at flat.groups place) [] Driven (omega (arith, below, e)) ∙ ap (finding_of roles) (of.members (group_at flat.groups place) below))
+        ap (λ fs. get_or fs (group_at flat.groups place) Driven) found
+        ∙ (get_or-map (finding_of roles) members (group_at flat.groups place) [] Driven (omega (arith, below, e)) ∙ ap (finding_of roles) (of.members (group_at flat.groups place) below))
 
     abbrev asks : Finding → ℕ → Bool
     asks finding place = same_finding finding (get_or findings (group_at flat.groups place) Driven)
@@ -108,5 +102,5 @@ module _ (names : ConstantNames) (design : Design) (valid : IsValid design) (fla
     pub floating_found : AreFound IsFloating view (places_found flat.groups findings Floating)
     floating_found = those_found Floating IsFloating (is_floating names design valid flat are) (no_floating names design valid flat are)
 
-  pub several_found : (drivers : List (Vec ℕ Global)) → lists_in drivers ≡ map (λ (row : Vec ℕ Global). drivers_among roles row.items) members → AreSeveral view (sets_of flat.groups (lists_in drivers) (first_drivers flat.groups (lists_in drivers)))
+  pub several_found : (drivers : List (Vec ℕ Global)) → lists_in drivers ≡ map (drivers_among roles) members → AreSeveral view (sets_of flat.groups (lists_in drivers) (first_drivers flat.groups (lists_in drivers)))
   several_found drivers e = several_are names design valid flat are (lists_in drivers) (drivers_of flat members of (length flat.terminals) are.are_numbers.len roles drivers e)

@@ -10,7 +10,7 @@ ghost use Rattle.net_lint.specs.Groups.{all_sinks, drivers_among, finding_of, fi
 ghost use Rattle.net_lint.specs.Lint.{view_of};
 
 use crate::role::{Role, is_driver, is_sink, role_of};
-use flat_classes::Flat;
+use flat_classes::{Flat, Members};
 use net_hier::{Constants, Hier};
 use nl_base::NoMemory;
 use std::alloc::Global;
@@ -97,15 +97,14 @@ fn finding_of(roles: &[Role], places: &[u32]) -> Finding
 fn findings_by_group(
     alloc: Global,
     roles: &[Role],
-    members: &[Vec<u32>],
+    members: &Members,
 ) -> Result<Vec<Finding>, NoMemory>
-    requires { All (λ list. All (λ place. place < length roles.now) list.items) members.now }
-    ensures { IfOk result (λ findings. findings.items ≡ map (λ list. finding_of roles.now
-        list.items) members.now) }
+    requires { All (All (λ place. place < length roles.now)) members.now }
+    ensures { IfOk result (λ findings. findings.items ≡ map (finding_of roles.now) members.now) }
 {
     let mut findings = Vec::new(alloc);
-    for places in members {
-        findings.push(finding_of(roles, places.as_slice()))?;
+    for group in 0..members.count() {
+        findings.push(finding_of(roles, members.of(group)))?;
     }
     Ok(findings)
 }
@@ -114,15 +113,15 @@ fn findings_by_group(
 fn drivers_by_group(
     alloc: Global,
     roles: &[Role],
-    members: &[Vec<u32>],
+    members: &Members,
 ) -> Result<Vec<Vec<u32>>, NoMemory>
-    requires { All (λ list. All (λ place. place < length roles.now) list.items) members.now }
-    ensures { IfOk result (λ drivers. map (λ list. list.items) drivers.items ≡ map (λ list.
-        drivers_among roles.now list.items) members.now) }
+    requires { All (All (λ place. place < length roles.now)) members.now }
+    ensures { IfOk result (λ drivers. map (λ list. list.items) drivers.items
+        ≡ map (drivers_among roles.now) members.now) }
 {
     let mut drivers = Vec::new(alloc);
-    for places in members {
-        drivers.push(drivers_among(alloc, roles, places.as_slice())?)?;
+    for group in 0..members.count() {
+        drivers.push(drivers_among(alloc, roles, members.of(group))?)?;
     }
     Ok(drivers)
 }
@@ -207,11 +206,10 @@ pub fn findings_of(
     hier: &Hier,
     _constants: &Constants,
     flat: &Flat,
-    members: &[Vec<u32>],
+    members: &Members,
 ) -> Result<Findings, NoMemory>
     requires classes { AreFlatClasses _constants.now hier.now flat.now }
-    requires members { AreMembers flat.now.groups flat.now.count
-        (map (λ list. list.items) members.now) }
+    requires members { AreMembers flat.now.groups flat.now.count members.now }
     ensures found { IfOk result (λ found. FoundIn (view_of _constants.now hier.now flat.now)
         found.undriven.items found.floating.items (several_in flat.now found)) }
     ensures fit { IfOk result (FindingsFit flat.now) }

@@ -139,7 +139,7 @@ pub fn lint<O: Sink>(
         Err(FlatFault::NoMemory) => return Err(LintError::NoMemory),
     };
     let members = flat.members(alloc)?;
-    let found = findings_of(alloc, hier, constants, &flat, members.as_slice())?;
+    let found = findings_of(alloc, hier, constants, &flat, &members)?;
     let mut room = room_for(alloc, flat.spots())?;
     match write_findings(hier, &flat, &found, &mut room, sink) {
         Ok(()) => Ok(()),

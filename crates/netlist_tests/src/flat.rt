@@ -84,8 +84,8 @@ fn is_flat(flat: &Flat, leaves: &[u32], groups: &[u32]) -> bool {
 fn are_members(alloc: Global, flat: &Flat, places: usize) -> Result<bool, NoMemory> {
     let members = flat.members(alloc)?;
     let mut count: usize = 0;
-    for group in &members {
-        count = count.saturating_add(group.len());
+    for group in 0..members.count() {
+        count = count.saturating_add(members.of(group).len());
     }
     Ok(count == places)
 }

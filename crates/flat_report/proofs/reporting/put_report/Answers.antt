@@ -1,10 +1,10 @@
-use Rattle.std.proofs.Common.{ℕ, ◌≡◌, ◌<◌, ◌++◌, List, ap, subst, subst₂, sym, ◌∙◌, filter, length, map}
+use Rattle.std.proofs.Common.{ℕ, ◌≡◌, ◌<◌, ◌++◌, List, ap, subst, subst₂, sym, ◌∙◌, filter, length}
 use Rattle.std.specs.Prelude.{All, codes}
 use Rattle.net_hier.specs.Paths.{Path}
 use Rattle.nl_output.specs.Writing.{Begin, state, ToCome}
 use Rattle.flat_report.specs.Report.{count_then, groups_of, has_two, leaves_then, nets_then}
 use Rattle.flat_classes.specs.Ways.{ArePaths}
-use Rattle.flat_report.proofs.GroupTexts.{members_are, passed_long}
+use Rattle.flat_report.proofs.GroupTexts.{members_are}
 use Rattle.flat_classes.proofs.LeafLists.{leaves_within}
 use Rattle.flat_report.proofs.reporting.put_report.Goals as goal
 
@@ -13,8 +13,8 @@ put_leaves-requires-clause-leaves g c = subst₂ (λ ls ss. All (λ leaf. leaf <
 
 pub returns : goal.returns
 returns g c = λ paths of b rest h.
-    let lists : map (λ list. list.items) c.args.members.now ≡ groups_of c.args.flat.now = members_are c.args.flat.now (map (λ list. list.items) c.args.members.now) c.requires.members in
-    let count : c.groups_of_two.result ≡ length (filter has_two (groups_of c.args.flat.now)) = c.groups_of_two.ensures ∙ (passed_long (λ list. list.items) has_two c.args.members.now ∙ ap (λ ls. length (filter has_two ls)) lists) in
+    let lists : c.args.members.now ≡ groups_of c.args.flat.now = members_are c.args.flat.now c.args.members.now c.requires.members in
+    let count : c.groups_of_two.result ≡ length (filter has_two (groups_of c.args.flat.now)) = c.groups_of_two.ensures ∙ ap (λ ls. length (filter has_two ls)) lists in
     let nets : List ℕ = nets_then c.args.hier.now.cells c.args.flat.now.spots paths c.args.flat.now.terminals (groups_of c.args.flat.now) rest in
     let counted : List ℕ = count_then (codes "nets") (length (filter has_two (groups_of c.args.flat.now))) nets in
     let leaves : List ℕ = leaves_then c.args.hier.now.cells c.args.flat.now.spots paths c.args.flat.now.leaves counted in

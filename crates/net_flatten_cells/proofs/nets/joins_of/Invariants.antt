@@ -1,5 +1,5 @@
 use Rattle.net_flatten_cells.proofs.NetLaws.{JoinsMade}
 use Rattle.net_flatten_cells.proofs.nets.joins_of.Given as goal
 
-abbrev pub invariant-loop-members : goal.invariant-loop-members
-invariant-loop-members l = JoinsMade l.terminals l.leaves.numbers l.groups l.members-index l.joins l.net
+abbrev pub invariant-loop-group : goal.invariant-loop-group
+invariant-loop-group l = JoinsMade l.terminals l.leaves.numbers l.groups l.group l.joins l.net

@@ -1,4 +1,4 @@
-use Rattle.std.proofs.Common.{◌≡◌, ◌<◌, ◌∙◌, ap, arith, length, map, subst, sym, List, Vec, ℕ, Global}
+use Rattle.std.proofs.Common.{◌≡◌, ◌<◌, ◌∙◌, ap, arith, length, map, subst, sym, List, ℕ}
 use Rattle.std.specs.Prelude.{All}
 use Rattle.std.proofs.lemmas.List.{length-map}
 use Rattle.net_lint.specs.Findings.{AreFound, AreSeveral, IsFloating, IsUndriven}
@@ -25,8 +25,8 @@ drivers_by_group-requires c =
 
 pub returns-clause-found : goal.returns-clause-found
 returns-clause-found c =
-    let found = c.in_ok-found.ensures ∙ ap (λ (rs : List Role). map (λ (list : Vec ℕ Global). finding_of rs list.items) c.args.members.now) (c.as_slice.ensures.value ∙ c.in_ok-roles.ensures) in
-    let drivers = c.in_ok-drivers.ensures ∙ ap (λ (rs : List Role). map (λ (list : Vec ℕ Global). drivers_among rs list.items) c.args.members.now) (c.as_slice-2.ensures.value ∙ c.in_ok-roles.ensures) in
+    let found = c.in_ok-found.ensures ∙ ap (λ (rs : List Role). map (finding_of rs) c.args.members.now) (c.as_slice.ensures.value ∙ c.in_ok-roles.ensures) in
+    let drivers = c.in_ok-drivers.ensures ∙ ap (λ (rs : List Role). map (drivers_among rs) c.args.members.now) (c.as_slice-2.ensures.value ∙ c.in_ok-roles.ensures) in
     let firsts : c.in_ok-first_drivers.field-0.items ≡ first_drivers c.args.flat.now.groups (lists_in c.in_ok-drivers.drivers.items) = c.in_ok-first_drivers.ensures ∙ ap (λ ds. first_drivers c.args.flat.now.groups (lists_in ds)) c.as_slice-5.ensures.value in
     record {
       undriven_are = subst (AreFound IsUndriven (view_of c.args._constants.now c.args.hier.now c.args.flat.now)) (sym c.in_ok-places_found.ensures)
