@@ -157,10 +157,10 @@ module _ (design : Design) (params : NameSet) (number : ℕ) (cell : HCell) (val
   bit_ref : (port : HPort) → IsGoodPort (plain_port port) → (bit : ℕ) (expr : Expr) → bit_of port bit ≡ Some expr → IsRef expr
   bit_ref port good bit expr e = by (nat_lt bit (width_of port.range)) refl e
     where
-      by : (b : Bool) → nat_lt bit (width_of port.range) ≡ b → (if b then Some (Ref port.name (select_of port.range bit)) else None) ≡ Some expr → IsRef expr
+      by : (b : Bool) → nat_lt bit (width_of port.range) ≡ b → (if b then Some (Ref (select_of port.range bit) port.name) else None) ≡ Some expr → IsRef expr
       by true f g =
-          let k : Some (Ref port.name (select_of port.range bit)) ≡ Some expr = g in
-          let s : Ref port.name (select_of port.range bit) ≡ expr = cc in
+          let k : Some (Ref (select_of port.range bit) port.name) ≡ Some expr = g in
+          let s : Ref (select_of port.range bit) port.name ≡ expr = cc in
           subst IsRef s (record { within = λ levels. port_is levels (plain_port port) bit good.name good.range (below bit (width_of port.range) f); left = port_is_left (plain_port port) bit })
       by false f g = absurd (let k : None ≡ Some expr = g in cc)
 
@@ -178,11 +178,11 @@ module _ (design : Design) (params : NameSet) (number : ℕ) (cell : HCell) (val
   hub_ref (hubs.Port port bit) expr e = port_ref port bit expr e
   hub_ref (hubs.Wire wire) expr e = by (slice_get wiring.names wire) refl e
     where
-      by : (o : Option Name) → slice_get wiring.names wire ≡ o → option_map (λ name. Ref name All) o ≡ Some expr → IsRef expr
+      by : (o : Option Name) → slice_get wiring.names wire ≡ o → option_map (λ name. Ref All name) o ≡ Some expr → IsRef expr
       by None f g = absurd (let k : None ≡ Some expr = g in cc)
       by (Some name) f g =
-          let k : Some (Ref name All) ≡ Some expr = g in
-          let s : Ref name All ≡ expr = cc in
+          let k : Some (Ref All name) ≡ Some expr = g in
+          let s : Ref All name ≡ expr = cc in
           subst IsRef s (record { within = λ levels. wire_is levels (record { attrs = []; name = name }) (all_at IsName wiring.names names_good wire name f); left = wire_is_left (record { attrs = []; name = name }) })
 
   node_expr : (levels : ℕ) (node : Node) (expr : Expr) → IsNodeExpr p node expr → IsExprWithin levels expr

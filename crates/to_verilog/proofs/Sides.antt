@@ -56,15 +56,15 @@ module _ (design : Design) (params : NameSet) (number : ℕ) (cell : HCell) (wir
   -- a bit of a port
   pub port_found : (port bit : ℕ) → IsPortBit cell port bit → HasExpr p (Port port bit) (port_expr cell.ports port bit)
   port_found port bit is = record {
-    expr = Ref is.the_port.name (select_of is.the_port.range bit);
-    is_found = ap (option_and_then (λ q. bit_of q bit)) is.is_there ∙ ap (λ b. if b then Some (Ref is.the_port.name (select_of is.the_port.range bit)) else None) (passes bit (width_of is.the_port.range) is.within);
+    expr = Ref (select_of is.the_port.range bit) is.the_port.name;
+    is_found = ap (option_and_then (λ q. bit_of q bit)) is.is_there ∙ ap (λ b. if b then Some (Ref (select_of is.the_port.range bit) is.the_port.name) else None) (passes bit (width_of is.the_port.range) is.within);
     of_node = of_port port (plain_port is.the_port) bit (mapped_at plain_port cell.ports port is.the_port is.is_there) is.within refl refl;
   }
 
   wire_found : (wire : ℕ) (x : PlainWire) → slice_get w.wires wire ≡ Some x → HasExpr p (Net wire) (hub_expr cell.ports wiring.names (hubs.Wire wire))
   wire_found wire x e = record {
-    expr = Ref x.name All;
-    is_found = ap (option_map (λ name. Ref name All)) (ap (λ l. slice_get l wire) w.names_are ∙ mapped_at (λ (v : PlainWire). v.name) w.wires wire x e);
+    expr = Ref All x.name;
+    is_found = ap (option_map (λ name. Ref All name)) (ap (λ l. slice_get l wire) w.names_are ∙ mapped_at (λ (v : PlainWire). v.name) w.wires wire x e);
     of_node = of_wire wire x e refl refl;
   }
 

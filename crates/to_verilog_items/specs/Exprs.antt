@@ -12,7 +12,7 @@ use Rattle.to_verilog_wires.specs.declared.hubs.Hub.TheVariants as hubs
 
 -- the bit of the port at this position; none where it is not there
 abbrev pub bit_of : HPort → ℕ → Option Expr
-bit_of port bit = if nat_lt bit (width_of port.range) then Some (Ref port.name (select_of port.range bit)) else None
+bit_of port bit = if nat_lt bit (width_of port.range) then Some (Ref (select_of port.range bit) port.name) else None
 
 -- the bit of the port of this number; none where it is not there
 abbrev pub port_expr : List HPort → ℕ → ℕ → Option Expr
@@ -21,4 +21,4 @@ port_expr ports port bit = option_and_then (λ p. bit_of p bit) (slice_get ports
 -- what stands for a class: a port bit, or the wire of a number
 abbrev pub hub_expr : List HPort → List (List ℕ) → Hub → Option Expr
 hub_expr ports names (hubs.Port port bit) = port_expr ports port bit
-hub_expr ports names (hubs.Wire wire) = option_map (λ name. Ref name All) (slice_get names wire)
+hub_expr ports names (hubs.Wire wire) = option_map (λ name. Ref All name) (slice_get names wire)

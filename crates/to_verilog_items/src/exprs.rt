@@ -12,7 +12,7 @@ use std::alloc::Global;
 use to_verilog_classes::roots::width_of;
 use to_verilog_props::constants::bit_literal;
 use to_verilog_wires::Hub;
-use vlog_values::{Expr, Select};
+use vlog_values::{Boxed, Expr, Select};
 
 /// The bits of the port that a position from the left is: all of a scalar.
 fn select_of(port: &HPort, bit: u32) -> Select
@@ -32,7 +32,7 @@ fn bit_of(alloc: Global, port: &HPort, bit: u32) -> Result<Option<Expr>, NoMemor
     if bit < width_of(port.range) {
         let name = Text::copy(alloc, port.name.bytes())?;
         let select = select_of(port, bit);
-        return Ok(Some(Expr::Ref { name, select }));
+        return Ok(Some(Expr::Ref { select, name }));
     }
     Ok(None)
 }
@@ -58,15 +58,15 @@ pub fn port_expr(
 /// The wire of this number; none where it is not there.
 fn wire_expr(alloc: Global, names: &[Text], wire: usize) -> Result<Option<Expr>, NoMemory>
     ensures { IfOk result (λ made. made
-        ≡ option_map (λ name. Ref name All) (slice_get names.now wire)) }
+        ≡ option_map (λ name. Ref All name) (slice_get names.now wire)) }
 {
     match names.get(wire) {
         None => Ok(None),
         Some(name) => {
             let name = Text::copy(alloc, name.bytes())?;
             Ok(Some(Expr::Ref {
-                name,
                 select: Select::All,
+                name,
             }))
         }
     }
@@ -97,6 +97,6 @@ pub fn hub_expr(
 pub fn constant_expr(alloc: Global, one: bool) -> Result<Expr, NoMemory>
     ensures { IfOk result (λ made. made ≡ Lit (bit_literal one)) }
 {
-    let literal = bit_literal(alloc, one)?;
+    let literal = Boxed::new(alloc, bit_literal(alloc, one)?)?;
     Ok(Expr::Lit(literal))
 }

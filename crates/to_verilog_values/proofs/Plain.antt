@@ -46,13 +46,13 @@ select_is (Some range) bit h within = index_is range bit h within
 
 -- a bit of a port, a wire, a constant
 pub port_is : (levels : ℕ) (port : PlainPort) (bit : ℕ) → IsName port.name → IfSome port.range IsRange → bit < width_of port.range → IsExprWithin levels (port_expr port bit)
-port_is levels port bit name range within = is_expr levels (Ref port.name (select_of port.range bit)) (Expr-F.Ref port.name (select_of port.range bit)) (out-Ref port.name (select_of port.range bit)) (name, select_is port.range bit range within)
+port_is levels port bit name range within = is_expr levels (Ref (select_of port.range bit) port.name) (Expr-F.Ref (select_of port.range bit) port.name) (out-Ref port.name (select_of port.range bit)) (name, select_is port.range bit range within)
 
 pub port_is_left : (port : PlainPort) (bit : ℕ) → is_left (port_expr port bit) ≡ true
 port_is_left port bit = left-Ref port.name (select_of port.range bit)
 
 pub wire_is : (levels : ℕ) (wire : PlainWire) → IsName wire.name → IsExprWithin levels (wire_expr wire)
-wire_is levels wire name = is_expr levels (Ref wire.name All) (Expr-F.Ref wire.name All) (out-Ref wire.name All) (name, tt)
+wire_is levels wire name = is_expr levels (Ref All wire.name) (Expr-F.Ref All wire.name) (out-Ref wire.name All) (name, tt)
 
 pub wire_is_left : (wire : PlainWire) → is_left (wire_expr wire) ≡ true
 wire_is_left wire = left-Ref wire.name All

@@ -98,7 +98,7 @@ kept_sized left room n right is = kept_then (kept_digits n) (λ l is_literal. ke
 
 kept_expr_rest : (left : Bool) (room : ℕ) (inner : Vlog Expr) → (0 < room → Kept inner (IsGood left room)) → (s : ExprStart) → IsStart left room s → Kept (expr_rest inner s) (IsGood left room)
 unfolding expr_rest
-kept_expr_rest left room inner within (starts.Name n) is = kept_then kept_select (λ s is_select. kept_gives (exprs.Ref n s) (ref_good left room n s is is_select))
+kept_expr_rest left room inner within (starts.Name n) is = kept_then kept_select (λ s is_select. kept_gives (exprs.Ref s n) (ref_good left room n s is is_select))
 kept_expr_rest left room inner within (starts.Number n) is = kept_sized left room n is.0 is.1
 kept_expr_rest left room inner within (starts.Based b) is = kept_gives (exprs.Loose b) (loose_good left room b is)
 kept_expr_rest left room inner within starts.Brace is = within is

@@ -42,7 +42,7 @@ bounded_sized n = bounded_after (digits n) (λ l. bounded_gives (expr_of_number 
 
 bounded_expr_rest : (inner : Vlog Expr) → Bounded inner expr_size 0 → (s : ExprStart) → Bounded (expr_rest inner s) expr_size 0
 unfolding expr_rest
-bounded_expr_rest inner within (starts.Name n) = bounded_after select (λ s. bounded_gives (exprs.Ref n s) (let e = size-Ref n s in omega (arith, e)))
+bounded_expr_rest inner within (starts.Name n) = bounded_after select (λ s. bounded_gives (exprs.Ref s n) (let e = size-Ref n s in omega (arith, e)))
 bounded_expr_rest inner within (starts.Number n) = bounded_sized n
 bounded_expr_rest inner within (starts.Based b) = bounded_gives (exprs.Loose b) (let e = size-Loose b in omega (arith, e))
 bounded_expr_rest inner within starts.Brace = within

@@ -56,7 +56,7 @@ module _ (signals : List Signal) where
       ∙ (ap (λ n. width signals p.0 + n) (sum-map (width signals) (map (λ q. q.0) parts)) ∙ (sym (sum_by-cons (width signals) p.0 (map (λ q. q.0) parts)) ∙ sym (sum-map (width signals) (p.0 ∷ map (λ q. q.0) parts))))))
 
   has_width : (y : Expr-F ((e : Expr) × HasWidth e)) → HasWidth (roll-Expr (map-Expr ((e : Expr) × HasWidth e) Expr (λ e. e.0) y))
-  has_width (Expr-F.Ref name select) = rw (rolls-Ref, bits-Ref, width-Ref) (length-selected (signal_named signals name) select)
+  has_width (Expr-F.Ref select name) = rw (rolls-Ref, bits-Ref, width-Ref) (length-selected (signal_named signals name) select)
   has_width (Expr-F.Lit literal) = rw (rolls-Lit, bits-Lit, width-Lit) (length-map (literal_bits literal) constant_bit ∙ length-literal literal)
   has_width (Expr-F.LooseNumber number) = rw (rolls-LooseNumber, bits-LooseNumber, width-LooseNumber) refl
   has_width (Expr-F.Loose based) = rw (rolls-Loose, bits-Loose, width-Loose) refl

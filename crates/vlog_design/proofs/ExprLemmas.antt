@@ -19,9 +19,9 @@ joined-map f [] = refl
 joined-map f (x ∷ xs) = ap (λ ys. f x ++ ys) (joined-map f xs)
 
 module _ (signals : List Signal) where
-  pub width-Ref : (name : Name) (select : Select) → width signals (Ref name select) ≡ span_count (span_of (signal_named signals name) select)
+  pub width-Ref : (name : Name) (select : Select) → width signals (Ref select name) ≡ span_count (span_of (signal_named signals name) select)
   unfolding width
-  width-Ref name select = ap (width signals) (sym (rolls-Ref name select)) ∙ fold-roll-Expr ℕ (width_step signals) (Expr-F.Ref name select)
+  width-Ref name select = ap (width signals) (sym (rolls-Ref select name)) ∙ fold-roll-Expr ℕ (width_step signals) (Expr-F.Ref select name)
 
   pub width-Lit : (literal : Literal) → width signals (Lit literal) ≡ literal.size
   unfolding width
@@ -43,9 +43,9 @@ module _ (signals : List Signal) where
   unfolding width
   width-Rep count parts = ap (width signals) (sym (rolls-Rep count parts)) ∙ fold-roll-Expr ℕ (width_step signals) (Expr-F.Rep count parts)
 
-  pub bits-Ref : (name : Name) (select : Select) → bits signals (Ref name select) ≡ signal_bits (signal_named signals name) select
+  pub bits-Ref : (name : Name) (select : Select) → bits signals (Ref select name) ≡ signal_bits (signal_named signals name) select
   unfolding bits
-  bits-Ref name select = ap (bits signals) (sym (rolls-Ref name select)) ∙ fold-roll-Expr (List (Option Node)) (bits_step signals) (Expr-F.Ref name select)
+  bits-Ref name select = ap (bits signals) (sym (rolls-Ref select name)) ∙ fold-roll-Expr (List (Option Node)) (bits_step signals) (Expr-F.Ref select name)
 
   pub bits-Lit : (literal : Literal) → bits signals (Lit literal) ≡ map constant_bit (literal_bits literal)
   unfolding bits
@@ -67,9 +67,9 @@ module _ (signals : List Signal) where
   unfolding bits
   bits-Rep count parts = ap (bits signals) (sym (rolls-Rep count parts)) ∙ (fold-roll-Expr (List (Option Node)) (bits_step signals) (Expr-F.Rep count parts) ∙ ap (repeated (times count)) (joined-map (bits signals) parts))
 
-pub uses-Ref : (name : Name) (select : Select) → uses (Ref name select) ≡ record { name = name; select = select } ∷ []
+pub uses-Ref : (name : Name) (select : Select) → uses (Ref select name) ≡ record { name = name; select = select } ∷ []
 unfolding uses
-uses-Ref name select = ap uses (sym (rolls-Ref name select)) ∙ fold-roll-Expr (List Use) uses_step (Expr-F.Ref name select)
+uses-Ref name select = ap uses (sym (rolls-Ref select name)) ∙ fold-roll-Expr (List Use) uses_step (Expr-F.Ref select name)
 
 pub uses-Lit : (literal : Literal) → uses (Lit literal) ≡ []
 unfolding uses
@@ -91,9 +91,9 @@ pub uses-Rep : (count : ℤ) (parts : List Expr) → uses (Rep count parts) ≡ 
 unfolding uses
 uses-Rep count parts = ap uses (sym (rolls-Rep count parts)) ∙ (fold-roll-Expr (List Use) uses_step (Expr-F.Rep count parts) ∙ joined-map uses parts)
 
-pub has_loose-Ref : (name : Name) (select : Select) → has_loose (Ref name select) ≡ false
+pub has_loose-Ref : (name : Name) (select : Select) → has_loose (Ref select name) ≡ false
 unfolding has_loose
-has_loose-Ref name select = ap has_loose (sym (rolls-Ref name select)) ∙ fold-roll-Expr Bool loose_step (Expr-F.Ref name select)
+has_loose-Ref name select = ap has_loose (sym (rolls-Ref select name)) ∙ fold-roll-Expr Bool loose_step (Expr-F.Ref select name)
 
 pub has_loose-Lit : (literal : Literal) → has_loose (Lit literal) ≡ false
 unfolding has_loose

@@ -42,7 +42,7 @@ instance of name port value = InstancesItem (record { attrs = []; «module» = o
 
 -- module B (input I); endmodule module m (); B u (.I(w)); endmodule
 abbrev implicit_w : Bool → VlogFile
-implicit_w implicit = record { modules = a_module implicit (codes "B") (input None (codes "I" ∷ []) ∷ []) [] ∷ a_module implicit (codes "m") [] (instance (codes "B") (codes "u") (codes "I") (Ref (codes "w") All) ∷ []) ∷ [] }
+implicit_w implicit = record { modules = a_module implicit (codes "B") (input None (codes "I" ∷ []) ∷ []) [] ∷ a_module implicit (codes "m") [] (instance (codes "B") (codes "u") (codes "I") (Ref All (codes "w")) ∷ []) ∷ [] }
 
 pub implicit_accepted : first_G (implicit_w true) (codes "m") ≡ None
 unfolding first_G refusals reached reaches modules_below module_number instance_modules module_named instance_statements instances unknown_modules declared_twice declarations clashing without_direction unknown_names signals signal_named wires implicit_names is_implicit is_declared first_places header_names port_decls net_decls port_range module_uses target_uses bad_selects selected unequal_widths unsized pairings item_pairings connections unknown_ports ports_named ports_twice too_many_connections params_twice too_wide other_ranges recursions unknown_instances
@@ -64,7 +64,7 @@ recursion_refused = refl
 abbrev two_wide : Expr → VlogFile
 two_wide value = record { modules = a_module true (codes "s") (input (Some (record { left = pos 1; right = pos 0 })) (codes "A" ∷ []) ∷ []) [] ∷ a_module true (codes "t") (input None (codes "x" ∷ []) ∷ []) (instance (codes "s") (codes "u") (codes "A") value ∷ []) ∷ [] }
 
-pub width_refused : first_G (two_wide (Ref (codes "x") All)) (codes "t") ≡ Some (refused G8 (codes "t") (codes "u" ∷ codes "A" ∷ []))
+pub width_refused : first_G (two_wide (Ref All (codes "x"))) (codes "t") ≡ Some (refused G8 (codes "t") (codes "u" ∷ codes "A" ∷ []))
 unfolding first_G refusals reached reaches modules_below module_number instance_modules module_named instance_statements instances unknown_modules declared_twice declarations clashing without_direction unknown_names signals signal_named wires implicit_names is_implicit is_declared first_places header_names port_decls net_decls port_range module_uses target_uses bad_selects selected unequal_widths unsized pairings item_pairings connections unknown_ports ports_named ports_twice too_many_connections params_twice too_wide other_ranges recursions unknown_instances
 width_refused = simp expr_equations
 
@@ -73,7 +73,7 @@ pub unsized_refused : first_G (two_wide (Loose (record { signed = false; base = 
 unfolding first_G refusals reached reaches modules_below module_number instance_modules module_named instance_statements instances unknown_modules declared_twice declarations clashing without_direction unknown_names signals signal_named wires implicit_names is_implicit is_declared first_places header_names port_decls net_decls port_range module_uses target_uses bad_selects selected unequal_widths unsized pairings item_pairings connections unknown_ports ports_named ports_twice too_many_connections params_twice too_wide other_ranges recursions unknown_instances
 unsized_refused = simp expr_equations
 
-pub no_top_refused : first_G (two_wide (Ref (codes "x") All)) (codes "q") ≡ Some (refused G1 [] (codes "q" ∷ []))
+pub no_top_refused : first_G (two_wide (Ref All (codes "x"))) (codes "q") ≡ Some (refused G1 [] (codes "q" ∷ []))
 unfolding first_G refusals reached reaches modules_below module_number instance_modules module_named instance_statements instances unknown_modules declared_twice declarations clashing without_direction unknown_names signals signal_named wires implicit_names is_implicit is_declared first_places header_names port_decls net_decls port_range module_uses target_uses bad_selects selected unequal_widths unsized pairings item_pairings connections unknown_ports ports_named ports_twice too_many_connections params_twice too_wide other_ranges recursions unknown_instances
 no_top_refused = refl
 
@@ -109,7 +109,7 @@ abbrev and4 : List ℕ → Expr → Expr → ItemV
 and4 name a y = InstancesItem (record { attrs = []; «module» = codes "AND4"; params = []; insts = record { name = name; conns = Named (record { port = codes "A"; value = Some a } ∷ record { port = codes "Y"; value = Some y } ∷ []) } ∷ [] })
 
 abbrev whole : List ℕ → Expr
-whole name = Ref name All
+whole name = Ref All name
 
 abbrev two_ands : VlogFile
 two_ands = record {
@@ -117,7 +117,7 @@ two_ands = record {
       a_module true (codes "AND4") (port false (Some (record { left = pos 3; right = pos 0 })) (codes "A") ∷ port true None (codes "Y") ∷ []) []
       ∷ a_module true (codes "top") (port false (Some (record { left = pos 1; right = pos 0 })) (codes "b") ∷ port false None (codes "c") ∷ port true None (codes "y") ∷ port true None (codes "z") ∷ [])
       (Net' (record { attrs = []; kind = Supply0; signed = false; range = None; names = codes "g" ∷ [] })
-      ∷ and4 (codes "u") (Rep (pos 2) (Ref (codes "b") (Slice (pos 1) (pos 0)) ∷ [])) (whole (codes "y"))
+      ∷ and4 (codes "u") (Rep (pos 2) (Ref (Slice (pos 1) (pos 0)) (codes "b") ∷ [])) (whole (codes "y"))
       ∷ and4 (codes "v") (Cat (Cat (whole (codes "c") ∷ whole (codes "g") ∷ []) ∷ Lit (record { size = 2; based = record { signed = false; base = Binary; digits = codes "1x" } }) ∷ [])) (whole (codes "z"))
       ∷ []) ∷ [];
 }

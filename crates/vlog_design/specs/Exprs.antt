@@ -36,7 +36,7 @@ span_count (Some span) = span.count
 
 -- the width of an expression by those of its parts
 abbrev pub width_step : List Signal → Expr-F ℕ → ℕ
-width_step signals (Expr-F.Ref name select) = span_count (span_of (signal_named signals name) select)
+width_step signals (Expr-F.Ref select name) = span_count (span_of (signal_named signals name) select)
 width_step signals (Expr-F.Lit literal) = literal.size
 width_step signals (Expr-F.LooseNumber number) = 0
 width_step signals (Expr-F.Loose based) = 0
@@ -79,7 +79,7 @@ repeated (suc n) bits = bits ++ repeated n bits
 
 -- the bits of an expression by those of its parts
 abbrev pub bits_step : List Signal → Expr-F (List (Option Node)) → List (Option Node)
-bits_step signals (Expr-F.Ref name select) = signal_bits (signal_named signals name) select
+bits_step signals (Expr-F.Ref select name) = signal_bits (signal_named signals name) select
 bits_step signals (Expr-F.Lit literal) = map constant_bit (literal_bits literal)
 bits_step signals (Expr-F.LooseNumber number) = []
 bits_step signals (Expr-F.Loose based) = []
@@ -96,7 +96,7 @@ is_live bit = is_some (constant_bit bit)
 
 -- the live width of an expression by those of its parts
 abbrev pub live_step : List Signal → Expr-F ℕ → ℕ
-live_step signals (Expr-F.Ref name select) = span_count (span_of (signal_named signals name) select)
+live_step signals (Expr-F.Ref select name) = span_count (span_of (signal_named signals name) select)
 live_step signals (Expr-F.Lit literal) = count_by is_live (literal_bits literal)
 live_step signals (Expr-F.LooseNumber number) = 0
 live_step signals (Expr-F.Loose based) = 0
@@ -109,7 +109,7 @@ live_width signals = fold-Expr ℕ (live_step signals)
 
 -- whether an unsized literal stands in an expression, by its parts
 abbrev pub loose_step : Expr-F Bool → Bool
-loose_step (Expr-F.Ref name select) = false
+loose_step (Expr-F.Ref select name) = false
 loose_step (Expr-F.Lit literal) = false
 loose_step (Expr-F.LooseNumber number) = true
 loose_step (Expr-F.Loose based) = true
@@ -122,7 +122,7 @@ has_loose = fold-Expr Bool loose_step
 
 -- the literals of an expression by those of its parts
 abbrev pub literals_step : Expr-F (List Literal) → List Literal
-literals_step (Expr-F.Ref name select) = []
+literals_step (Expr-F.Ref select name) = []
 literals_step (Expr-F.Lit literal) = literal ∷ []
 literals_step (Expr-F.LooseNumber number) = []
 literals_step (Expr-F.Loose based) = []

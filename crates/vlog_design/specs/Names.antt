@@ -177,7 +177,7 @@ joined = flat_map (λ uses. uses)
 
 -- the names in an expression by those in its parts
 abbrev pub uses_step : Expr-F (List Use) → List Use
-uses_step (Expr-F.Ref name select) = record { name = name; select = select } ∷ []
+uses_step (Expr-F.Ref select name) = record { name = name; select = select } ∷ []
 uses_step (Expr-F.Lit literal) = []
 uses_step (Expr-F.LooseNumber number) = []
 uses_step (Expr-F.Loose based) = []

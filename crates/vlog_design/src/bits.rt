@@ -109,18 +109,20 @@ pub fn push_bits(alloc: Global, table: &Table, expr: &Expr, out: &mut Runs) -> R
     ensures added { OnOk result (out.new ≡ out.old ++ bits table.now expr.now) }
 {
     match expr {
-        Expr::Ref { name, select } => match table.find(name.bytes()) {
+        Expr::Ref { select, name } => match table.find(name.bytes()) {
             None => Ok(()),
             Some(slot) => push_selected(slot, *select, out),
         },
         Expr::Lit(literal) => {
-            let literal_bits = filled_bits_of(alloc, literal)?;
+            let literal_bits = filled_bits_of(alloc, literal.get())?;
             push_literal(&literal_bits, out)
         }
         Expr::LooseNumber(_) => Ok(()),
         Expr::Loose(_) => Ok(()),
         Expr::Cat(parts) => push_parts(alloc, table, parts.items(), out),
-        Expr::Rep(count, parts) => push_replication(alloc, table, times(count), parts.items(), out),
+        Expr::Rep(count, parts) => {
+            push_replication(alloc, table, times(count), parts.get().items(), out)
+        }
     }
 }
 

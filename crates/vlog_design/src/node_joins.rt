@@ -75,7 +75,7 @@ fn push_part_joins(
         ≡ out.old.items ++ joins_between left (bits table.now expr.now)) }
     ensures left { IfOk result (λ rest. rest ≡ drop (length (bits table.now expr.now)) left) }
 {
-    if let Expr::Ref { name, select } = expr {
+    if let Expr::Ref { select, name } = expr {
         return match table.find(name.bytes()) {
             None => Ok(left),
             Some(slot) => push_selected_joins(left, slot, *select, out),

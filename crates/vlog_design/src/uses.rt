@@ -20,7 +20,7 @@ pub fn push_uses<'a>(expr: &'a Expr, out: &mut Vec<UseOf<'a>>) -> Result<(), NoM
     ensures added { OnOk result (uses_of out.new.items ≡ uses_of out.old.items ++ uses expr.now) }
 {
     match expr {
-        Expr::Ref { name, select } => {
+        Expr::Ref { select, name } => {
             out.push(UseOf {
                 name: name.bytes(),
                 select: *select,
@@ -31,7 +31,7 @@ pub fn push_uses<'a>(expr: &'a Expr, out: &mut Vec<UseOf<'a>>) -> Result<(), NoM
         Expr::LooseNumber(_) => Ok(()),
         Expr::Loose(_) => Ok(()),
         Expr::Cat(parts) => push_all_uses(parts.items(), out),
-        Expr::Rep(_, parts) => push_all_uses(parts.items(), out),
+        Expr::Rep(_, parts) => push_all_uses(parts.get().items(), out),
     }
 }
 

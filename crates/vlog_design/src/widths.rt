@@ -64,15 +64,17 @@ pub fn expr_width(table: &Table, expr: &Expr) -> u64
     ensures { result ≡ min (2 ^ 64 - 1) (width table.now expr.now) }
 {
     match expr {
-        Expr::Ref { name, select } => match table.find(name.bytes()) {
+        Expr::Ref { select, name } => match table.find(name.bytes()) {
             None => 0,
             Some(slot) => selected_width(slot.range, *select),
         },
-        Expr::Lit(literal) => u64::from(literal.size),
+        Expr::Lit(literal) => u64::from(literal.get().size),
         Expr::LooseNumber(_) => 0,
         Expr::Loose(_) => 0,
         Expr::Cat(parts) => parts_width(table, parts.items()),
-        Expr::Rep(count, parts) => times(count).saturating_mul(parts_width(table, parts.items())),
+        Expr::Rep(count, parts) => {
+            times(count).saturating_mul(parts_width(table, parts.get().items()))
+        }
     }
 }
 

@@ -29,12 +29,12 @@ Named levels e = IsExprWithin levels e → AllByRecursion (λ u. IsName u.name) 
 abbrev pub AreUses : List Use → Type 0
 AreUses us = AllByRecursion (λ u. IsName u.name) us
 
-expr_cases : (P : Expr → Type 0) → ((name : List ℕ) (s : Select) → P (expr.Ref name s)) → ((l : Literal) → P (expr.Lit l)) → ((n : ℤ) → P (expr.LooseNumber n)) → ((b : Based) → P (expr.Loose b))
+expr_cases : (P : Expr → Type 0) → ((name : List ℕ) (s : Select) → P (expr.Ref s name)) → ((l : Literal) → P (expr.Lit l)) → ((n : ℤ) → P (expr.LooseNumber n)) → ((b : Based) → P (expr.Loose b))
     → ((es : List Expr) → P (expr.Cat es)) → ((n : ℤ) (es : List Expr) → P (expr.Rep n es)) → (e : Expr) → P e
 expr_cases P ref lit number loose cat rep e = ind-Expr P (λ x y h. by_layer x) e
   where
     by_layer : (x : Expr-F Expr) → P (roll-Expr x)
-    by_layer (Expr-F.Ref name s) = subst P (sym (rolls-Ref name s)) (ref name s)
+    by_layer (Expr-F.Ref s name) = subst P (sym (rolls-Ref s name)) (ref name s)
     by_layer (Expr-F.Lit l) = subst P (sym (rolls-Lit l)) (lit l)
     by_layer (Expr-F.LooseNumber n) = subst P (sym (rolls-LooseNumber n)) (number n)
     by_layer (Expr-F.Loose b) = subst P (sym (rolls-Loose b)) (loose b)
@@ -43,7 +43,7 @@ expr_cases P ref lit number loose cat rep e = ind-Expr P (λ x y h. by_layer x) 
 
 plain_named : (levels : ℕ) → ((es : List Expr) → Named levels (expr.Cat es)) → ((n : ℤ) (es : List Expr) → Named levels (expr.Rep n es)) → (e : Expr) → Named levels e
 plain_named levels cat rep e = expr_cases (Named levels)
-    (λ name s h. let good = is_layer levels (expr.Ref name s) (Expr-F.Ref name s) (out-Ref name s) h in subst AreUses (sym (uses-Ref name s)) (good.0, tt))
+    (λ name s h. let good = is_layer levels (expr.Ref s name) (Expr-F.Ref s name) (out-Ref name s) h in subst AreUses (sym (uses-Ref name s)) (good.0, tt))
     (λ l h. subst AreUses (sym (uses-Lit l)) tt)
     (λ n h. subst AreUses (sym (uses-LooseNumber n)) tt)
     (λ b h. subst AreUses (sym (uses-Loose b)) tt)

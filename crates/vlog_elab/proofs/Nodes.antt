@@ -112,7 +112,7 @@ module _ (cells : List HCell) (ms : List Module) (m : Module) where
   parts_nodes (p ∷ parts) = each_both IsBitOfCell (bits (signals m) p.0) (flat_map (bits (signals m)) (map (λ q. q.0) parts)) p.1 (parts_nodes parts)
 
   has_nodes : (y : Expr-F ((e : Expr) × HasNodes e)) → HasNodes (roll-Expr (map-Expr ((e : Expr) × HasNodes e) Expr (λ e. e.0) y))
-  has_nodes (Expr-F.Ref name select) = rw (rolls-Ref, bits-Ref) (name_bits (signal_named (signals m) name) name select refl)
+  has_nodes (Expr-F.Ref select name) = rw (rolls-Ref, bits-Ref) (name_bits (signal_named (signals m) name) name select refl)
   has_nodes (Expr-F.Lit literal) = rw (rolls-Lit, bits-Lit) (each_map IsBitOfCell constant_bit (literal_bits literal) (λ i bit is. literal_bit bit))
   has_nodes (Expr-F.LooseNumber number) = rw (rolls-LooseNumber, bits-LooseNumber) (λ i bit is. absurd (cc))
   has_nodes (Expr-F.Loose based) = rw (rolls-Loose, bits-Loose) (λ i bit is. absurd (cc))

@@ -168,7 +168,7 @@ ClearExpr p = (F : Follows Expr) → ((e : Expr) (x : Next) → F e x → AfterE
 
 clear_rest : (inner : Vlog Expr) (start : ExprStart) → ClearExpr inner → ClearExpr (expr_rest inner start)
 unfolding expr_rest
-clear_rest inner (starts.Name n) c F h = (clear_select (λ s. Comes (gives (exprs.Ref n s)) F) (λ s x m. (h (exprs.Ref n s) x (given (exprs.Ref n s) F x m)).no_bracket), λ _. tt)
+clear_rest inner (starts.Name n) c F h = (clear_select (λ s. Comes (gives (exprs.Ref s n)) F) (λ s x m. (h (exprs.Ref s n) x (given (exprs.Ref s n) F x m)).no_bracket), λ _. tt)
 clear_rest inner (starts.Number n) c F h = clear_sized n F (λ e x m. (h e x m).no_digits)
 clear_rest inner (starts.Based b) c F h = tt
 clear_rest inner starts.Brace c F h = c F h

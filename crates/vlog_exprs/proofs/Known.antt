@@ -271,12 +271,12 @@ number_within levels n is = is_expr levels (exprs.LooseNumber n) (Expr-F.LooseNu
 pub loose_good : (left : Bool) (levels : ℕ) (b : Based) → (left ≡ false) × IsBased b → IsGood left levels (exprs.Loose b)
 loose_good left levels b is = right_good left levels (exprs.Loose b) is.0 (is_expr levels (exprs.Loose b) (Expr-F.Loose b) (out-Loose b) is.1)
 
-ref_side : (left : Bool) (n : List ℕ) (s : Select) → IsSide left (exprs.Ref n s)
+ref_side : (left : Bool) (n : List ℕ) (s : Select) → IsSide left (exprs.Ref s n)
 ref_side false n s = tt
 ref_side true n s = left-Ref n s
 
-pub ref_good : (left : Bool) (levels : ℕ) (n : List ℕ) (s : Select) → IsName n → IsSelect s → IsGood left levels (exprs.Ref n s)
-ref_good left levels n s is_name is_select = record { within = is_expr levels (exprs.Ref n s) (Expr-F.Ref n s) (out-Ref n s) (is_name, is_select); side = ref_side left n s }
+pub ref_good : (left : Bool) (levels : ℕ) (n : List ℕ) (s : Select) → IsName n → IsSelect s → IsGood left levels (exprs.Ref s n)
+ref_good left levels n s is_name is_select = record { within = is_expr levels (exprs.Ref s n) (Expr-F.Ref s n) (out-Ref n s) (is_name, is_select); side = ref_side left n s }
 
 -- ---- braces
 

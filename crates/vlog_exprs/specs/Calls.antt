@@ -1,5 +1,5 @@
 -- What a call answers for what a token says.
-use Rattle.std.specs.Prelude.{◌≡◌, ℕ, ◌<◌, ◌≤◌, not, ◌&&◌, List, [], length, is_none, Result, Ok, Err, IfOk, IfSome, Option, Some, None, is_some, Bool, true, false, if◌then◌else◌}
+use Rattle.std.specs.Prelude.{◌≡◌, ℕ, ◌<◌, ◌≤◌, not, ◌&&◌, List, [], length, is_none, Result, Ok, Err, IfOk, OnOk, IfErr, IfSome, Option, Some, None, is_some, Bool, true, false, if◌then◌else◌}
 use Rattle.nl_base.specs.declared.place.Place.{Place}
 use Rattle.nl_base.specs.declared.fault.Reason.{Reason}
 use Rattle.nl_base.specs.declared.fault.ReadError.{ReadError}
@@ -130,3 +130,9 @@ pub record LooksOut (result : Result (Option VFound) ReadError) (old new : Reade
 abbrev pub stands : Bool → Option (Unit {0})
 stands true = Some tt
 stands false = None
+
+-- The value stands at a place of its own, or memory ran out.
+pub record Boxes {K X T : Type 0} (item : T) (result : Result T ReadError) (old new : Reader K X) : Type 0 where
+  pub boxed : IfOk result (λ value. value ≡ item)
+  pub kept : OnOk result (new ≡ old)
+  pub failed : IfErr result (λ e. (e ≡ errors.NoMemory) × (new ≡ spoilt old))

@@ -43,7 +43,7 @@ pub data ListText {A : Type 0} (P : Tokens → A → Type 0) : Tokens → List A
 -- ref | NUM BASED | NUM | BASED; on the left side of an assignment ref alone
 -- ref     = NAME ["[" bound "]" | "[" bound ":" bound "]"]
 pub data PlainText (left : Bool) (ts : Tokens) (e : Expr) : Type 0 where
-  ref : (n : List ℕ) (s : Select) (a b : Tokens) → ts ≡ a ++ b → IsToken (token.Name n) a → SelectText b s → e ≡ exprs.Ref n s → PlainText left ts e
+  ref : (n : List ℕ) (s : Select) (a b : Tokens) → ts ≡ a ++ b → IsToken (token.Name n) a → SelectText b s → e ≡ exprs.Ref s n → PlainText left ts e
   literal : (n : ℤ) (d : Based) (a b : Tokens) → left ≡ false → ts ≡ a ++ b → IsToken (token.Number n) a → IsToken (token.Based d) b → is_size n ≡ true → e ≡ exprs.Lit (record { size = nat_abs n; based = d }) → PlainText left ts e
   number : (n : ℤ) → left ≡ false → IsToken (token.Number n) ts → e ≡ exprs.LooseNumber n → PlainText left ts e
   loose : (d : Based) → left ≡ false → IsToken (token.Based d) ts → e ≡ exprs.Loose d → PlainText left ts e

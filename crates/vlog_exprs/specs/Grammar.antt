@@ -132,7 +132,7 @@ expr_start left room = one (λ _ x. say.expr_start left room x.token)
 -- the rest of an expression, of which `inside` reads on behind a brace
 -- ref     = NAME ["[" bound "]" | "[" bound ":" bound "]"]
 unfoldable pub expr_rest : Vlog Expr → ExprStart → Vlog Expr
-expr_rest inside (starts.Name n) = sequence select (λ s. gives (exprs.Ref n s))
+expr_rest inside (starts.Name n) = sequence select (λ s. gives (exprs.Ref s n))
 expr_rest inside (starts.Number n) = sized n
 expr_rest inside (starts.Based b) = gives (exprs.Loose b)
 expr_rest inside starts.Brace = inside

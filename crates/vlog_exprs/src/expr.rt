@@ -120,7 +120,10 @@ fn read_sized<S: Source>(
     ensures size { IfOk result (λ e. expr_size e ≡ 0) }
 {
     match takes_digits(alloc, cursor, number, source)? {
-        Some(literal) => Ok(Expr::Lit(literal)),
+        Some(literal) => {
+            let literal = cursor.boxed(alloc, literal)?;
+            Ok(Expr::Lit(literal))
+        }
         None => Ok(Expr::LooseNumber(number)),
     }
 }
@@ -148,7 +151,7 @@ fn read_rest<S: Source>(
     match start {
         ExprStart::Name(name) => {
             let select = read_select(alloc, cursor, source)?;
-            Ok(Expr::Ref { name, select })
+            Ok(Expr::Ref { select, name })
         }
         ExprStart::Number(number) => {
             let expr = read_sized(alloc, cursor, number, source)?;
@@ -233,6 +236,7 @@ fn read_replicated<S: Source>(
     let first = read_expr_in(alloc, cursor, left, levels, source)?;
     let exprs = read_list(alloc, cursor, left, levels, first, source)?;
     cursor.mark(alloc, b'}', source)?;
+    let exprs = cursor.boxed(alloc, exprs)?;
     Ok(Expr::Rep(count, exprs))
 }
 

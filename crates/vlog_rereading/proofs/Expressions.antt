@@ -159,12 +159,12 @@ attrs_front (a ∷ as_written) ts good =
 
 -- ---- expressions
 
-pub expr_cases : (P : Expr → Type 0) → ((name : List ℕ) (s : Select) → P (expr.Ref name s)) → ((l : Literal) → P (expr.Lit l)) → ((n : ℤ) → P (expr.LooseNumber n)) → ((b : Based) → P (expr.Loose b))
+pub expr_cases : (P : Expr → Type 0) → ((name : List ℕ) (s : Select) → P (expr.Ref s name)) → ((l : Literal) → P (expr.Lit l)) → ((n : ℤ) → P (expr.LooseNumber n)) → ((b : Based) → P (expr.Loose b))
     → ((es : List Expr) → P (expr.Cat es)) → ((n : ℤ) (es : List Expr) → P (expr.Rep n es)) → (e : Expr) → P e
 expr_cases P ref lit number loose cat rep e = ind-Expr P (λ x y h. by_layer x) e
   where
     by_layer : (x : Expr-F Expr) → P (roll-Expr x)
-    by_layer (Expr-F.Ref name s) = subst P (sym (rolls-Ref name s)) (ref name s)
+    by_layer (Expr-F.Ref s name) = subst P (sym (rolls-Ref s name)) (ref name s)
     by_layer (Expr-F.Lit l) = subst P (sym (rolls-Lit l)) (lit l)
     by_layer (Expr-F.LooseNumber n) = subst P (sym (rolls-LooseNumber n)) (number n)
     by_layer (Expr-F.Loose b) = subst P (sym (rolls-Loose b)) (loose b)
@@ -229,14 +229,14 @@ Starts on_left room e = Fits on_left room e → (ts : List VToken) → Started o
 plain_started : (on_left : Bool) (room : ℕ) → ((es : List Expr) → Starts on_left room (expr.Cat es)) → ((n : ℤ) (es : List Expr) → Starts on_left room (expr.Rep n es)) → (e : Expr) → Starts on_left room e
 unfolding expr_rest sized
 plain_started on_left room cat rep e = expr_cases (Starts on_left room)
-    (λ name s fits ts. let good = is_layer room (expr.Ref name s) (Expr-F.Ref name s) (out-Ref name s) fits.within in record {
+    (λ name s fits ts. let good = is_layer room (expr.Ref s name) (Expr-F.Ref s name) (out-Ref name s) fits.within in record {
       token = t.Name name;
       start = starts.Name name;
       mid = select_tokens s ts;
       is = ap (λ f. tokens f ts) (ref_is name s) ∙ ref_tokens name s ts;
       says = refl;
       glance = refl;
-      rest = at_last {g = λ s. expr.Ref name s} (select_front s ts good.1);
+      rest = at_last {g = λ s. expr.Ref s name} (select_front s ts good.1);
     })
     (λ l fits ts.
     let good = is_layer room (expr.Lit l) (Expr-F.Lit l) (out-Lit l) fits.within in

@@ -171,7 +171,7 @@ Fits levels e = IsExprWithin levels e → IsWritable (form.expr_form e)
 
 plain_writable : (levels : ℕ) → ((es : List Expr) → Fits levels (expr.Cat es)) → ((n : ℤ) (es : List Expr) → Fits levels (expr.Rep n es)) → (e : Expr) → Fits levels e
 plain_writable levels cat rep e = expr_cases (Fits levels)
-    (λ name s h. let good = is_layer levels (expr.Ref name s) (Expr-F.Ref name s) (out-Ref name s) h in rw (ref_is name s) (ref_writable name s good.0 good.1))
+    (λ name s h. let good = is_layer levels (expr.Ref s name) (Expr-F.Ref s name) (out-Ref name s) h in rw (ref_is name s) (ref_writable name s good.0 good.1))
     (λ l h. let good = is_layer levels (expr.Lit l) (Expr-F.Lit l) (out-Lit l) h in rw (lit_is l) good)
     (λ n h. let good = is_layer levels (expr.LooseNumber n) (Expr-F.LooseNumber n) (out-LooseNumber n) h in rw (number_is n) good.number)
     (λ b h. let good = is_layer levels (expr.Loose b) (Expr-F.Loose b) (out-Loose b) h in rw (loose_is b) good)

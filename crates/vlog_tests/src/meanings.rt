@@ -10,13 +10,13 @@ use vlog_design::signals::{SignalAt, Slot};
 use vlog_design::table::Table;
 use vlog_design::uses::uses_in;
 use vlog_design::widths::expr_width;
-use vlog_values::{Assignment, Assigns, Expr, Header, ItemV, Module, Select};
+use vlog_values::{Assignment, Assigns, Boxed, Expr, Header, ItemV, Module, Select};
 
 fn reference(alloc: Global, name: &[u8]) -> Result<Expr, Fail> {
     let name = Text::copy(alloc, name)?;
     Ok(Expr::Ref {
-        name,
         select: Select::All,
+        name,
     })
 }
 
@@ -28,7 +28,7 @@ fn repeated_width(alloc: Global, count: Int) -> Result<u64, Fail> {
     table.add(b"b".as_slice(), Slot { range, place })?;
     let mut parts = Seq::empty(alloc);
     parts.push(reference(alloc, b"b")?)?;
-    let expr = Expr::Rep(count, parts);
+    let expr = Expr::Rep(count, Boxed::new(alloc, parts)?);
     Ok(expr_width(&table, &expr))
 }
 

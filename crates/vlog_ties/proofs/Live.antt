@@ -31,9 +31,9 @@ use Rattle.vlog_ties.proofs.Spelled.{every_append}
 -- the live width by the variants of an expression
 
 module _ (signals : List Signal) where
-  pub live-Ref : (name : Name) (select : Select) → live_width signals (Ref name select) ≡ span_count (span_of (signal_named signals name) select)
+  pub live-Ref : (name : Name) (select : Select) → live_width signals (Ref select name) ≡ span_count (span_of (signal_named signals name) select)
   unfolding live_width
-  live-Ref name select = ap (live_width signals) (sym (rolls-Ref name select)) ∙ fold-roll-Expr ℕ (live_step signals) (Expr-F.Ref name select)
+  live-Ref name select = ap (live_width signals) (sym (rolls-Ref select name)) ∙ fold-roll-Expr ℕ (live_step signals) (Expr-F.Ref select name)
 
   pub live-Lit : (literal : Literal) → live_width signals (Lit literal) ≡ count_by is_live (literal_bits literal)
   unfolding live_width
@@ -118,7 +118,7 @@ module _ (signals : List Signal) where
       omega (arith, somes-append (bits signals p.0) (flat_map (bits signals) es), sum_by-cons (live_width signals) p.0 es, p.1, parts_counted parts)
 
   is_counted : (y : Expr-F ((e : Expr) × IsCounted e)) → IsCounted (roll-Expr (map-Expr ((e : Expr) × IsCounted e) Expr (λ e. e.0) y))
-  is_counted (Expr-F.Ref name select) = rw (rolls-Ref, bits-Ref, live-Ref) (use_there (signal_named signals name) select)
+  is_counted (Expr-F.Ref select name) = rw (rolls-Ref, bits-Ref, live-Ref) (use_there (signal_named signals name) select)
   is_counted (Expr-F.Lit literal) = rw (rolls-Lit, bits-Lit, live-Lit) (constants_there (literal_bits literal))
   is_counted (Expr-F.LooseNumber number) = rw (rolls-LooseNumber, bits-LooseNumber, live-LooseNumber) refl
   is_counted (Expr-F.Loose based) = rw (rolls-Loose, bits-Loose, live-Loose) refl
@@ -159,7 +159,7 @@ module _ (signals : List Signal) where
       every_append IsThere (bits signals p.0) (flat_map (bits signals) es) (p.1 both.0) (parts_whole parts both.1)
 
   is_whole : (y : Expr-F ((e : Expr) × IsWhole e)) → IsWhole (roll-Expr (map-Expr ((e : Expr) × IsWhole e) Expr (λ e. e.0) y))
-  is_whole (Expr-F.Ref name select) = rw (rolls-Ref, bits-Ref) (λ h. use_every (signal_named signals name) select)
+  is_whole (Expr-F.Ref select name) = rw (rolls-Ref, bits-Ref) (λ h. use_every (signal_named signals name) select)
   is_whole (Expr-F.Lit literal) = rw (rolls-Lit, left-Lit) (λ h. absurd cc)
   is_whole (Expr-F.LooseNumber number) = rw (rolls-LooseNumber, left-LooseNumber) (λ h. absurd cc)
   is_whole (Expr-F.Loose based) = rw (rolls-Loose, left-Loose) (λ h. absurd cc)

@@ -168,7 +168,7 @@ module _ (names : List Signal) (all : All (λ (signal : Signal). width_of signal
       omega (arith, sum_by-cons (width names) p.0 es, sum_by-cons expr_size p.0 es, p.1 both.0, parts_narrow parts both.1)
 
   is_narrow : (y : Expr-F ((e : Expr) × IsNarrowLeft e)) → IsNarrowLeft (roll-Expr (map-Expr ((e : Expr) × IsNarrowLeft e) Expr (λ e. e.0) y))
-  is_narrow (Expr-F.Ref name select) = rw (rolls-Ref, width-Ref) (λ h. omega (arith, use_narrow name select (signal_named names name) refl))
+  is_narrow (Expr-F.Ref select name) = rw (rolls-Ref, width-Ref) (λ h. omega (arith, use_narrow name select (signal_named names name) refl))
   is_narrow (Expr-F.Lit literal) = rw (rolls-Lit, left-Lit) (λ h. absurd cc)
   is_narrow (Expr-F.LooseNumber number) = rw (rolls-LooseNumber, left-LooseNumber) (λ h. absurd cc)
   is_narrow (Expr-F.Loose based) = rw (rolls-Loose, left-Loose) (λ h. absurd cc)

@@ -29,9 +29,9 @@ every_part Q P f g (x ∷ xs) h = every_append P (f x) (flat_map f xs) (g x h.0)
 
 -- the literals of the variants that hold none
 
-literals-Ref : (name : List ℕ) (select : Select) → literals (expr.Ref name select) ≡ []
+literals-Ref : (name : List ℕ) (select : Select) → literals (expr.Ref select name) ≡ []
 unfolding literals
-literals-Ref name select = ap literals (sym (rolls-Ref name select)) ∙ fold-roll-Expr (List Literal) literals_step (Expr-F.Ref name select)
+literals-Ref name select = ap literals (sym (rolls-Ref select name)) ∙ fold-roll-Expr (List Literal) literals_step (Expr-F.Ref select name)
 
 literals-LooseNumber : (n : ℤ) → literals (expr.LooseNumber n) ≡ []
 unfolding literals
@@ -42,12 +42,12 @@ unfolding literals
 literals-Loose b = ap literals (sym (rolls-Loose b)) ∙ fold-roll-Expr (List Literal) literals_step (Expr-F.Loose b)
 
 -- an expression is one of its variants
-pub expr_cases : (P : Expr → Type 0) → ((name : List ℕ) (s : Select) → P (expr.Ref name s)) → ((l : Literal) → P (expr.Lit l)) → ((n : ℤ) → P (expr.LooseNumber n)) → ((b : Based) → P (expr.Loose b))
+pub expr_cases : (P : Expr → Type 0) → ((name : List ℕ) (s : Select) → P (expr.Ref s name)) → ((l : Literal) → P (expr.Lit l)) → ((n : ℤ) → P (expr.LooseNumber n)) → ((b : Based) → P (expr.Loose b))
     → ((es : List Expr) → P (expr.Cat es)) → ((n : ℤ) (es : List Expr) → P (expr.Rep n es)) → (e : Expr) → P e
 expr_cases P ref lit number loose cat rep e = ind-Expr P (λ x y h. by_layer x) e
   where
     by_layer : (x : Expr-F Expr) → P (roll-Expr x)
-    by_layer (Expr-F.Ref name s) = subst P (sym (rolls-Ref name s)) (ref name s)
+    by_layer (Expr-F.Ref s name) = subst P (sym (rolls-Ref s name)) (ref name s)
     by_layer (Expr-F.Lit l) = subst P (sym (rolls-Lit l)) (lit l)
     by_layer (Expr-F.LooseNumber n) = subst P (sym (rolls-LooseNumber n)) (number n)
     by_layer (Expr-F.Loose b) = subst P (sym (rolls-Loose b)) (loose b)

@@ -57,19 +57,19 @@ fn live_width(alloc: Global, table: &Table, expr: &Expr) -> Result<u64, NoMemory
     ensures { IfOk result (λ count. count ≡ min (2 ^ 64 - 1) (live_width table.now expr.now)) }
 {
     match expr {
-        Expr::Ref { name, select } => match table.find(name.bytes()) {
+        Expr::Ref { select, name } => match table.find(name.bytes()) {
             None => Ok(0),
             Some(slot) => Ok(selected_width(slot.range, *select)),
         },
         Expr::Lit(literal) => {
-            let bits = filled_bits_of(alloc, literal)?;
+            let bits = filled_bits_of(alloc, literal.get())?;
             Ok(live_copies(bits.fill, bits.filled).saturating_add(live_bits(&bits.own)))
         }
         Expr::LooseNumber(_) => Ok(0),
         Expr::Loose(_) => Ok(0),
         Expr::Cat(parts) => live_width_in(alloc, table, parts.items()),
         Expr::Rep(count, parts) => {
-            let once = live_width_in(alloc, table, parts.items())?;
+            let once = live_width_in(alloc, table, parts.get().items())?;
             Ok(times(count).saturating_mul(once))
         }
     }

@@ -18,7 +18,7 @@ pub fn has_loose(expr: &Expr) -> bool
         Expr::LooseNumber(_) => true,
         Expr::Loose(_) => true,
         Expr::Cat(parts) => any_loose(parts.items()),
-        Expr::Rep(_, parts) => any_loose(parts.items()),
+        Expr::Rep(_, parts) => any_loose(parts.get().items()),
     }
 }
 
@@ -45,7 +45,7 @@ pub fn first_use(expr: &Expr) -> Option<&[u8]>
         Expr::LooseNumber(_) => None,
         Expr::Loose(_) => None,
         Expr::Cat(parts) => first_use_in(parts.items()),
-        Expr::Rep(_, parts) => first_use_in(parts.items()),
+        Expr::Rep(_, parts) => first_use_in(parts.get().items()),
     }
 }
 

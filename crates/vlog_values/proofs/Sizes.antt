@@ -12,9 +12,9 @@ use Rattle.vlog_values.specs.declared.expression.Expr.TheVariants as expr
 use Rattle.vlog_values.specs.declared.expression.Expr.TheVariants.{rolls-Ref, rolls-Lit, rolls-LooseNumber, rolls-Loose, rolls-Cat, rolls-Rep}
 use Rattle.vlog_values.specs.Sizes.{list_size, expr_step, expr_size}
 
-pub size-Ref : (name : List ℕ) (select : Select) → expr_size (expr.Ref name select) ≡ 0
+pub size-Ref : (name : List ℕ) (select : Select) → expr_size (expr.Ref select name) ≡ 0
 unfolding expr_size
-size-Ref name select = ap expr_size (sym (rolls-Ref name select)) ∙ fold-roll-Expr ℕ expr_step (Expr-F.Ref name select)
+size-Ref name select = ap expr_size (sym (rolls-Ref select name)) ∙ fold-roll-Expr ℕ expr_step (Expr-F.Ref select name)
 
 pub size-Lit : (l : Literal) → expr_size (expr.Lit l) ≡ 0
 unfolding expr_size

@@ -14,8 +14,8 @@ use Rattle.vlog_values.specs.Values.{AreSome, IsLayer, IsExprWithin, left_step, 
 
 -- ---- one layer of an expression
 
-pub out-Ref : (name : List ℕ) (select : Select) → out-Expr (expr.Ref name select) ≡ Expr-F.Ref name select
-out-Ref name select = ap out-Expr (sym (rolls-Ref name select)) ∙ out-roll-Expr (Expr-F.Ref name select)
+pub out-Ref : (name : List ℕ) (select : Select) → out-Expr (expr.Ref select name) ≡ Expr-F.Ref select name
+out-Ref name select = ap out-Expr (sym (rolls-Ref select name)) ∙ out-roll-Expr (Expr-F.Ref select name)
 
 pub out-Lit : (l : Literal) → out-Expr (expr.Lit l) ≡ Expr-F.Lit l
 out-Lit l = ap out-Expr (sym (rolls-Lit l)) ∙ out-roll-Expr (Expr-F.Lit l)
@@ -52,9 +52,9 @@ is_layer (suc levels) e x h is = subst (λ x. IsLayer (AreSome (IsExprWithin lev
 
 -- ---- expressions that may stand on the left
 
-pub left-Ref : (name : List ℕ) (select : Select) → is_left (expr.Ref name select) ≡ true
+pub left-Ref : (name : List ℕ) (select : Select) → is_left (expr.Ref select name) ≡ true
 unfolding is_left
-left-Ref name select = ap is_left (sym (rolls-Ref name select)) ∙ fold-roll-Expr Bool left_step (Expr-F.Ref name select)
+left-Ref name select = ap is_left (sym (rolls-Ref select name)) ∙ fold-roll-Expr Bool left_step (Expr-F.Ref select name)
 
 pub left-Lit : (l : Literal) → is_left (expr.Lit l) ≡ false
 unfolding is_left

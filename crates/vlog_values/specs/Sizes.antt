@@ -27,7 +27,7 @@ list_size size xs = sum_by size xs + length xs
 
 -- an expression, by the sizes of those in its braces
 abbrev pub expr_step : Expr-F ℕ → ℕ
-expr_step (Expr-F.Ref name select) = 0
+expr_step (Expr-F.Ref select name) = 0
 expr_step (Expr-F.Lit literal) = 0
 expr_step (Expr-F.LooseNumber n) = 0
 expr_step (Expr-F.Loose based) = 0

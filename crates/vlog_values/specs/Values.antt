@@ -112,7 +112,7 @@ IsSelect (selects.Slice left right) = IsBound left × IsBound right
 
 -- an expression, where those in its braces are such
 abbrev pub IsLayer : (List Expr → Type 0) → Expr-F Expr → Type 0
-IsLayer Inside (Expr-F.Ref name select) = IsName name × IsSelect select
+IsLayer Inside (Expr-F.Ref select name) = IsName name × IsSelect select
 IsLayer Inside (Expr-F.Lit literal) = IsLiteral literal
 IsLayer Inside (Expr-F.LooseNumber n) = IsCount n
 IsLayer Inside (Expr-F.Loose based) = IsBased based
@@ -130,7 +130,7 @@ IsExpr e = IsExprWithin 64 e
 
 -- whether an expression is a reference or a concatenation of such, by those in its braces
 abbrev pub left_step : Expr-F Bool → Bool
-left_step (Expr-F.Ref name select) = true
+left_step (Expr-F.Ref select name) = true
 left_step (Expr-F.Lit literal) = false
 left_step (Expr-F.LooseNumber n) = false
 left_step (Expr-F.Loose based) = false

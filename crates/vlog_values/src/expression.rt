@@ -1,4 +1,5 @@
 // Constants, attributes and expressions (IEEE 1364-2005, 3.5, 3.8 and 5.1.14).
+use crate::boxed::Boxed;
 use crate::literal::{Based, Literal};
 use nl_base::{Int, Scaled, Seq, Text};
 
@@ -29,11 +30,12 @@ pub enum Select {
     Slice(i32, i32),
 }
 
-/// An expression. Its braces are at most 64 deep, and the lists of a concatenation and a replication are not empty.
+/// An expression. Its braces are at most 64 deep, and the lists of a concatenation and a replication are not empty. The parts that would
+/// make it larger than a reference stand at places of their own, since most expressions of a netlist are references.
 #[derive(Drop)]
 pub enum Expr {
-    Ref { name: Text, select: Select },
-    Lit(Literal),
+    Ref { select: Select, name: Text },
+    Lit(Boxed<Literal>),
     /// A decimal number without a size.
     LooseNumber(Int),
     /// A based literal without a size.
@@ -41,5 +43,5 @@ pub enum Expr {
     /// A concatenation, from the left.
     Cat(Seq<Expr>),
     /// A replication: how often the concatenation stands.
-    Rep(Int, Seq<Expr>),
+    Rep(Int, Boxed<Seq<Expr>>),
 }

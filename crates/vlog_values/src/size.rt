@@ -56,7 +56,7 @@ fn count_expr(expr: &Expr) -> u64
 {
     match expr {
         Expr::Cat(exprs) => count_exprs(exprs.items()),
-        Expr::Rep(_, exprs) => count_exprs(exprs.items()),
+        Expr::Rep(_, exprs) => count_exprs(exprs.get().items()),
         Expr::Ref { .. } | Expr::Lit(_) | Expr::LooseNumber(_) | Expr::Loose(_) => 0,
     }
 }

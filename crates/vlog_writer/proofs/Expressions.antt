@@ -12,8 +12,8 @@ use Rattle.vlog_values.specs.declared.literal.Literal.{Literal}
 use Rattle.vlog_writer.specs.Layout.{Form, Number, Sized, Loose, ◌▸◌, each}
 use Rattle.vlog_writer.specs.Forms.{braced, cat_form, expr_form, expr_step, ref_form}
 
-pub ref_is : (name : List ℕ) (select : Select) → expr_form (expr.Ref name select) ≡ ref_form name select
-ref_is name select = ap expr_form (sym (rolls-Ref name select)) ∙ fold-roll-Expr Form expr_step (Expr-F.Ref name select)
+pub ref_is : (name : List ℕ) (select : Select) → expr_form (expr.Ref select name) ≡ ref_form name select
+ref_is name select = ap expr_form (sym (rolls-Ref select name)) ∙ fold-roll-Expr Form expr_step (Expr-F.Ref select name)
 
 pub lit_is : (l : Literal) → expr_form (expr.Lit l) ≡ Sized l
 lit_is l = ap expr_form (sym (rolls-Lit l)) ∙ fold-roll-Expr Form expr_step (Expr-F.Lit l)

@@ -109,7 +109,7 @@ cat_form fs = braced (Listed fs)
 
 -- an expression, from the forms of its expressions (5.1.14)
 abbrev pub expr_step : Expr-F Form → Form
-expr_step (Expr-F.Ref name select) = ref_form name select
+expr_step (Expr-F.Ref select name) = ref_form name select
 expr_step (Expr-F.Lit literal) = Sized literal
 expr_step (Expr-F.LooseNumber n) = Number n
 expr_step (Expr-F.Loose based) = Loose based

@@ -123,15 +123,15 @@ pub(crate) fn write_expr<O: Sink>(expr: &Expr, output: &mut Output, sink: &mut O
         (state O.receipt sink.old output.old) (state O.receipt sink.new output.new) }
 {
     match expr {
-        Expr::Ref { name, select } => write_ref(name, *select, output, sink),
-        Expr::Lit(literal) => write_literal(literal, output, sink),
+        Expr::Ref { select, name } => write_ref(name, *select, output, sink),
+        Expr::Lit(literal) => write_literal(literal.get(), output, sink),
         Expr::LooseNumber(number) => output.put_int(number, sink),
         Expr::Loose(based) => write_based(based, output, sink),
         Expr::Cat(exprs) => write_cat(exprs.items(), output, sink),
         Expr::Rep(count, exprs) => {
             output.put(b"{", sink);
             output.put_int(count, sink);
-            write_cat(exprs.items(), output, sink);
+            write_cat(exprs.get().items(), output, sink);
             output.put(b"}", sink);
         }
     }

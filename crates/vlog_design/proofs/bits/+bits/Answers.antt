@@ -11,13 +11,13 @@ pub push_bits-push_selected-requires : goal.push_bits-push_selected-requires
 push_bits-push_selected-requires t c = all_found HasNumbers _ _ _ c.requires.numbers (sym c.find.ensures ∙ c.in-Some.is)
 
 pub push_bits-filled_bits_of-requires : goal.push_bits-filled_bits_of-requires
-push_bits-filled_bits_of-requires t c = (rw (c.in-Lit.is, literals-Lit) at c.requires.digits) 0 c.in-Lit.literal (omega arith)
+push_bits-filled_bits_of-requires t c = (rw (c.in-Lit.is, literals-Lit, ← c.get.ensures) at c.requires.digits) 0 c.get.result.now (omega arith)
 
 pub push_bits-push_parts-requires : goal.push_bits-push_parts-requires
 push_bits-push_parts-requires t c = (search (rules, the_lemmas), ((rw (c.in-Cat.is, literals-Cat, ← c.items.ensures) at c.requires.digits), c.requires.numbers))
 
 pub push_bits-push_replication-requires : goal.push_bits-push_replication-requires
-push_bits-push_replication-requires t c = (search (rules, the_lemmas), ((rw (c.in-Rep.is, literals-Rep, ← c.items-in-Rep.ensures) at c.requires.digits), c.requires.numbers))
+push_bits-push_replication-requires t c = (search (rules, the_lemmas), ((rw (c.in-Rep.is, literals-Rep, ← c.get-in-Rep.ensures, ← c.items-in-Rep.ensures) at c.requires.digits), c.requires.numbers))
 
 pub push_bits-returns-in-None : goal.push_bits-returns-in-None
 push_bits-returns-in-None t c = record { added = rw (c.in-Ref.is, bits-Ref, ← c.bytes.ensures, ← c.find.ensures, c.in-None.is) (sym (append-nil _)) }
@@ -26,7 +26,7 @@ pub push_bits-returns-in-Some : goal.push_bits-returns-in-Some
 push_bits-returns-in-Some t c = record { added = rw (c.in-Ref.is, bits-Ref, ← c.bytes.ensures, ← c.find.ensures, c.in-Some.is) c.push_selected.ensures.added }
 
 pub push_bits-returns-in_ok-literal_bits-in-Lit : goal.push_bits-returns-in_ok-literal_bits-in-Lit
-push_bits-returns-in_ok-literal_bits-in-Lit t c = record { added = rw (c.in-Lit.is, bits-Lit, ← c.in_ok-literal_bits-in-Lit.ensures.value) c.push_literal.ensures.added }
+push_bits-returns-in_ok-literal_bits-in-Lit t c = record { added = rw (c.in-Lit.is, bits-Lit, ← c.get.ensures, ← c.in_ok-literal_bits-in-Lit.ensures.value) c.push_literal.ensures.added }
 
 pub push_bits-returns-in-LooseNumber : goal.push_bits-returns-in-LooseNumber
 push_bits-returns-in-LooseNumber t c = record { added = rw (c.in-LooseNumber.is, bits-LooseNumber) (sym (append-nil _)) }
@@ -38,7 +38,7 @@ pub push_bits-returns-in-Cat : goal.push_bits-returns-in-Cat
 push_bits-returns-in-Cat t c = record { added = rw (c.in-Cat.is, bits-Cat, ← c.items.ensures) c.push_parts.ensures.added }
 
 pub push_bits-returns-in-Rep : goal.push_bits-returns-in-Rep
-push_bits-returns-in-Rep t c = record { added = rw (c.in-Rep.is, bits-Rep, ← c.items-in-Rep.ensures, ← c.times.ensures) c.push_replication.ensures.added }
+push_bits-returns-in-Rep t c = record { added = rw (c.in-Rep.is, bits-Rep, ← c.get-in-Rep.ensures, ← c.items-in-Rep.ensures, ← c.times.ensures) c.push_replication.ensures.added }
 
 pub push_replication-returns-then-count-eq0 : goal.push_replication-returns-then-count-eq0
 unfolding repeated

@@ -20,4 +20,4 @@ pub push_uses-returns-in-Cat : goal.push_uses-returns-in-Cat
 push_uses-returns-in-Cat t c = record { added = rw (c.in-Cat.is, uses-Cat, ← c.items.ensures) c.push_all_uses.ensures.added }
 
 pub push_uses-returns-in-Rep : goal.push_uses-returns-in-Rep
-push_uses-returns-in-Rep t c = record { added = rw (c.in-Rep.is, uses-Rep, ← c.items-in-Rep.ensures) c.push_all_uses-in-Rep.ensures.added }
+push_uses-returns-in-Rep t c = record { added = rw (c.in-Rep.is, uses-Rep, ← c.get.ensures, ← c.items-in-Rep.ensures) c.push_all_uses-in-Rep.ensures.added }

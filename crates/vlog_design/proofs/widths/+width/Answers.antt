@@ -11,7 +11,7 @@ pub expr_width-returns-in-Some : goal.expr_width-returns-in-Some
 expr_width-returns-in-Some t c = rw (c.in-Ref.is, width-Ref, ← c.bytes.ensures, ← c.find.ensures, c.in-Some.is) (omega (arith, c.selected_width.ensures))
 
 pub expr_width-returns-in-Lit : goal.expr_width-returns-in-Lit
-expr_width-returns-in-Lit t c = rw (c.in-Lit.is, width-Lit) (omega (arith, c.from.ensures))
+expr_width-returns-in-Lit t c = rw (c.in-Lit.is, width-Lit, ← c.get.ensures) (omega (arith, c.from.ensures))
 
 pub expr_width-returns-in-LooseNumber : goal.expr_width-returns-in-LooseNumber
 expr_width-returns-in-LooseNumber t c = rw (c.in-LooseNumber.is, width-LooseNumber) refl
@@ -23,7 +23,7 @@ pub expr_width-returns-in-Cat : goal.expr_width-returns-in-Cat
 expr_width-returns-in-Cat t c = rw (c.in-Cat.is, width-Cat, ← c.items.ensures) c.parts_width.ensures
 
 pub expr_width-returns-in-Rep : goal.expr_width-returns-in-Rep
-expr_width-returns-in-Rep t c = rw (c.in-Rep.is, width-Rep, ← c.items-in-Rep.ensures)
+expr_width-returns-in-Rep t c = rw (c.in-Rep.is, width-Rep, ← c.get-in-Rep.ensures, ← c.items-in-Rep.ensures)
     (c.saturating_mul.ensures ∙ (ap (λ b. min (c.times.result * b) 18446744073709551615) c.parts_width-in-Rep.ensures ∙ (capped_mul _ _ _ ∙ ap (λ a. min 18446744073709551615 (a * sum (map (width c.args.table.now) c.items-in-Rep.result.now))) c.times.ensures)))
 
 pub parts_width-loop-part-preserved : goal.parts_width-loop-part-preserved

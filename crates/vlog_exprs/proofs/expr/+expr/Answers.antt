@@ -1,5 +1,6 @@
-use Rattle.std.proofs.Common.{arith}
+use Rattle.std.proofs.Common.{ap, arith}
 use Rattle.readers.proofs.Choices.{loops}
+use Rattle.readers.specs.Readers.{room}
 use Rattle.vlog_values.specs.Sizes.{expr_size}
 use Rattle.vlog_values.proofs.Sizes.{size-Ref, size-Loose, size-Cat, size-Rep}
 use Rattle.vlog_exprs.specs.Grammar.{commas, cat_rest}
@@ -28,10 +29,11 @@ read_list-loop-exprs-preserved g t c =
     (omega (arith, c.loop-exprs.invariant.room, size_added c.in_ok-add-2.ensures expr_size, room_added c.in_ok-add-2.ensures, c.in_ok-takes.ensures.value.2, c.in_ok-expr.ensures.size))
 
 pub read_replicated-returns-clause-value : goal.read_replicated-returns-clause-value
-read_replicated-returns-clause-value g t c = rep_good _ _ _ _ c.requires.right c.requires.count c.in_ok-exprs.ensures.value
+read_replicated-returns-clause-value g t c = rw c.in_ok-exprs-2.ensures.boxed (rep_good _ _ _ _ c.requires.right c.requires.count c.in_ok-exprs.ensures.value)
 
 pub read_replicated-returns-clause-size : goal.read_replicated-returns-clause-size
-read_replicated-returns-clause-size g t c = omega (arith, size-Rep c.args.count c.in_ok-exprs.exprs, c.in_ok-first.ensures.size, c.in_ok-exprs.ensures.size, c.in_ok-mark.ensures.value.2)
+read_replicated-returns-clause-size g t c =
+    rw c.in_ok-exprs-2.ensures.boxed (omega (arith, size-Rep c.args.count c.in_ok-exprs.exprs, c.in_ok-first.ensures.size, c.in_ok-exprs.ensures.size, c.in_ok-mark.ensures.value.2, ap room c.in_ok-exprs-2.ensures.kept))
 
 pub read_counted-returns-clause-value : goal.read_counted-returns-clause-value
 read_counted-returns-clause-value g t c = cat_good _ _ _ c.in_ok-exprs.ensures.value

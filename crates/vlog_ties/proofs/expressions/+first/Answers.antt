@@ -22,7 +22,7 @@ pub first_use-returns-in-Cat : goal.first_use-returns-in-Cat
 first_use-returns-in-Cat t c = rw (c.in-Cat.is, uses-Cat, ← c.items.ensures) c.first_use_in.ensures
 
 pub first_use-returns-in-Rep : goal.first_use-returns-in-Rep
-first_use-returns-in-Rep t c = rw (c.in-Rep.is, uses-Rep, ← c.items-in-Rep.ensures) c.first_use_in-in-Rep.ensures
+first_use-returns-in-Rep t c = rw (c.in-Rep.is, uses-Rep, ← c.get.ensures, ← c.items-in-Rep.ensures) c.first_use_in-in-Rep.ensures
 
 pub first_use_in-returns-in-Some : goal.first_use_in-returns-in-Some
 first_use_in-returns-in-Some t c =

@@ -20,4 +20,4 @@ pub has_loose-returns-in-Cat : goal.has_loose-returns-in-Cat
 has_loose-returns-in-Cat t c = rw (c.in-Cat.is, has_loose-Cat, ← c.items.ensures) (c.any_loose.ensures ∙ sym (any_map has_loose _))
 
 pub has_loose-returns-in-Rep : goal.has_loose-returns-in-Rep
-has_loose-returns-in-Rep t c = rw (c.in-Rep.is, has_loose-Rep, ← c.items-in-Rep.ensures) (c.any_loose-in-Rep.ensures ∙ sym (any_map has_loose _))
+has_loose-returns-in-Rep t c = rw (c.in-Rep.is, has_loose-Rep, ← c.get.ensures, ← c.items-in-Rep.ensures) (c.any_loose-in-Rep.ensures ∙ sym (any_map has_loose _))

@@ -12,7 +12,7 @@ pub write_expr-returns-in-Ref : goal.write_expr-returns-in-Ref
 write_expr-returns-in-Ref g t c = rw (c.in-Ref.is, ref_is) c.write_ref.ensures
 
 pub write_expr-returns-in-Lit : goal.write_expr-returns-in-Lit
-write_expr-returns-in-Lit g t c = rw (c.in-Lit.is, lit_is) c.write_literal.ensures
+write_expr-returns-in-Lit g t c = rw (c.in-Lit.is, lit_is, ← c.get.ensures) c.write_literal.ensures
 
 pub write_expr-returns-in-LooseNumber : goal.write_expr-returns-in-LooseNumber
 write_expr-returns-in-LooseNumber g t c = rw (c.in-LooseNumber.is, number_is) c.put_int.ensures
@@ -25,7 +25,7 @@ write_expr-returns-in-Cat g t c = rw (c.in-Cat.is, cat_is) (rw c.items.ensures a
 
 pub write_expr-returns-in-Rep : goal.write_expr-returns-in-Rep
 write_expr-returns-in-Rep g t c =
-    let cat = rw c.items-in-Rep.ensures at c.write_cat-in-Rep.ensures in
+    let cat = rw (c.items-in-Rep.ensures, c.get-in-Rep.ensures) at c.write_cat-in-Rep.ensures in
     rw (c.in-Rep.is, rep_is) (λ b rest s. c.put-in-Rep.ensures b rest (cat b _ (c.put_int-in-Rep.ensures b _ (c.put.ensures b _ s))))
 
 pub write_exprs-loop-expr-preserved : goal.write_exprs-loop-expr-preserved
