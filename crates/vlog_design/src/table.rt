@@ -5,49 +5,91 @@ use nl_base::NoMemory;
 use std::alloc::Global;
 use std::marker::Model;
 
-/// The ports and nets of a module by their names.
+/// The ports and nets of a module by their names. A table that is made with few names has them in a list, which takes less memory than
+/// an index and is searched as fast; names that are added behind are in an index.
 #[derive(Drop)]
 pub struct Table<'a> {
+    few: Vec<(&'a [u8], Slot)>,
     slots: IndexMap<&'a [u8], Slot>,
 }
 
 impl<'a> Model for Table<'a> {
-    ghost use Rattle.std.specs.Prelude.{List};
+    ghost use Rattle.std.specs.Prelude.{List, ◌++◌};
     ghost use Rattle.vlog_design.specs.Names.{Signal};
     ghost use Rattle.vlog_design.specs.Tables.{signals_of};
 
     ghost Value = { List Signal };
 
-    ghost view = { λ t. signals_of t.slots.entries };
+    ghost view = { λ t. signals_of (t.few.items ++ t.slots.entries) };
 }
 
 ghost use Rattle.std.specs.Prelude.{◌≡◌, [], ◌++◌, ◌∷◌, length, slice_get, option_map, IfOk, OnErr, is_some, is_none, option_copied, if◌then◌else◌};
 ghost use Rattle.vlog_design.specs.Names.{signal_named};
-ghost use Rattle.vlog_design.specs.Tables.{signal_of};
+ghost use Rattle.vlog_design.specs.Tables.{signal_of, signals_of};
+
+/// What the name stands for among these.
+fn find_among(entries: &[(&[u8], Slot)], name: &[u8]) -> Option<Slot>
+    ensures { result ≡ signal_named (signals_of entries.now) name.now }
+{
+    for entry in entries {
+        if name == entry.0 {
+            return Some(entry.1);
+        }
+    }
+    None
+}
 
 impl<'a> Table<'a> {
     pub fn empty(alloc: Global) -> Table<'a>
         ensures { result ≡ [] }
     {
         Table {
+            few: Vec::new(alloc),
             slots: IndexMap::new(alloc),
         }
+    }
+
+    /// An empty table with room for so many names.
+    pub fn with_room(alloc: Global, count: usize) -> Result<Table<'a>, NoMemory>
+        ensures { IfOk result (λ table. table ≡ []) }
+    {
+        Ok(Table {
+            few: Vec::new(alloc),
+            slots: IndexMap::with_capacity(alloc, count)?,
+        })
+    }
+
+    /// The table of these names, which are few.
+    pub fn of_few(alloc: Global, entries: &[(&'a [u8], Slot)]) -> Result<Table<'a>, NoMemory>
+        ensures { IfOk result (λ table. table ≡ signals_of entries.now) }
+    {
+        let mut few = Vec::with_capacity(alloc, entries.len())?;
+        few.extend_from_slice(entries)?;
+        Ok(Table {
+            few,
+            slots: IndexMap::new(alloc),
+        })
     }
 
     /// What the name stands for.
     pub fn find(&self, name: &[u8]) -> Option<Slot>
         ensures { result ≡ signal_named self.now name.now }
     {
-        self.slots.get(name).copied()
+        match find_among(self.few.as_slice(), name) {
+            Some(slot) => Some(slot),
+            None => self.slots.get(name).copied(),
+        }
     }
 
     /// What the name stands for, found without a search where it is the name of this number.
     pub fn find_at(&self, number: usize, name: &[u8]) -> Option<Slot>
         ensures { result ≡ signal_named self.now name.now }
     {
-        if let Some((key, slot)) = self.slots.get_index(number) {
-            if *key == name {
-                return Some(*slot);
+        if self.few.is_empty() {
+            if let Some((key, slot)) = self.slots.get_index(number) {
+                if *key == name {
+                    return Some(*slot);
+                }
             }
         }
         self.find(name)
@@ -57,14 +99,18 @@ impl<'a> Table<'a> {
     pub fn len(&self) -> usize
         ensures { result ≡ length self.now }
     {
-        self.slots.len()
+        self.few.len() + self.slots.len()
     }
 
     /// The name of this number, and what it stands for.
     pub fn entry(&self, number: usize) -> Option<(&'a [u8], Slot)>
         ensures { option_map signal_of result ≡ slice_get self.now number }
     {
-        match self.slots.get_index(number) {
+        let few = self.few.as_slice();
+        if number < few.len() {
+            return Some((few[number].0, few[number].1));
+        }
+        match self.slots.get_index(number - few.len()) {
             None => None,
             Some((name, slot)) => Some((*name, *slot)),
         }
@@ -78,7 +124,7 @@ impl<'a> Table<'a> {
             ++ (if new then record { name = name.now; slot = slot } ∷ [] else [])) }
         ensures kept { OnErr result (self.new ≡ self.old) }
     {
-        if self.slots.contains_key(name) {
+        if self.find(name).is_some() {
             return Ok(false);
         }
         if let Ok(_) = self.slots.insert(name, slot) {

@@ -17,11 +17,17 @@ use vlog_design::table::Table;
 use vlog_rules::passes::ModuleScope;
 use vlog_values::Module;
 
+/// So many names are few: they are found as fast in a list as by an index.
+const FEW: usize = 8;
+
 fn table_of<'a>(alloc: Global, entries: &[(&'a [u8], Slot)]) -> Result<Table<'a>, NoMemory>
     requires { Distinct (signal_names (signals_of entries.now)) }
     ensures { IfOk result (λ table. table ≡ signals_of entries.now) }
 {
-    let mut table = Table::empty(alloc);
+    if entries.len() <= FEW {
+        return Table::of_few(alloc, entries);
+    }
+    let mut table = Table::with_room(alloc, entries.len())?;
     for entry in entries {
         table.add(entry.0, entry.1)?;
     }
