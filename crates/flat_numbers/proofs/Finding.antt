@@ -142,7 +142,7 @@ module _ (design : Design) (valid : IsValid design) (count : ℕ) (few : count �
         found (base p.inner + (bits_before p.pin.below.ports port + bit)) (subst (λ m. HasPlace spots layout.bases.items offsets m port bit (base p.inner + (bits_before p.pin.below.ports port + bit))) (sym e) (place_there p.inner p.pin.below of_inner port bit (omega arith))) ∙ sym p.u_is
 
 -- the names do not matter for the numbers
-any_names : ConstantNames
+pub any_names : ConstantNames
 any_names = record { zero = record { cell = []; port = [] }; one = record { cell = []; port = [] } }
 
 module _ (design : Design) (valid : IsValid design) (count : ℕ) (few : count ≤ 2000000) (layout : Layout) (belows offsets : List (List ℕ)) (tables : AreTables design.cells design.top count layout belows offsets) where
@@ -180,11 +180,6 @@ pub cell_within : (cells : List HCell) (spots : List Spot) (number : ℕ) (cell 
 cell_within cells spots number cell of spot all same e =
     let p : spot ≡ of.spot = e ∙ get_or_from_slice_get spots number of.spot spot of.is_spot in
     slice_get_within all spot.cell cell (subst₂ (λ (s : Spot) (cs : List HCell). slice_get cs s.cell ≡ Some cell) (sym p) (sym same) of.is_cell)
-
-pub same_inner : (rows : List (List ℕ)) (number place a b : ℕ) → HasNumber rows number place a → HasNumber rows number place b → a ≡ b
-same_inner rows number place a b ha hb =
-    let row : ha.the_row ≡ hb.the_row = same_element rows number ha.the_row hb.the_row ha.is_row hb.is_row in
-    same_element hb.the_row place a b (subst (λ r. slice_get r place ≡ Some a) row ha.is_there) hb.is_there
 
 -- the cell of a spot that the code has read
 pub cell_there_at : (cells : List HCell) (top count : ℕ) (layout : Layout) → IsLayout cells top count layout → (number : ℕ) (spot : Spot) → number < length layout.spots.items → spot ≡ get_or layout.spots.items number spot → (cell : HCell) × IsCell cells spot.cell cell × (slice_get layout.spots.items number ≡ Some spot)

@@ -7,7 +7,7 @@ use Rattle.std.proofs.lemmas.List.Elements.{Contains-append_left, Contains-push,
 use Rattle.net_graph.specs.Walks.{IsLinked}
 use Rattle.net_graph.proofs.WalkLaws.{linked_alone, linked_along, linked_back, linked_by, linked_itself, linked_map}
 use Rattle.flat_numbers.specs.declared.joins.NumberJoin.{NumberJoin}
-use Rattle.flat_numbers.specs.Forest.{HasLabels, parent}
+use Rattle.flat_numbers.specs.Forest.{HasLabels, IsLinkedUp, parent}
 use Rattle.flat_numbers.specs.Linked.{AreAlike, AreLabels, HasJoin, label}
 use Rattle.flat_numbers.proofs.NumberLaws.{linked_keeps}
 
@@ -98,13 +98,6 @@ pub record IsUnderWay (old new : List ℕ) (number at : ℕ) : Type 0 where
 pub record AreSettled (old new : List ℕ) (done : ℕ) : Type 0 where
   pub len : length new ≡ length old
   pub keeps : (labels : List ℕ) → HasLabels old labels → HasLabels new labels × ((u : ℕ) → u < done → parent new u ≡ label labels u)
-
--- the parents lead to labels that are equal exactly where these joins link
-pub record IsLinkedUp (count : ℕ) (joins : List NumberJoin) (parents : List ℕ) : Type 0 where
-  pub len : length parents ≡ count
-  pub labels : List ℕ
-  pub has : HasLabels parents labels
-  pub are : AreLabels count joins labels
 
 map_label : (f : ℕ → ℕ) (xs : List ℕ) (u : ℕ) → u < length xs → get_or (map f xs) u 0 ≡ f (get_or xs u 0)
 map_label f [] u lt = absurd (omega arith)

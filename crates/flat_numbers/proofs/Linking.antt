@@ -14,6 +14,8 @@ use Rattle.net_hier.proofs.PathLaws.{same_element}
 use Rattle.net_hier.specs.declared.cells.HCell.{HCell}
 use Rattle.net_hier.specs.declared.nodes.Join.{Join}
 use Rattle.flat_numbers.specs.FlatJoins.{AreConstants, ConstantAt, ConstantsOf, Extends, InstanceAt, LinksOf}
+use Rattle.flat_numbers.specs.Forest.{HasLabels, IsForest, IsLinkedUp, LinksMore}
+use Rattle.flat_numbers.specs.Linked.{AreLabels}
 use Rattle.flat_numbers.specs.Numbers.{AreFlatJoins, CellOf, FlatJoin, by_link, by_constant, NodeNumber, constant_number}
 use Rattle.flat_numbers.specs.declared.spots.Spot.{Spot}
 use Rattle.flat_numbers.proofs.Rows.{last_or_less}
@@ -218,15 +220,55 @@ module _ (names : ConstantNames) (cells : List HCell) (spots : List Spot) (base 
       let lt : number < length spots = slice_get_within spots number of.spot of.is_spot in
       (number, omega (arith, lt, le), inr (instance, record { cell = cell; of_cell = of; value = value; is_constant = constant; pin_number = n; v_is = refl }))
 
-  pub joins_whole : (done : ℕ) (joins : List NumberJoin) → length spots ≤ done → Extends [] joins (Below (JoinsOf names cells spots base links) done) → AreFlatJoins names cells spots base links joins
-  joins_whole done joins le extends = λ u v. (
-    λ h. elim ((extends u v).0 h) as (λ _. FlatJoin names cells spots base links u v) [
-      | inl none ↦ absurd (let lt = none.1 in omega (arith, lt))
-      | inr n ↦ elim n.2 as (λ _. FlatJoin names cells spots base links u v) [
+  pub joins_whole : (done : ℕ) (old joins : List NumberJoin) → length spots ≤ done → Extends old joins (Below (JoinsOf names cells spots base links) done) → Extends old joins (FlatJoin names cells spots base links)
+  joins_whole done old joins le extends = λ u v. (
+    λ h. elim ((extends u v).0 h) [
+      | inl o ↦ inl o
+      | inr n ↦ inr (elim n.2 as (λ _. FlatJoin names cells spots base links u v) [
         | inl l ↦ by_link l.of_cell.is_spot l.of_cell.is_cell l.is_join l.a_number l.b_number
         | inr c ↦ let k : ConstantAt names cells spots base n.0 c.0 u v = c.1 in
             subst (FlatJoin names cells spots base links u) (sym k.v_is) (by_constant k.of_cell k.is_constant k.pin_number)
-      ]
+      ])
     ],
-    λ f. (extends u v).1 (inr (from_flat done le u v f)),
+    λ s. (extends u v).1 (elim s [ inl o ↦ inl o | inr f ↦ inr (from_flat done le u v f) ]),
   )
+
+  -- what is added to no joins
+  pub joins_alone : (joins : List NumberJoin) → Extends [] joins (FlatJoin names cells spots base links) → AreFlatJoins names cells spots base links joins
+  joins_alone joins extends = λ u v. (
+    λ h. elim ((extends u v).0 h) as (λ _. FlatJoin names cells spots base links u v) [ inl none ↦ absurd (let lt = none.1 in omega (arith, lt)) | inr f ↦ f ],
+    λ f. (extends u v).1 (inr f),
+  )
+
+-- ---- the parents are linked by joins that are not kept
+-- what one more join makes of the labels
+abbrev pub IsJoined : List ℕ → List ℕ → ℕ → ℕ → Type 0
+IsJoined old new a b = (joins : List NumberJoin) (labels : List ℕ) → HasLabels old labels → AreLabels (length old) joins labels →
+    (others : List ℕ) × HasLabels new others × AreLabels (length old) (joins ++ record { a = a; b = b } ∷ []) others
+
+joined_up : (count : ℕ) (joins : List NumberJoin) (old new : List ℕ) (a b : ℕ) → IsJoined old new a b → length new ≡ length old → IsLinkedUp count joins old → IsLinkedUp count (joins ++ record { a = a; b = b } ∷ []) new
+joined_up count joins old new a b joined len up =
+    let (others, has, are) = joined joins up.labels up.has (subst (λ n. AreLabels n joins up.labels) (sym up.len) up.are) in
+    record { len = len ∙ up.len; labels = others; has = has; are = subst (λ n. AreLabels n (joins ++ record { a = a; b = b } ∷ []) others) up.len are }
+
+module _ (count : ℕ) where
+  pub forest_labels : (parents : List ℕ) → IsForest count parents → (labels : List ℕ) × HasLabels parents labels
+  forest_labels parents forest = let up = forest.1 in (up.labels, up.has)
+
+  pub forest_more : (old new : List ℕ) (P : ℕ → ℕ → Type 0) → IsForest count old → LinksMore count old new P → IsForest count new
+  forest_more old new P forest links = let l = links forest.0 forest.1 in (l.0, l.2)
+
+  pub links_none : (old : List ℕ) (P : ℕ → ℕ → Type 0) → ((u v : ℕ) → ¬ P u v) → LinksMore count old old P
+  links_none old P none = λ joins up. (joins, extends_none joins P none, up)
+
+  pub links_by : (old new : List ℕ) (P Q : ℕ → ℕ → Type 0) → ((x y : List NumberJoin) → Extends x y P → Extends x y Q) → LinksMore count old new P → LinksMore count old new Q
+  links_by old new P Q told links = λ joins up. let l = links joins up in (l.0, told joins l.0 l.1, l.2)
+
+  pub links_along : (a b c : List ℕ) (P Q R : ℕ → ℕ → Type 0) → ((x y z : List NumberJoin) → Extends x y P → Extends y z Q → Extends x z R) → LinksMore count a b P → LinksMore count b c Q → LinksMore count a c R
+  links_along a b c P Q R told p q = λ joins up. let l = p joins up in let m = q l.0 l.2 in (m.0, told joins l.0 m.0 l.1 m.1, m.2)
+
+  pub links_join : (old new : List ℕ) (a b : ℕ) (P : ℕ → ℕ → Type 0) → IsJoined old new a b → length new ≡ length old → ((x : List NumberJoin) → Extends x (x ++ record { a = a; b = b } ∷ []) P) → LinksMore count old new P
+  links_join old new a b P joined len told = λ joins up. (joins ++ record { a = a; b = b } ∷ [], told joins, joined_up count joins old new a b joined len up)
+
+  pub links_push : (old now new : List ℕ) (a b : ℕ) (P Q : ℕ → ℕ → Type 0) → IsJoined now new a b → length new ≡ length now → ((x y : List NumberJoin) → Extends x y P → Extends x (y ++ record { a = a; b = b } ∷ []) Q) → LinksMore count old now P → LinksMore count old new Q
+  links_push old now new a b P Q joined len told links = λ joins up. let l = links joins up in (l.0 ++ record { a = a; b = b } ∷ [], told joins l.0 l.1, joined_up count l.0 now new a b joined len l.2)

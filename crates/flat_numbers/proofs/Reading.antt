@@ -26,11 +26,6 @@ pub map_last : {A B : Type 0} (f : A → B) (xs : List A) (x : A) → map f (xs 
 map_last f [] x = refl
 map_last f (y ∷ xs) x = ap (λ w. f y ∷ w) (map_last f xs x)
 
-pub read_through : {A B : Type 0} (f : A → B) (xs : List A) (i : ℕ) (x : A) → i < length xs → x ≡ get_or xs i x → slice_get (map f xs) i ≡ Some (f x)
-read_through f [] i x lt e = absurd (omega arith)
-read_through f (y ∷ xs) zero x lt e = ap Some (ap f (sym e))
-read_through f (y ∷ xs) (suc i) x lt e = read_through f xs i x (omega arith) e
-
 pub range_last : (a n : ℕ) → range_with_len a (n + 1) ≡ range_with_len a n ++ (a + n) ∷ []
 range_last a zero = let z : a ≡ a + 0 = omega arith in ap (λ w. w ∷ []) z
 range_last a (suc n) =

@@ -1,116 +1,234 @@
--- tables that are filled row by row
-use Rattle.std.proofs.Common.{◌≡◌, ◌≢◌, ℕ, ◌+◌, ◌<◌, ◌⊎◌, inl, inr, List, [], ◌∷◌, ◌++◌, sym, ◌∙◌, ap, subst, subst₂, slice_get, set, Some, length, length-append, arith}
+-- rows of numbers that lie one behind the other, one for each spot
+use Rattle.std.proofs.Common.{◌≡◌, ◌≢◌, ℕ, zero, suc, ◌+◌, ◌-◌, ◌<◌, ◌≤◌, ◌⊎◌, inl, inr, List, [], ◌∷◌, ◌++◌, refl, sym, ◌∙◌, ap, subst, slice_get, get_or, set, take, drop, Some, length, length-append, arith}
 use Rattle.std.proofs.Math.ListN.{length-set}
-use Rattle.std.proofs.lemmas.Option.{slice_get_within}
+use Rattle.std.proofs.lemmas.List.FromFn.{get_or-map-range_with_len, length-map-range_with_len}
+use Rattle.std.proofs.lemmas.Option.{slice_get-get_or, slice_get_within}
+use Rattle.net_bits.specs.Parts.{AreStarts, part, parts}
 use Rattle.net_hier.specs.Design.{IsCell}
 use Rattle.net_hier.specs.declared.cells.HCell.{HCell}
-use Rattle.net_graph.proofs.OrderLaws.{get_front, get_last}
+use Rattle.net_hier.specs.declared.cells.HInst.{HInst}
 use Rattle.net_hier.proofs.PathLaws.{same_element}
 use Rattle.flat_numbers.specs.Numbers.{IsBelow}
-use Rattle.flat_numbers.specs.Tables.{HasNumber, RowsFit}
+use Rattle.flat_numbers.specs.Spots.{Walks, ends, lists, spots_below, top_spot}
+use Rattle.flat_numbers.specs.Tables.{AreBelows, AreRowStarts, HasNumber, instances_before, instances_of}
 use Rattle.flat_numbers.specs.declared.spots.Spot.{Spot}
 use Rattle.flat_numbers.proofs.Reading.{get_set_other, get_set_same}
 use Rattle.flat_numbers.proofs.SpotLaws.{HasParent, SpotFacts}
 
-pub rows_first : (cells : List HCell) (spots : List Spot) (rows : List (List ℕ)) → rows ≡ [] → RowsFit cells spots 0 rows
-rows_first cells spots rows e = record { len = ap length e; at = λ number spot cell lt. absurd (omega arith) }
-
 pub last_or_less : (place done : ℕ) → place < done + 1 → (place < done) ⊎ (place ≡ done)
 last_or_less place done lt = grind arith
-
-pub rows_next : (cells : List HCell) (spots : List Spot) (done : ℕ) (rows more : List (List ℕ)) (row : List ℕ) (spot : Spot) (cell : HCell) → slice_get spots done ≡ Some spot → IsCell cells spot.cell cell → length row ≡ length cell.instances →
-    more ≡ rows ++ row ∷ [] → RowsFit cells spots done rows → RowsFit cells spots (done + 1) more
-rows_next cells spots done rows more row spot cell is is_cell len e fit = record {
-  len = ap length e ∙ (length-append rows (row ∷ []) ∙ ap (λ n. n + 1) fit.len);
-  at = λ number other ocell lt there is_ocell. elim (last_or_less number done lt) [
-    | inl l ↦
-        let (found, f, g) = fit.at number other ocell l there is_ocell in
-        (found, subst (λ w. slice_get w number ≡ Some found) (sym e) (get_front rows (row ∷ []) number found f), g)
-    | inr p ↦
-        let same : other ≡ spot = same_element spots done other spot (subst (λ n. slice_get spots n ≡ Some other) p there) is in
-        let same_cell : ocell ≡ cell = same_element cells spot.cell ocell cell (subst (λ (s : Spot). IsCell cells s.cell ocell) same is_ocell) is_cell in
-        let at : slice_get (rows ++ row ∷ []) number ≡ Some row = subst (λ n. slice_get (rows ++ row ∷ []) n ≡ Some row) (fit.len ∙ sym p) (get_last rows row) in
-        (row, subst (λ w. slice_get w number ≡ Some row) (sym e) at, len ∙ ap (λ c. length c.instances) (sym same_cell))
-  ];
-}
-
--- the spots up to here stand in the rows
-pub record KnowsBelows (cells : List HCell) (spots : List Spot) (done : ℕ) (rows : List (List ℕ)) : Type 0 where
-  pub fit : RowsFit cells spots (length spots) rows
-  pub known : (outer instance inner : ℕ) → inner < done → IsBelow spots outer instance inner → HasNumber rows outer instance inner
-
-pub belows_first : (cells : List HCell) (spots : List Spot) (rows : List (List ℕ)) → RowsFit cells spots (length spots) rows → KnowsBelows cells spots 1 rows
-belows_first cells spots rows fit = record { fit = fit; known = λ outer instance inner lt below. absurd (let n = below.no_top in omega (arith, n)) }
 
 nat_order : (a b : ℕ) → (a < b) ⊎ ((a ≡ b) ⊎ (b < a))
 nat_order a b = grind arith
 
-same_or_other : (a b : ℕ) → (a ≡ b) ⊎ (a ≢ b)
-same_or_other a b = elim (nat_order a b) [ inl lt ↦ inr (λ e. omega arith) | inr (inl e) ↦ inl e | inr (inr lt) ↦ inr (λ e. omega arith) ]
+-- ---- how many instances stand before a spot
+before_none : (cells : List HCell) (spots : List Spot) → instances_before cells spots 0 ≡ 0
+before_none cells [] = refl
+before_none cells (spot ∷ spots) = refl
 
--- the row of the spot above, and the place in it
-pub record RowAbove (rows : List (List ℕ)) (spot : Spot) : Type 0 where
-  pub row : List ℕ
-  pub is_row : slice_get rows spot.parent ≡ Some row
-  pub within : spot.instance < length row
+instances_read : (cells : List HCell) (first spot : Spot) (cell : HCell) → first ≡ spot → IsCell cells spot.cell cell → instances_of (slice_get cells first.cell) ≡ length cell.instances
+instances_read cells first spot cell e is = ap (λ (s : Spot). instances_of (slice_get cells s.cell)) e ∙ ap instances_of is
 
-module _ (cells : List HCell) (top : ℕ) (spots : List Spot) (facts : SpotFacts cells top spots) (done : ℕ) (rows : List (List ℕ)) (knows : KnowsBelows cells spots done rows) (spot : Spot) (pos : 0 < done) (is : slice_get spots done ≡ Some spot) where
-  pub row_above : RowAbove rows spot
-  row_above =
-      let h : HasParent cells 0 spots done spot = facts.inside done spot pos is in
+pub before_next : (cells : List HCell) (spots : List Spot) (i : ℕ) (spot : Spot) (cell : HCell) → slice_get spots i ≡ Some spot → IsCell cells spot.cell cell → instances_before cells spots (i + 1) ≡ instances_before cells spots i + length cell.instances
+before_next cells [] i spot cell e is = absurd (cc)
+before_next cells (first ∷ spots) zero spot cell e is =
+    let p : first ≡ spot = cc in
+    let n : instances_before cells spots 0 ≡ 0 = before_none cells spots in
+    let w = instances_read cells first spot cell p is in
+    omega (arith, n, w)
+before_next cells (first ∷ spots) (suc i) spot cell e is =
+    let z : suc i + 1 ≡ suc (i + 1) = omega arith in
+    let r : instances_before cells (first ∷ spots) (suc (i + 1)) ≡ instances_before cells (first ∷ spots) (suc i) + length cell.instances = omega (arith, before_next cells spots i spot cell e is) in
+    ap (instances_before cells (first ∷ spots)) z ∙ r
+
+before_rises : (cells : List HCell) (spots : List Spot) (i j : ℕ) → i ≤ j → instances_before cells spots i ≤ instances_before cells spots j
+before_rises cells [] i j le = omega arith
+before_rises cells (first ∷ spots) zero j le = omega arith
+before_rises cells (first ∷ spots) (suc i) zero le = absurd (omega (arith, le))
+before_rises cells (first ∷ spots) (suc i) (suc j) le = let r = before_rises cells spots i j (omega (arith, le)) in omega (arith, r)
+
+below_length : (parent place : ℕ) (instances : List HInst) → length (spots_below parent place instances) ≡ length instances
+below_length parent place [] = refl
+below_length parent place (instance ∷ rest) = ap suc (below_length parent (suc place) rest)
+
+-- each spot that is listed waits first, and is that of an instance of a spot that is listed
+walk_long : {cells : List HCell} {number : ℕ} {waiting after : List Spot} → Walks cells number waiting after → length after ≡ length waiting + instances_before cells after (length after)
+walk_long ends = refl
+walk_long {cells = cells} (lists {number = number} {spot = spot} {cell = cell} {waiting = waiting} {after = after} is rest) =
+    let r : length after ≡ length (spots_below number 0 cell.instances ++ waiting) + instances_before cells after (length after) = walk_long rest in
+    let n : length (spots_below number 0 cell.instances ++ waiting) ≡ length (spots_below number 0 cell.instances) + length waiting = length-append (spots_below number 0 cell.instances) waiting in
+    let b = below_length number 0 cell.instances in
+    let w : instances_of (slice_get cells spot.cell) ≡ length cell.instances = ap instances_of is in
+    omega (arith, r, n, b, w)
+
+-- there are fewer instances than spots
+pub before_few : (cells : List HCell) (top : ℕ) (spots : List Spot) → Walks cells 0 (top_spot top ∷ []) spots → (i : ℕ) → i ≤ length spots → instances_before cells spots i ≤ length spots
+before_few cells top spots walk i le =
+    let all : length spots ≡ 1 + instances_before cells spots (length spots) = walk_long walk in
+    let r = before_rises cells spots i (length spots) le in
+    omega (arith, all, r)
+
+-- ---- where the rows begin
+front_read : (xs : List ℕ) (x i : ℕ) → i < length xs → get_or (xs ++ x ∷ []) i 0 ≡ get_or xs i 0
+front_read [] x i lt = absurd (omega (arith, lt))
+front_read (y ∷ xs) x zero lt = refl
+front_read (y ∷ xs) x (suc i) lt = front_read xs x i (omega (arith, lt))
+
+last_read : (xs : List ℕ) (x : ℕ) → get_or (xs ++ x ∷ []) (length xs) 0 ≡ x
+last_read [] x = refl
+last_read (y ∷ xs) x = last_read xs x
+
+-- the rows of the first spots begin there, and the next one here
+pub record KnowsStarts (cells : List HCell) (spots : List Spot) (done : ℕ) (starts : List ℕ) (before : ℕ) : Type 0 where
+  pub len : length starts ≡ done
+  pub within : done ≤ length spots
+  pub each : (number : ℕ) → number < done → get_or starts number 0 ≡ instances_before cells spots number
+  pub is : before ≡ instances_before cells spots done
+
+pub starts_first : (cells : List HCell) (spots : List Spot) (starts : List ℕ) → starts ≡ [] → KnowsStarts cells spots 0 starts 0
+starts_first cells spots starts e = record { len = ap length e; within = omega arith; each = λ number lt. absurd (omega (arith, lt)); is = sym (before_none cells spots) }
+
+starts_known : (cells : List HCell) (spots : List Spot) (done : ℕ) (starts more : List ℕ) (before : ℕ) → more ≡ starts ++ before ∷ [] → KnowsStarts cells spots done starts before → (number : ℕ) → number < done + 1 → get_or more number 0 ≡ instances_before cells spots number
+starts_known cells spots done starts more before e knows number lt = ap (λ w. get_or w number 0) e ∙ elim (last_or_less number done lt) as (λ _. get_or (starts ++ before ∷ []) number 0 ≡ instances_before cells spots number) [
+  | inl l ↦ front_read starts before number (omega (arith, l, knows.len)) ∙ knows.each number l
+  | inr p ↦ ap (λ n. get_or (starts ++ before ∷ []) n 0) (p ∙ sym knows.len) ∙ (last_read starts before ∙ (knows.is ∙ ap (instances_before cells spots) (sym p)))
+]
+
+pub starts_next : (cells : List HCell) (spots : List Spot) (done : ℕ) (starts more : List ℕ) (before after : ℕ) (spot : Spot) (cell : HCell) → slice_get spots done ≡ Some spot → IsCell cells spot.cell cell → more ≡ starts ++ before ∷ [] → after ≡ before + length cell.instances →
+    KnowsStarts cells spots done starts before → KnowsStarts cells spots (done + 1) more after
+starts_next cells spots done starts more before after spot cell there is e f knows = record {
+  len = ap length e ∙ (length-append starts (before ∷ []) ∙ ap (λ n. n + 1) knows.len);
+  within = let lt = slice_get_within spots done spot there in omega (arith, lt);
+  each = starts_known cells spots done starts more before e knows;
+  is = omega (arith, f, knows.is, before_next cells spots done spot cell there is);
+}
+
+pub starts_whole : (cells : List HCell) (spots : List Spot) (done : ℕ) (starts more : List ℕ) (before : ℕ) → length spots ≤ done → more ≡ starts ++ before ∷ [] → KnowsStarts cells spots done starts before → AreRowStarts cells spots more
+starts_whole cells spots done starts more before le e knows = record {
+  len = let l = ap length e ∙ length-append starts (before ∷ []) in omega (arith, l, knows.len, knows.within, le);
+  each = λ number l. starts_known cells spots done starts more before e knows number (omega (arith, l, le));
+}
+
+pub rows_begin : (cells : List HCell) (spots : List Spot) (starts : List ℕ) (total : ℕ) → AreRowStarts cells spots starts → total ≡ instances_before cells spots (length spots) → AreStarts starts total
+rows_begin cells spots starts total are e = record {
+  some = omega (arith, are.len);
+  rising = λ i lt.
+      let a = are.each i (omega (arith, lt, are.len)) in
+      let b = are.each (i + 1) (omega (arith, lt, are.len)) in
+      let r = before_rises cells spots i (i + 1) (omega arith) in
+      omega (arith, a, b, r);
+  within = λ i lt.
+      let a = are.each i (omega (arith, lt, are.len)) in
+      let r = before_rises cells spots i (length spots) (omega (arith, lt, are.len)) in
+      omega (arith, a, r, e);
+}
+
+-- ---- the rows are filled
+-- the first spots stand in the rows of those above them
+pub record KnowsBelows (cells : List HCell) (spots : List Spot) (done : ℕ) (items : List ℕ) : Type 0 where
+  pub len : length items ≡ instances_before cells spots (length spots)
+  pub known : (outer instance inner : ℕ) → inner < done → IsBelow spots outer instance inner → slice_get items (instances_before cells spots outer + instance) ≡ Some inner
+
+pub belows_first : (cells : List HCell) (spots : List Spot) (items : List ℕ) → length items ≡ instances_before cells spots (length spots) → KnowsBelows cells spots 1 items
+belows_first cells spots items len = record { len = len; known = λ outer instance inner lt below. absurd (let n = below.no_top in omega (arith, lt, n)) }
+
+-- the spot has a place in the row of the one above it
+pub record HasRowPlace (cells : List HCell) (spots : List Spot) (spot : Spot) : Type 0 where
+  pub above : spot.parent < length spots
+  pub next : instances_before cells spots spot.parent + spot.instance < instances_before cells spots (spot.parent + 1)
+  pub total : instances_before cells spots spot.parent + spot.instance < instances_before cells spots (length spots)
+
+module _ (cells : List HCell) (top : ℕ) (spots : List Spot) (facts : SpotFacts cells top spots) where
+  pub row_place : (number : ℕ) (spot : Spot) → 0 < number → slice_get spots number ≡ Some spot → HasRowPlace cells spots spot
+  row_place number spot pos is =
+      let h : HasParent cells 0 spots number spot = facts.inside number spot pos is in
       let e : h.before ≡ spot.parent = omega (arith, h.of_parent) in
-      let lt : h.before < length spots = slice_get_within spots h.before h.above h.is_above in
-      let (row, there, len) = knows.fit.at h.before h.above h.cell lt h.is_above h.is_cell in
+      let there : slice_get spots spot.parent ≡ Some h.above = subst (λ n. slice_get spots n ≡ Some h.above) e h.is_above in
+      let lt : spot.parent < length spots = slice_get_within spots spot.parent h.above there in
       let l : spot.instance < length h.cell.instances = slice_get_within h.cell.instances spot.instance h.instance h.is_there in
-      record { row = row; is_row = subst (λ n. slice_get rows n ≡ Some row) e there; within = omega (arith, l, len) }
+      let n = before_next cells spots spot.parent h.above h.cell there h.is_cell in
+      let r = before_rises cells spots (spot.parent + 1) (length spots) (omega (arith, lt)) in
+      record { above = lt; next = omega (arith, l, n); total = omega (arith, l, n, r) }
 
-  kept : (row : List ℕ) → slice_get rows spot.parent ≡ Some row → (outer instance inner : ℕ) → inner < done → IsBelow spots outer instance inner → HasNumber (set rows spot.parent (set row spot.instance done)) outer instance inner
-  kept row there outer instance inner less below =
-      let k : HasNumber rows outer instance inner = knows.known outer instance inner less below in
-      let lt : spot.parent < length rows = slice_get_within rows spot.parent row there in
-      elim (same_or_other spot.parent outer) [
-        | inr d ↦ record { the_row = k.the_row; is_row = get_set_other rows spot.parent outer (set row spot.instance done) d ∙ k.is_row; is_there = k.is_there }
-        | inl p ↦
-            let q : k.the_row ≡ row = same_element rows outer k.the_row row k.is_row (subst (λ n. slice_get rows n ≡ Some row) p there) in
-            let d : spot.instance ≢ instance = λ e.
-            let same : done ≡ inner = facts.once done inner spot below.spot pos below.no_top is below.is_spot (p ∙ sym below.of_parent) (e ∙ sym below.of_instance) in
-            omega (arith, same, less) in
-            record {
-              the_row = set row spot.instance done;
-              is_row = subst (λ n. slice_get (set rows spot.parent (set row spot.instance done)) n ≡ Some (set row spot.instance done)) p (get_set_same rows spot.parent (set row spot.instance done) lt);
-              is_there = get_set_other row spot.instance instance done d ∙ subst (λ w. slice_get w instance ≡ Some inner) q k.is_there;
-            }
-      ]
+  -- two spots at one place are below one spot
+  place_once : (a b : Spot) → HasRowPlace cells spots a → HasRowPlace cells spots b → instances_before cells spots a.parent + a.instance ≡ instances_before cells spots b.parent + b.instance → (a.parent ≡ b.parent) × (a.instance ≡ b.instance)
+  place_once a b ha hb same = elim (nat_order a.parent b.parent) as (λ _. (a.parent ≡ b.parent) × (a.instance ≡ b.instance)) [
+    | inl lt ↦ absurd (let r = before_rises cells spots (a.parent + 1) b.parent (omega (arith, lt)) in omega (arith, r, ha.next, same))
+    | inr (inl e) ↦ let f : instances_before cells spots a.parent ≡ instances_before cells spots b.parent = ap (instances_before cells spots) e in (e, omega (arith, f, same))
+    | inr (inr lt) ↦ absurd (let r = before_rises cells spots (b.parent + 1) a.parent (omega (arith, lt)) in omega (arith, r, hb.next, same))
+  ]
 
-  pub belows_next : (row : List ℕ) → slice_get rows spot.parent ≡ Some row → KnowsBelows cells spots (done + 1) (set rows spot.parent (set row spot.instance done))
-  belows_next row there =
-      let above : RowAbove rows spot = row_above in
-      let same_row : above.row ≡ row = same_element rows spot.parent above.row row above.is_row there in
-      let within : spot.instance < length row = subst (λ w. spot.instance < length w) same_row above.within in
-      let lt : spot.parent < length rows = slice_get_within rows spot.parent row there in
-      let put : slice_get (set rows spot.parent (set row spot.instance done)) spot.parent ≡ Some (set row spot.instance done) = get_set_same rows spot.parent (set row spot.instance done) lt in
+  pub belows_next : (done : ℕ) (items : List ℕ) (spot : Spot) (place : ℕ) → KnowsBelows cells spots done items → 0 < done → slice_get spots done ≡ Some spot → place ≡ instances_before cells spots spot.parent + spot.instance →
+      KnowsBelows cells spots (done + 1) (set items place done)
+  belows_next done items spot place knows pos is e =
+      let here : HasRowPlace cells spots spot = row_place done spot pos is in
       record {
-        fit = record {
-          len = length-set rows spot.parent (set row spot.instance done) ∙ knows.fit.len;
-          at = λ number other cell l e is_cell.
-              let (found, f, len) = knows.fit.at number other cell l e is_cell in
-              elim (same_or_other spot.parent number) [
-                | inl p ↦
-                    let q : found ≡ row = same_element rows number found row f (subst (λ n. slice_get rows n ≡ Some row) p there) in
-                    (set row spot.instance done, subst (λ n. slice_get (set rows spot.parent (set row spot.instance done)) n ≡ Some (set row spot.instance done)) p put, length-set row spot.instance done ∙ (ap length (sym q) ∙ len))
-                | inr d ↦ (found, get_set_other rows spot.parent number (set row spot.instance done) d ∙ f, len)
-              ];
-        };
-        known = λ outer instance inner l below. elim (last_or_less inner done l) [
+        len = length-set items place done ∙ knows.len;
+        known = λ outer instance inner l below. elim (last_or_less inner done l) as (λ _. slice_get (set items place done) (instances_before cells spots outer + instance) ≡ Some inner) [
           | inr p ↦
               let q : below.spot ≡ spot = same_element spots done below.spot spot (subst (λ n. slice_get spots n ≡ Some below.spot) p below.is_spot) is in
-              let o : spot.parent ≡ outer = ap (λ s. s.parent) (sym q) ∙ below.of_parent in
-              let i : spot.instance ≡ instance = ap (λ s. s.instance) (sym q) ∙ below.of_instance in
-              record {
-                the_row = set row spot.instance done;
-                is_row = subst (λ n. slice_get (set rows spot.parent (set row spot.instance done)) n ≡ Some (set row spot.instance done)) o put;
-                is_there = subst₂ (λ n m. slice_get (set row spot.instance done) n ≡ Some m) i (sym p) (get_set_same row spot.instance done within);
-              }
-          | inl less ↦ kept row there outer instance inner less below
+              let o : spot.parent ≡ outer = ap (λ (s : Spot). s.parent) (sym q) ∙ below.of_parent in
+              let i : spot.instance ≡ instance = ap (λ (s : Spot). s.instance) (sym q) ∙ below.of_instance in
+              let b : instances_before cells spots spot.parent ≡ instances_before cells spots outer = ap (instances_before cells spots) o in
+              let at : place ≡ instances_before cells spots outer + instance = omega (arith, e, b, i) in
+              subst (λ n. slice_get (set items place done) n ≡ Some inner) at (get_set_same items place done (omega (arith, e, here.total, knows.len)) ∙ ap Some (sym p))
+          | inl less ↦
+              let there : HasRowPlace cells spots below.spot = row_place inner below.spot below.no_top below.is_spot in
+              let b : instances_before cells spots below.spot.parent ≡ instances_before cells spots outer = ap (instances_before cells spots) below.of_parent in
+              let i : below.spot.instance ≡ instance = below.of_instance in
+              let other : place ≢ instances_before cells spots outer + instance = λ same.
+              let once = place_once spot below.spot here there (omega (arith, e, same, b, i)) in
+              let one : done ≡ inner = facts.once done inner spot below.spot pos below.no_top is below.is_spot once.0 once.1 in
+              omega (arith, one, less) in
+              get_set_other items place (instances_before cells spots outer + instance) done other ∙ knows.known outer instance inner less below
         ];
       }
+
+-- ---- what stands in a row
+pub rows_count : (starts items : List ℕ) → length (parts starts items) ≡ length starts - 1
+rows_count starts items = length-map-range_with_len (part starts items) 0 (length starts - 1)
+
+rows_read : (starts items : List ℕ) (number : ℕ) → number + 1 < length starts → get_or (parts starts items) number [] ≡ part starts items number
+rows_read starts items number h = get_or-map-range_with_len (part starts items) 0 (length starts - 1) number number [] (omega (arith, h)) (omega arith)
+
+pub row_there : (starts items : List ℕ) (number : ℕ) → number + 1 < length starts → slice_get (parts starts items) number ≡ Some (part starts items number)
+row_there starts items number h =
+    let c = rows_count starts items in
+    slice_get-get_or (parts starts items) number [] (omega (arith, h, c)) ∙ ap Some (rows_read starts items number h)
+
+-- a number that the table has stands in the part of its row
+pub number_in : (starts items : List ℕ) (rows : List (List ℕ)) (row place number : ℕ) → parts starts items ≡ rows → HasNumber rows row place number → slice_get (part starts items row) place ≡ Some number
+number_in starts items rows row place number e h =
+    let lt : row < length rows = slice_get_within rows row h.the_row h.is_row in
+    let c = rows_count starts items in
+    let l = ap length e in
+    let there : slice_get rows row ≡ Some (part starts items row) = subst (λ w. slice_get w row ≡ Some (part starts items row)) e (row_there starts items row (omega (arith, lt, c, l))) in
+    subst (λ r. slice_get r place ≡ Some number) (same_element rows row h.the_row (part starts items row) h.is_row there) h.is_there
+
+pub taken_there : (xs : List ℕ) (n i x : ℕ) → i < n → slice_get xs i ≡ Some x → slice_get (take n xs) i ≡ Some x
+taken_there xs zero i x lt e = absurd (omega (arith, lt))
+taken_there [] (suc n) i x lt e = absurd (cc)
+taken_there (y ∷ xs) (suc n) zero x lt e = e
+taken_there (y ∷ xs) (suc n) (suc i) x lt e = taken_there xs n i x (omega (arith, lt)) e
+
+pub dropped_there : (xs : List ℕ) (n i x : ℕ) → slice_get xs (n + i) ≡ Some x → slice_get (drop n xs) i ≡ Some x
+dropped_there xs zero i x e = let z : 0 + i ≡ i = omega arith in subst (λ k. slice_get xs k ≡ Some x) z e
+dropped_there [] (suc n) i x e = absurd (cc)
+dropped_there (y ∷ xs) (suc n) i x e = let z : suc n + i ≡ suc (n + i) = omega arith in dropped_there xs n i x (subst (λ k. slice_get (y ∷ xs) k ≡ Some x) z e)
+
+pub belows_whole : (cells : List HCell) (top : ℕ) (spots : List Spot) → SpotFacts cells top spots → (starts items : List ℕ) (done : ℕ) → AreRowStarts cells spots starts → length spots ≤ done → KnowsBelows cells spots done items → AreBelows spots (parts starts items)
+belows_whole cells top spots facts starts items done are le knows = λ outer instance inner below.
+    let lt : inner < length spots = slice_get_within spots inner below.spot below.is_spot in
+    let here : HasRowPlace cells spots below.spot = row_place cells top spots facts inner below.spot below.no_top below.is_spot in
+    let o : below.spot.parent ≡ outer = below.of_parent in
+    let i : below.spot.instance ≡ instance = below.of_instance in
+    let b : instances_before cells spots below.spot.parent ≡ instances_before cells spots outer = ap (instances_before cells spots) o in
+    let n : instances_before cells spots (below.spot.parent + 1) ≡ instances_before cells spots (outer + 1) = ap (λ k. instances_before cells spots (k + 1)) o in
+    let from = are.each outer (omega (arith, here.above, o)) in
+    let to = are.each (outer + 1) (omega (arith, here.above, o)) in
+    let at : slice_get items (get_or starts outer 0 + instance) ≡ Some inner = subst (λ k. slice_get items (k + instance) ≡ Some inner) (sym from) (knows.known outer instance inner (omega (arith, lt, le)) below) in
+    record {
+      the_row = part starts items outer;
+      is_row = row_there starts items outer (omega (arith, here.above, o, are.len));
+      is_there = taken_there (drop (get_or starts outer 0) items) (get_or starts (outer + 1) 0 - get_or starts outer 0) instance inner (omega (arith, from, to, here.next, b, n, i)) (dropped_there items (get_or starts outer 0) instance inner at);
+    }

@@ -9,7 +9,8 @@ use Rattle.net_hier.specs.declared.cells.HCell.{HCell}
 use Rattle.net_hier.specs.declared.cells.HInst.{HInst}
 use Rattle.net_hier.specs.declared.nodes.Node.TheVariants.{Pin}
 use Rattle.net_hier.specs.declared.nodes.Join.{Join}
-use Rattle.flat_numbers.specs.Numbers.{AreLinks, CellOf, NodeNumber, constant_number}
+use Rattle.flat_numbers.specs.Linked.{AreLabels}
+use Rattle.flat_numbers.specs.Numbers.{AreFlatJoins, AreLinks, CellOf, NodeNumber, constant_number}
 use Rattle.flat_numbers.specs.declared.spots.Spot.{Spot}
 
 -- the new joins are the old ones and those that are told
@@ -88,3 +89,9 @@ ConstantsOf names cells spots base number u v = (place : ℕ) × ConstantAt name
 -- no cell has more instances than the flat tools take
 abbrev pub AreFew : List HCell → Type 0
 AreFew cells = (number : ℕ) (cell : HCell) → IsCell cells number cell → length cell.instances ≤ 2000000
+
+-- the labels of the numbers of a design: those of the joins that its numbers have
+pub record AreJoinLabels (names : ConstantNames) (cells : List HCell) (spots : List Spot) (base : ℕ → ℕ) (links : ℕ → List Join) (count : ℕ) (labels : List ℕ) : Type 0 where
+  pub joins : List NumberJoin
+  pub are_joins : AreFlatJoins names cells spots base links joins
+  pub are_labels : AreLabels count joins labels

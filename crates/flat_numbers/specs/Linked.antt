@@ -1,15 +1,11 @@
 -- Numbers that are linked by joins.
-use Rattle.std.specs.Prelude.{◌≡◌, ℕ, ◌<◌, ◌⊎◌, ◌↔◌, List, length, slice_index_or, All, Contains}
+use Rattle.std.specs.Prelude.{◌≡◌, ℕ, ◌<◌, ◌⊎◌, ◌↔◌, List, length, slice_index_or, Contains}
 use Rattle.net_graph.specs.Walks.{IsLinked}
 use Rattle.flat_numbers.specs.declared.joins.NumberJoin.{NumberJoin}
 
 -- one of the joins has the two numbers, in either order
 abbrev pub HasJoin : List NumberJoin → ℕ → ℕ → Type 0
 HasJoin joins a b = Contains joins (record { a = a; b = b }) ⊎ Contains joins (record { a = b; b = a })
-
--- both ends of each join are below the count
-abbrev pub JoinsAreBelow : ℕ → List NumberJoin → Type 0
-JoinsAreBelow count joins = All (λ join. (join.a < count) × (join.b < count)) joins
 
 -- the label of a number
 abbrev pub label : List ℕ → ℕ → ℕ

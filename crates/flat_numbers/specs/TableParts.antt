@@ -16,4 +16,4 @@ bases_in tables = base_of tables.layout.bases.items tables.layout.count
 
 -- the tables are those of a design of a flat count within the limit
 abbrev pub HasTables : Design → Tables → Type 0
-HasTables design tables = (count : ℕ) × AreTables design.cells design.top count tables.layout (rows_in tables.belows.items) (rows_in tables.offsets.items) × (count ≤ 2000000)
+HasTables design tables = (count : ℕ) × AreTables design.cells design.top count tables.layout tables.belows (rows_in tables.offsets.items) × (count ≤ 2000000)

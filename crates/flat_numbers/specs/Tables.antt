@@ -1,4 +1,4 @@
-use Rattle.std.specs.Prelude.{◌≡◌, ◌+◌, ℕ, ◌<◌, ◌≤◌, List, length, slice_get, Some}
+use Rattle.std.specs.Prelude.{◌≡◌, ◌+◌, ℕ, zero, suc, ◌≤◌, List, [], ◌∷◌, length, slice_get, slice_index, Option, Some, None}
 use Rattle.net_hier.specs.Cells.{width_of}
 use Rattle.net_hier.specs.Units.{port_bits}
 use Rattle.net_hier.specs.Design.{IsCell}
@@ -16,10 +16,21 @@ pub record HasNumber (rows : List (List ℕ)) (row place number : ℕ) : Type 0 
   pub is_row : slice_get rows row ≡ Some the_row
   pub is_there : slice_get the_row place ≡ Some number
 
--- the first rows are as long as the cells of their spots have instances
-pub record RowsFit (cells : List HCell) (spots : List Spot) (done : ℕ) (rows : List (List ℕ)) : Type 0 where
-  pub len : length rows ≡ done
-  pub at : (number : ℕ) (spot : Spot) (cell : HCell) → number < done → slice_get spots number ≡ Some spot → IsCell cells spot.cell cell → (row : List ℕ) × (slice_get rows number ≡ Some row) × (length row ≡ length cell.instances)
+-- how many instances a cell has, none where there is no cell
+abbrev pub instances_of : Option HCell → ℕ
+instances_of None = 0
+instances_of (Some cell) = length cell.instances
+
+-- how many instances the cells of the spots before this one have
+abbrev pub instances_before : List HCell → List Spot → ℕ → ℕ
+instances_before cells [] number = 0
+instances_before cells (spot ∷ spots) zero = 0
+instances_before cells (spot ∷ spots) (suc number) = instances_of (slice_get cells spot.cell) + instances_before cells spots number
+
+-- where the rows of the spots begin, and where the last one ends, if each has a place for each instance of the spot's cell
+pub record AreRowStarts (cells : List HCell) (spots : List Spot) (starts : List ℕ) : Type 0 where
+  pub len : length starts ≡ length spots + 1
+  pub each : (number : ℕ) → number ≤ length spots → slice_index starts number ≡ instances_before cells spots number
 
 -- for each spot the spots of its cell's instances
 abbrev pub AreBelows : List Spot → List (List ℕ) → Type 0

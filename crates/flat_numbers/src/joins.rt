@@ -1,10 +1,11 @@
-// The joins of the numbers.
-ghost use Rattle.std.specs.Prelude.{ℕ, ◌≡◌, ◌<◌, ◌≤◌, length, slice_get, Some, IfOk, OnOk};
-ghost use Rattle.flat_numbers.specs.FlatJoins.{AreCellLinks, AreConstants, AreFew, ConstantAt, ConstantsOf, Extends, HasLinks, InstanceAt, LinksOf, links_in};
-ghost use Rattle.flat_numbers.specs.Numbers.{AreFlatJoins};
-ghost use Rattle.flat_numbers.specs.declared.spots.Spot.{Spot as SpotValue};
+// The joins of the numbers. No list of them is made: each is linked where it is found.
+ghost use Rattle.std.specs.Prelude.{ℕ, ◌≡◌, ◌<◌, ◌≤◌, length, IfOk};
+ghost use Rattle.flat_numbers.specs.FlatJoins.{AreCellLinks, AreConstants, AreFew, AreJoinLabels, ConstantAt, ConstantsOf, HasLinks, InstanceAt, LinksOf, links_in};
+ghost use Rattle.flat_numbers.specs.Forest.{IsForest, LinksMore};
+ghost use Rattle.flat_numbers.specs.Numbers.{FlatJoin};
 ghost use Rattle.flat_numbers.specs.TableParts.{HasTables, bases_in, spots_in};
 
+use crate::linked::{join_roots, own_parents, settle};
 use crate::numbers::{Tables, node_number};
 use crate::spots::Spot;
 use net_hier::{Constants, HCell, Hier, Join, Node};
@@ -18,8 +19,8 @@ pub struct NumberJoin {
     pub b: u32,
 }
 
-/// Adds the join of an instance's pin and a constant, where the instance is of a constant cell.
-fn push_constant(
+/// Links an instance's pin and a constant, where the instance is of a constant cell.
+fn link_constant(
     hier: &Hier,
     tables: &Tables,
     _names: &Constants,
@@ -27,17 +28,18 @@ fn push_constant(
     number: u32,
     place: u32,
     below: u32,
-    joins: &mut Vec<NumberJoin>,
-) -> Result<(), NoMemory>
+    parents: &mut [u32],
+)
     requires are_tables { HasTables hier.now tables.now }
     requires are_constants { AreConstants _names.now hier.now.cells constants.now }
     requires instance { InstanceAt hier.now.cells (spots_in tables.now) number place below }
-    ensures { OnOk result (Extends joins.old.items joins.new.items (ConstantAt _names.now
-        hier.now.cells (spots_in tables.now) (bases_in tables.now) number place)) }
+    requires forest { IsForest tables.now.layout.count parents.old }
+    ensures { LinksMore tables.now.layout.count parents.old parents.new (ConstantAt _names.now
+        hier.now.cells (spots_in tables.now) (bases_in tables.now) number place) }
 {
     let _cells = hier.cells();
     match constants[below as usize] {
-        None => Ok(()),
+        None => {}
         Some(value) => {
             let pin = Node::Pin {
                 instance: place,
@@ -45,8 +47,7 @@ fn push_constant(
                 bit: 0,
             };
             let a = node_number(hier, tables, number, pin);
-            joins.push(NumberJoin { a, b: value as u32 })?;
-            Ok(())
+            join_roots(parents, NumberJoin { a, b: value as u32 });
         }
     }
 }
@@ -63,49 +64,44 @@ fn links_at<'a>(spot: Spot, cells: &'a [HCell], links: &'a [Vec<Join>]) -> &'a [
     if row.is_empty() { joins } else { row }
 }
 
-/// Adds these links of the cell at a spot, by the numbers of their nodes.
-fn push_links(
-    hier: &Hier,
-    tables: &Tables,
-    links: &[Join],
-    number: u32,
-    joins: &mut Vec<NumberJoin>,
-) -> Result<(), NoMemory>
+/// Links by these links of the cell at a spot, by the numbers of their nodes.
+fn link_links(hier: &Hier, tables: &Tables, links: &[Join], number: u32, parents: &mut [u32])
     requires are_tables { HasTables hier.now tables.now }
     requires links { HasLinks hier.now.cells (spots_in tables.now) number links.now }
-    ensures { OnOk result (Extends joins.old.items joins.new.items (LinksOf hier.now.cells
-        (spots_in tables.now) (bases_in tables.now) (λ _. links.now) number)) }
+    requires forest { IsForest tables.now.layout.count parents.old }
+    ensures { LinksMore tables.now.layout.count parents.old parents.new (LinksOf hier.now.cells
+        (spots_in tables.now) (bases_in tables.now) (λ _. links.now) number) }
 {
     let _cells = hier.cells();
     for link in links {
         let a = node_number(hier, tables, number, link.a);
         let b = node_number(hier, tables, number, link.b);
-        joins.push(NumberJoin { a, b })?;
+        join_roots(parents, NumberJoin { a, b });
     }
-    Ok(())
 }
 
-/// Adds the joins of the pins of a spot's instances of constant cells.
-fn push_constants(
+/// Links the pins of a spot's instances of constant cells.
+fn link_constants(
     hier: &Hier,
     tables: &Tables,
     names: &Constants,
     constants: &[Option<bool>],
     number: u32,
-    joins: &mut Vec<NumberJoin>,
-) -> Result<(), NoMemory>
+    parents: &mut [u32],
+)
     requires are_tables { HasTables hier.now tables.now }
     requires are_constants { AreConstants names.now hier.now.cells constants.now }
     requires few { AreFew hier.now.cells }
     requires spot { number < length (spots_in tables.now) }
-    ensures { OnOk result (Extends joins.old.items joins.new.items (ConstantsOf names.now
-        hier.now.cells (spots_in tables.now) (bases_in tables.now) number)) }
+    requires forest { IsForest tables.now.layout.count parents.old }
+    ensures { LinksMore tables.now.layout.count parents.old parents.new (ConstantsOf names.now
+        hier.now.cells (spots_in tables.now) (bases_in tables.now) number) }
 {
     let cells = hier.cells();
     let cell = &cells[tables.layout.spots[number as usize].cell as usize];
     let instances = cell.instances.items();
     for place in 0..instances.len() {
-        push_constant(
+        link_constant(
             hier,
             tables,
             names,
@@ -113,59 +109,58 @@ fn push_constants(
             number,
             place as u32,
             instances[place].cell,
-            joins,
-        )?;
+            parents,
+        );
     }
-    Ok(())
 }
 
-/// How many joins the numbers of all spots have, or 2^64-1 where there are more: each spot but the
-/// top's is that of an instance.
-fn count_of_joins(
-    cells: &[HCell],
-    spots: &[Spot],
+/// Links by the joins of the numbers of all spots: for each the links of its cell, and the pins of
+/// its instances of constant cells.
+fn link_spots(
+    hier: &Hier,
+    tables: &Tables,
+    names: &Constants,
     links: &[Vec<Join>],
     constants: &[Option<bool>],
-) -> usize
-    requires cells { (number : ℕ) (spot : SpotValue) → slice_get spots.now number ≡ Some spot →
-        spot.cell < length cells.now }
-    requires links { length links.now ≡ length cells.now }
-    requires constants { length constants.now ≡ length cells.now }
+    parents: &mut [u32],
+)
+    requires are_tables { HasTables hier.now tables.now }
+    requires are_links { AreCellLinks hier.now.cells links.now }
+    requires are_constants { AreConstants names.now hier.now.cells constants.now }
+    requires few { AreFew hier.now.cells }
+    requires forest { IsForest tables.now.layout.count parents.old }
+    ensures { LinksMore tables.now.layout.count parents.old parents.new (FlatJoin names.now
+        hier.now.cells (spots_in tables.now) (bases_in tables.now)
+        (links_in hier.now.cells links.now)) }
 {
-    let mut count: usize = 0;
-    for spot in spots {
-        count = count.saturating_add(links_at(*spot, cells, links).len());
-        if constants[spot.cell as usize].is_some() {
-            count = count.saturating_add(1);
-        }
+    let cells = hier.cells();
+    for number in 0..tables.layout.spots.len() {
+        let here = links_at(tables.layout.spots[number], cells, links);
+        link_links(hier, tables, here, number as u32, parents);
+        link_constants(hier, tables, names, constants, number as u32, parents);
     }
-    count
 }
 
-/// The joins of the numbers of all spots: for each the links of its cell, and the pins of its
-/// instances of constant cells.
-pub fn flat_joins(
+/// For each number the least number that joins link to it. The joins are those of all spots: the
+/// links of each one's cell, and the pins of its instances of constant cells.
+pub fn join_labels(
     alloc: Global,
     hier: &Hier,
     tables: &Tables,
     names: &Constants,
     links: &[Vec<Join>],
     constants: &[Option<bool>],
-) -> Result<Vec<NumberJoin>, NoMemory>
+) -> Result<Vec<u32>, NoMemory>
     requires are_tables { HasTables hier.now tables.now }
     requires are_links { AreCellLinks hier.now.cells links.now }
     requires are_constants { AreConstants names.now hier.now.cells constants.now }
     requires few { AreFew hier.now.cells }
-    ensures { IfOk result (λ joins. AreFlatJoins names.now hier.now.cells (spots_in tables.now)
-        (bases_in tables.now) (links_in hier.now.cells links.now) joins.items) }
+    ensures { IfOk result (λ labels. AreJoinLabels names.now hier.now.cells (spots_in tables.now)
+        (bases_in tables.now) (links_in hier.now.cells links.now) tables.now.layout.count
+        labels.items) }
 {
-    let cells = hier.cells();
-    let count = count_of_joins(cells, tables.layout.spots.as_slice(), links, constants);
-    let mut joins = Vec::with_capacity(alloc, count)?;
-    for number in 0..tables.layout.spots.len() {
-        let here = links_at(tables.layout.spots[number], cells, links);
-        push_links(hier, tables, here, number as u32, &mut joins)?;
-        push_constants(hier, tables, names, constants, number as u32, &mut joins)?;
-    }
-    Ok(joins)
+    let mut parents = own_parents(alloc, tables.layout.count)?;
+    link_spots(hier, tables, names, links, constants, &mut parents);
+    settle(&mut parents);
+    Ok(parents)
 }

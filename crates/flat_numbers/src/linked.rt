@@ -3,7 +3,7 @@ ghost use Rattle.std.specs.Prelude.{ℕ, ◌≡◌, ◌<◌, ◌≤◌, ◌+◌,
 ghost use Rattle.std.specs.List.{range_with_len};
 ghost use Rattle.flat_numbers.specs.declared.joins.NumberJoin.{NumberJoin};
 ghost use Rattle.flat_numbers.specs.Forest.{HasLabels};
-ghost use Rattle.flat_numbers.specs.Linked.{AreAlike, AreLabels, JoinsAreBelow, label};
+ghost use Rattle.flat_numbers.specs.Linked.{AreAlike, AreLabels, label};
 
 use crate::joins::NumberJoin;
 use nl_base::NoMemory;
@@ -28,14 +28,14 @@ fn root_of(parents: &mut [u32], number: u32) -> u32
 }
 
 /// Lets the greater of the roots of the two numbers lead to the lesser.
-fn join_roots(parents: &mut [u32], join: &NumberJoin)
-    requires a { join.now.a < length parents.old }
-    requires b { join.now.b < length parents.old }
+pub(crate) fn join_roots(parents: &mut [u32], join: NumberJoin)
+    requires a { join.a < length parents.old }
+    requires b { join.b < length parents.old }
     requires labels { (labels : List ℕ) × HasLabels parents.old labels }
     ensures len { length parents.new ≡ length parents.old }
     ensures joined { (joins : List NumberJoin) (labels : List ℕ) → HasLabels parents.old labels →
         AreLabels (length parents.old) joins labels
-        → (others : List ℕ) × HasLabels parents.new others × AreLabels (length parents.old) (joins ++ join.now ∷ []) others }
+        → (others : List ℕ) × HasLabels parents.new others × AreLabels (length parents.old) (joins ++ join ∷ []) others }
 {
     let a = root_of(parents, join.a);
     let b = root_of(parents, join.b);
@@ -47,7 +47,7 @@ fn join_roots(parents: &mut [u32], join: &NumberJoin)
 }
 
 /// Each number as its own parent.
-fn own_parents(alloc: Global, count: u32) -> Result<Vec<u32>, NoMemory>
+pub(crate) fn own_parents(alloc: Global, count: u32) -> Result<Vec<u32>, NoMemory>
     ensures { IfOk result (λ parents. parents.items ≡ range_with_len 0 count) }
 {
     let mut parents = Vec::with_capacity(alloc, count as usize)?;
@@ -59,24 +59,11 @@ fn own_parents(alloc: Global, count: u32) -> Result<Vec<u32>, NoMemory>
 
 /// Gives each number its root as parent. The parent of a number is not greater, so it has its root
 /// already.
-fn settle(parents: &mut [u32])
+pub(crate) fn settle(parents: &mut [u32])
     requires labels { (labels : List ℕ) × HasLabels parents.old labels }
     ensures { (labels : List ℕ) → HasLabels parents.old labels → AreAlike parents.new labels }
 {
     for number in 0..parents.len() {
         parents[number] = parents[parents[number] as usize];
     }
-}
-
-/// For each number below `count` the least number that is linked to it by the joins.
-pub fn least_linked(alloc: Global, count: u32, joins: &[NumberJoin]) -> Result<Vec<u32>, NoMemory>
-    requires { JoinsAreBelow count joins.now }
-    ensures { IfOk result (λ labels. AreLabels count joins.now labels.items) }
-{
-    let mut parents = own_parents(alloc, count)?;
-    for join in joins {
-        join_roots(&mut parents, join);
-    }
-    settle(&mut parents);
-    Ok(parents)
 }

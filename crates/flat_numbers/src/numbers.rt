@@ -7,7 +7,7 @@ ghost use Rattle.flat_numbers.specs.TableParts.{HasTables, bases_in, spots_in};
 ghost use Rattle.flat_numbers.specs.Tables.{AreTables, HasPlace, rows_in};
 ghost use Rattle.net_hier.specs.FlatCount.{FlatCount};
 
-use crate::tables::{belows_of, offsets_of};
+use crate::tables::{Rows, belows_of, offsets_of};
 use crate::walk::{Layout, layout_of};
 use net_hier::{Hier, Node};
 use nl_base::NoMemory;
@@ -17,7 +17,7 @@ use std::alloc::Global;
 #[derive(Drop)]
 pub struct Tables {
     pub layout: Layout,
-    pub belows: Vec<Vec<u32>>,
+    pub belows: Rows,
     pub offsets: Vec<Vec<u32>>,
 }
 
@@ -55,7 +55,7 @@ pub fn node_number(hier: &Hier, tables: &Tables, number: u32, node: Node) -> u32
             port,
             bit,
         } => {
-            let inner = tables.belows[number as usize][instance as usize];
+            let inner = tables.belows.at(number, instance);
             place_number(tables, inner, port as usize, bit)
         }
     }
@@ -66,7 +66,7 @@ pub fn tables_of(alloc: Global, hier: &Hier, count: u64) -> Result<Tables, NoMem
     requires few { count ≤ 2000000 }
     requires counted { FlatCount hier.now.cells hier.now.top count }
     ensures { IfOk result (λ tables. AreTables hier.now.cells hier.now.top count tables.layout
-        (rows_in tables.belows.items) (rows_in tables.offsets.items)) }
+        tables.belows (rows_in tables.offsets.items)) }
 {
     let cells = hier.cells();
     let layout = layout_of(alloc, cells, hier.top(), count)?;

@@ -1,42 +1,77 @@
 // Tables over the spots and the cells.
-ghost use Rattle.std.specs.Prelude.{ℕ, ◌≡◌, ◌^◌, ◌<◌, ◌≤◌, List, [], ◌∷◌, map, length, slice_get, Some, IfOk};
-ghost use Rattle.flat_numbers.specs.declared.spots.Spot.{Spot as SpotValue};
+ghost use Rattle.std.specs.Prelude.{ℕ, ◌≡◌, ◌^◌, ◌<◌, ◌≤◌, List, [], ◌∷◌, map, length, IfOk};
 ghost use Rattle.net_hier.specs.Units.{port_bits};
 ghost use Rattle.flat_numbers.specs.Spots.{Walks, top_spot};
-ghost use Rattle.flat_numbers.specs.Tables.{AreBelows, AreOffsets, AreOffsetsOf, AreSmall, RowsFit};
+ghost use Rattle.flat_numbers.specs.Tables.{AreBelows, AreOffsets, AreOffsetsOf, AreRowStarts, AreSmall, HasNumber};
 
 use crate::spots::Spot;
+use net_bits::parts::part_of;
 use net_hier::HCell;
 use net_hier::units::port_width;
 use nl_base::NoMemory;
 use std::alloc::Global;
+use std::marker::Model;
 
-/// For each spot a row as long as its cell has instances.
-fn rows_of(alloc: Global, cells: &[HCell], spots: &[Spot]) -> Result<Vec<Vec<u32>>, NoMemory>
-    requires { (number : ℕ) (spot : SpotValue) → slice_get spots.now number ≡ Some spot →
-        spot.cell < length cells.now }
-    ensures { IfOk result (λ rows. RowsFit cells.now spots.now (length spots.now) (map (λ row.
-        row.items) rows.items)) }
-{
-    let mut rows = Vec::with_capacity(alloc, spots.len())?;
-    for spot in spots {
-        rows.push(vec![in alloc; 0; cells[spot.cell as usize].instances.len()]?)?;
+/// Rows of numbers. Contracts see the list of the rows, which lie one behind the other.
+#[derive(Drop)]
+pub struct Rows {
+    starts: Vec<u32>,
+    items: Vec<u32>,
+}
+
+impl Model for Rows {
+    ghost use Rattle.std.specs.Prelude.{ℕ, List, length};
+    ghost use Rattle.net_bits.specs.Parts.{AreStarts, parts};
+
+    ghost Value = { List (List ℕ) };
+
+    ghost view = { λ r. parts r.starts.items r.items.items };
+
+    ghost invariant = { λ r. AreStarts r.starts.items (length r.items.items) };
+}
+
+impl Rows {
+    /// The number at a place of a row.
+    pub fn at(&self, row: u32, place: u32) -> u32
+        requires { (number : ℕ) × HasNumber self.now row place number }
+        ensures { (number : ℕ) → HasNumber self.now row place number → result ≡ number }
+    {
+        part_of(self.starts.as_slice(), self.items.as_slice(), row as usize)[place as usize]
     }
-    Ok(rows)
+}
+
+/// Where the row of each spot begins, and where the last one ends: a row has a place for each
+/// instance of the spot's cell.
+fn starts_of(alloc: Global, cells: &[HCell], spots: &[Spot]) -> Result<Vec<u32>, NoMemory>
+    requires few { length spots.now < 2 ^ 32 }
+    requires are_spots { (top : ℕ) × Walks cells.now 0 (top_spot top ∷ []) spots.now }
+    ensures { IfOk result (λ starts. AreRowStarts cells.now spots.now starts.items) }
+{
+    let mut starts = Vec::with_capacity(alloc, spots.len() + 1)?;
+    let mut before: u32 = 0;
+    for spot in spots {
+        starts.push(before)?;
+        before += cells[spot.cell as usize].instances.len() as u32;
+    }
+    starts.push(before)?;
+    Ok(starts)
 }
 
 /// For each spot the numbers of the spots of its cell's instances.
-pub fn belows_of(alloc: Global, cells: &[HCell], spots: &[Spot]) -> Result<Vec<Vec<u32>>, NoMemory>
+pub fn belows_of(alloc: Global, cells: &[HCell], spots: &[Spot]) -> Result<Rows, NoMemory>
     requires few { length spots.now < 2 ^ 32 }
     requires are_spots { (top : ℕ) × Walks cells.now 0 (top_spot top ∷ []) spots.now }
-    ensures { IfOk result (λ rows. AreBelows spots.now (map (λ row. row.items) rows.items)) }
+    ensures { IfOk result (AreBelows spots.now) }
 {
-    let mut rows = rows_of(alloc, cells, spots)?;
+    let starts = starts_of(alloc, cells, spots)?;
+    let total = starts[spots.len()];
+    let mut items = vec![in alloc; 0; total as usize]?;
     for number in 1..spots.len() {
         let spot = spots[number];
-        rows[spot.parent as usize][spot.instance as usize] = number as u32;
+        let place = starts[spot.parent as usize] + spot.instance;
+        items[place as usize] = number as u32;
     }
-    Ok(rows)
+    Ok(Rows { starts, items })
 }
 
 /// How many bits stand before each port of a cell, and before its nets.

@@ -1,6 +1,5 @@
-use Rattle.std.proofs.Common.{map}
 use Rattle.flat_numbers.proofs.Rows.{KnowsBelows}
 use Rattle.flat_numbers.proofs.tables.belows_of.Given as goal
 
 abbrev pub invariant-loop-number : goal.invariant-loop-number
-invariant-loop-number l = KnowsBelows l.cells l.spots l.number (map (λ row. row.items) l.rows.items)
+invariant-loop-number l = KnowsBelows l.cells l.spots l.number l.items.items
