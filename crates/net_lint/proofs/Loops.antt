@@ -1,7 +1,7 @@
 -- Lists that loops make.
-use Rattle.std.proofs.Common.{◌≡◌, ℕ, ◌+◌, ◌<◌, List, [], ◌∷◌, ◌++◌, sym, ◌∙◌, ap, get_or, Bool, true, false, drop, length, map, filter, Vec, Global}
+use Rattle.std.proofs.Common.{◌≡◌, ℕ, ◌+◌, ◌<◌, List, [], ◌∷◌, ◌++◌, sym, ◌∙◌, ap, get_or, Bool, true, false, drop, length, filter}
 use Rattle.std.specs.List.{range_with_len}
-use Rattle.std.proofs.lemmas.List.{append-nil, get_or-map}
+use Rattle.std.proofs.lemmas.List.{append-nil}
 use Rattle.std.proofs.lemmas.Option.{get_or_from_slice_get, slice_get-get_or}
 use Rattle.net_hier.specs.Paths.{Path}
 use Rattle.net_hier.specs.declared.cells.HCell.{HCell}
@@ -22,10 +22,9 @@ kept_added test n b old new e t more is = more ∙ (ap (λ w. w ++ n ∷ []) is 
 pub kept_passed : (test : ℕ → Bool) (n : ℕ) (b : Bool) (old new : List ℕ) → b ≡ test n → b ≡ false → new ≡ old → old ≡ filter test (range_with_len 0 n) → new ≡ filter test (range_with_len 0 (n + 1))
 kept_passed test n b old new e t same is = same ∙ (is ∙ (sym (append-nil (filter test (range_with_len 0 n))) ∙ sym (filter_range test n false (sym e ∙ t))))
 
--- the row of a place's group
-pub row_read : (rows : List (Vec ℕ Global)) (groups : List ℕ) (place group : ℕ) (row : Vec ℕ Global) (list : List ℕ) → group ≡ group_at groups place → group < length rows → row ≡ get_or rows group row → list ≡ row.items → list ≡ drivers_at groups (map (λ (r : Vec ℕ Global). r.items) rows) place
-row_read rows groups place group row list g lt e f =
-    f ∙ (ap (λ (r : Vec ℕ Global). r.items) e ∙ (sym (get_or-map (λ (r : Vec ℕ Global). r.items) rows group row [] lt) ∙ ap (λ n. get_or (map (λ (r : Vec ℕ Global). r.items) rows) n []) g))
+-- the list of a place's group
+pub row_read : (drivers : List (List ℕ)) (groups : List ℕ) (place group : ℕ) (list : List ℕ) → group ≡ group_at groups place → list ≡ get_or drivers group [] → list ≡ drivers_at groups drivers place
+row_read drivers groups place group list g e = e ∙ ap (λ n. get_or drivers n []) g
 
 -- the finding of a place's group
 pub finding_read : (findings : List Finding) (groups : List ℕ) (place group : ℕ) (finding d : Finding) (b : Bool) → group ≡ group_at groups place → group < length findings → b ≡ same_finding finding (get_or findings group d) → b ≡ same_finding finding (get_or findings (group_at groups place) Driven)

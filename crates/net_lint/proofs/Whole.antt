@@ -1,5 +1,5 @@
 -- What the findings by groups give together.
-use Rattle.std.proofs.Common.{◌≡◌, ℕ, ◌<◌, List, [], ◌∷◌, refl, sym, ◌∙◌, ap, subst, get_or, Bool, true, false, length, map, filter, arith, All, Vec, Global}
+use Rattle.std.proofs.Common.{◌≡◌, ℕ, ◌<◌, List, [], sym, ◌∙◌, ap, subst, get_or, Bool, true, false, length, map, filter, arith, All}
 use Rattle.std.specs.Prelude.{Contains}
 use Rattle.std.specs.List.{range_with_len}
 use Rattle.std.proofs.lemmas.List.{get_or-map, length-map}
@@ -23,10 +23,6 @@ use Rattle.net_lint.proofs.Chosen.{those_of}
 use Rattle.net_lint.proofs.Meaning.{found_at, is_floating, is_undriven, many, no_floating, no_undriven}
 use Rattle.net_lint.proofs.Several.{several_are}
 
--- the lists of the rows
-abbrev pub lists_in : List (Vec ℕ Global) → List (List ℕ)
-lists_in rows = map (λ (row : Vec ℕ Global). row.items) rows
-
 -- what holds of all of a list holds of one of its elements, and of those that are kept
 all_at : (P : ℕ → Type 0) (xs : List ℕ) → All P xs → (x : ℕ) → Contains xs x → P x
 all_at P xs all x c = let s = contained xs x c in subst P (get_or_from_slice_get xs s.place x 0 s.is_there) (all s.place 0 (slice_get_within xs s.place x s.is_there))
@@ -44,28 +40,24 @@ module _ (flat : FlatValue) (members : List (List ℕ)) (of : AreMembers flat.gr
       let one : get_or members k [] ≡ get_or members k d = get_or_from_slice_get members k (get_or members k d) [] (slice_get-get_or members k d lt) in
       subst (All (λ place. place < bound)) one (member_within flat members k bound of lt len)
 
-  module _ (roles : List Role) (drivers : List (Vec ℕ Global)) (are : lists_in drivers ≡ map (drivers_among roles) members) where
+  module _ (roles : List Role) (drivers : List (List ℕ)) (are : drivers ≡ map (drivers_among roles) members) where
     pub drivers_many : length drivers ≡ flat.count
-    drivers_many =
-        let a = length-map drivers (λ (row : Vec ℕ Global). row.items) in
-        let b = ap length are in
-        let c = length-map members (drivers_among roles) in
-        let e = of.len in
-        omega (arith, a, b, c, e)
+    drivers_many = ap length are ∙ (length-map members (drivers_among roles) ∙ of.len)
 
     -- the drivers of each group
-    pub drivers_of : (group : ℕ) → group < flat.count → get_or (lists_in drivers) group [] ≡ drivers_among roles (places_of flat.groups group)
+    pub drivers_of : (group : ℕ) → group < flat.count → get_or drivers group [] ≡ drivers_among roles (places_of flat.groups group)
     drivers_of group lt =
         let e = of.len in
         ap (λ ls. get_or ls group []) are ∙ (get_or-map (drivers_among roles) members group [] [] (omega (arith, lt, e)) ∙ ap (drivers_among roles) (of.members group lt))
 
-    pub drivers_below : All (λ (row : Vec ℕ Global). All (λ place. place < bound) row.items) drivers
+    pub drivers_below : All (All (λ place. place < bound)) drivers
     drivers_below k d lt =
         let n = drivers_many in
         let e = of.len in
         let inside : k < flat.count = omega (arith, lt, n) in
         let group : All (λ place. place < bound) (places_of flat.groups k) = subst (All (λ place. place < bound)) (of.members k inside) (member_within flat members k bound of (omega (arith, inside, e)) len) in
-        subst (All (λ place. place < bound)) (sym (drivers_of k inside) ∙ get_or-map (λ (row : Vec ℕ Global). row.items) drivers k d [] lt) (kept_all (λ place. place < bound) (λ place. is_driver (role_at roles place)) (places_of flat.groups k) group)
+        let one : get_or drivers k [] ≡ get_or drivers k d = get_or_from_slice_get drivers k (get_or drivers k d) [] (slice_get-get_or drivers k d lt) in
+        subst (All (λ place. place < bound)) (sym (drivers_of k inside) ∙ one) (kept_all (λ place. place < bound) (λ place. is_driver (role_at roles place)) (places_of flat.groups k) group)
 
 module _ (names : ConstantNames) (design : Design) (valid : IsValid design) (flat : FlatValue) (are : AreFlatClasses names design flat) (members : List (List ℕ)) (of : AreMembers flat.groups flat.count members) where
   abbrev view : View
@@ -102,5 +94,5 @@ module _ (names : ConstantNames) (design : Design) (valid : IsValid design) (fla
     pub floating_found : AreFound IsFloating view (places_found flat.groups findings Floating)
     floating_found = those_found Floating IsFloating (is_floating names design valid flat are) (no_floating names design valid flat are)
 
-  pub several_found : (drivers : List (Vec ℕ Global)) → lists_in drivers ≡ map (drivers_among roles) members → AreSeveral view (sets_of flat.groups (lists_in drivers) (first_drivers flat.groups (lists_in drivers)))
-  several_found drivers e = several_are names design valid flat are (lists_in drivers) (drivers_of flat members of (length flat.terminals) are.are_numbers.len roles drivers e)
+  pub several_found : (drivers : List (List ℕ)) → drivers ≡ map (drivers_among roles) members → AreSeveral view (sets_of flat.groups drivers (first_drivers flat.groups drivers))
+  several_found drivers e = several_are names design valid flat are drivers (drivers_of flat members of (length flat.terminals) are.are_numbers.len roles drivers e)

@@ -1,5 +1,5 @@
 -- The places that findings hold.
-use Rattle.std.specs.Prelude.{◌≡◌, ◌<◌, List, All, length, map, ℕ}
+use Rattle.std.specs.Prelude.{◌≡◌, ◌<◌, List, All, length, ℕ}
 use Rattle.flat_classes.specs.Terminals.{FlatValue}
 use Rattle.net_lint.specs.Groups.{sets_of}
 use Rattle.net_lint.specs.declared.findings.Findings.{Findings}
@@ -13,9 +13,9 @@ pub record FindingsFit (flat : FlatValue) (found : Findings) : Type 0 where
   pub undriven : AreTerminals flat found.undriven.items
   pub floating : AreTerminals flat found.floating.items
   pub firsts : AreTerminals flat found.firsts.items
-  pub drivers : All (λ list. AreTerminals flat list.items) found.drivers.items
-  pub groups : length found.drivers.items ≡ flat.count
+  pub drivers : All (AreTerminals flat) found.drivers
+  pub groups : length found.drivers ≡ flat.count
 
 -- the sets of several drivers
 abbrev pub several_in : FlatValue → Findings → List (List ℕ)
-several_in flat found = sets_of flat.groups (map (λ list. list.items) found.drivers.items) found.firsts.items
+several_in flat found = sets_of flat.groups found.drivers found.firsts.items

@@ -6,10 +6,11 @@ ghost use Rattle.flat_classes.specs.Terminals.{AreFlatClasses};
 ghost use Rattle.net_hier.specs.Constants.{ConstantNames};
 ghost use Rattle.net_lint.specs.Findings.{FoundIn};
 ghost use Rattle.net_lint.specs.Found.{FindingsFit, several_in};
-ghost use Rattle.net_lint.specs.Groups.{all_sinks, drivers_among, finding_of, first_drivers, is_first, places_found, roles_of, same_finding};
+ghost use Rattle.net_lint.specs.Groups.{all_sinks, finding_of, first_drivers, is_first, places_found, roles_of, same_finding};
 ghost use Rattle.net_lint.specs.Lint.{view_of};
 
-use crate::role::{Role, is_driver, is_sink, role_of};
+use crate::drivers::{Drivers, drivers_by_group};
+use crate::role::{Role, is_sink, role_of};
 use flat_classes::{Flat, Members};
 use net_hier::{Constants, Hier};
 use nl_base::NoMemory;
@@ -34,7 +35,7 @@ pub struct Findings {
     /// The sinks that are connected to no other terminal.
     pub floating: Vec<u32>,
     /// For each group its drivers.
-    pub drivers: Vec<Vec<u32>>,
+    pub drivers: Drivers,
     /// The first drivers of the groups that have two or more.
     pub firsts: Vec<u32>,
 }
@@ -45,8 +46,9 @@ fn roles_of(alloc: Global, hier: &Hier, flat: &Flat) -> Result<Vec<Role>, NoMemo
     ensures { IfOk result (λ roles. roles.items ≡ roles_of hier.now.cells flat.now) }
 {
     let spots = flat.spots();
-    let mut roles = Vec::new(alloc);
-    for terminal in flat.terminals() {
+    let terminals = flat.terminals();
+    let mut roles = Vec::with_capacity(alloc, terminals.len())?;
+    for terminal in terminals {
         roles.push(role_of(hier, spots, *terminal))?;
     }
     Ok(roles)
@@ -63,20 +65,6 @@ fn all_sinks(roles: &[Role], places: &[u32]) -> bool
         }
     }
     true
-}
-
-/// Those of these that are drivers.
-fn drivers_among(alloc: Global, roles: &[Role], places: &[u32]) -> Result<Vec<u32>, NoMemory>
-    requires { All (λ place. place < length roles.now) places.now }
-    ensures { IfOk result (λ drivers. drivers.items ≡ drivers_among roles.now places.now) }
-{
-    let mut drivers = Vec::new(alloc);
-    for place in places {
-        if is_driver(roles[*place as usize]) {
-            drivers.push(*place)?;
-        }
-    }
-    Ok(drivers)
 }
 
 /// What is found of each terminal of a group.
@@ -102,28 +90,11 @@ fn findings_by_group(
     requires { All (All (λ place. place < length roles.now)) members.now }
     ensures { IfOk result (λ findings. findings.items ≡ map (finding_of roles.now) members.now) }
 {
-    let mut findings = Vec::new(alloc);
+    let mut findings = Vec::with_capacity(alloc, members.count())?;
     for group in 0..members.count() {
         findings.push(finding_of(roles, members.of(group)))?;
     }
     Ok(findings)
-}
-
-/// For each group its drivers.
-fn drivers_by_group(
-    alloc: Global,
-    roles: &[Role],
-    members: &Members,
-) -> Result<Vec<Vec<u32>>, NoMemory>
-    requires { All (All (λ place. place < length roles.now)) members.now }
-    ensures { IfOk result (λ drivers. map (λ list. list.items) drivers.items
-        ≡ map (drivers_among roles.now) members.now) }
-{
-    let mut drivers = Vec::new(alloc);
-    for group in 0..members.count() {
-        drivers.push(drivers_among(alloc, roles, members.of(group))?)?;
-    }
-    Ok(drivers)
 }
 
 /// Whether two findings are one.
@@ -169,6 +140,7 @@ fn places_found(
             places.push(place)?;
         }
     }
+    places.shrink_to_fit();
     Ok(places)
 }
 
@@ -183,45 +155,48 @@ fn is_first(drivers: &[u32], place: u32) -> bool
 }
 
 /// The first drivers of the groups that have two or more, in order.
-fn first_drivers(alloc: Global, flat: &Flat, drivers: &[Vec<u32>]) -> Result<Vec<u32>, NoMemory>
+fn first_drivers(alloc: Global, flat: &Flat, drivers: &Drivers) -> Result<Vec<u32>, NoMemory>
     requires numbers { AreGroupNumbers flat.now.groups flat.now.count
         (length flat.now.terminals) }
     requires groups { length drivers.now ≡ flat.now.count }
-    ensures { IfOk result (λ firsts. firsts.items ≡ first_drivers flat.now.groups (map (λ list.
-        list.items) drivers.now)) }
+    ensures { IfOk result (λ firsts. firsts.items
+        ≡ first_drivers flat.now.groups drivers.now) }
 {
     let mut firsts = Vec::new(alloc);
     for place in 0..flat.terminals().len() {
         let place = place as u32;
-        if is_first(drivers[flat.group(place) as usize].as_slice(), place) {
+        if is_first(drivers.of(flat.group(place) as usize), place) {
             firsts.push(place)?;
         }
     }
+    firsts.shrink_to_fit();
     Ok(firsts)
 }
 
-/// The findings of a design, by the places of each group's terminals.
+/// The findings of a design, by the places of each group's terminals, which are left with it.
 pub fn findings_of(
     alloc: Global,
     hier: &Hier,
     _constants: &Constants,
     flat: &Flat,
-    members: &Members,
+    members: Members,
 ) -> Result<Findings, NoMemory>
     requires classes { AreFlatClasses _constants.now hier.now flat.now }
-    requires members { AreMembers flat.now.groups flat.now.count members.now }
+    requires members { AreMembers flat.now.groups flat.now.count members }
     ensures found { IfOk result (λ found. FoundIn (view_of _constants.now hier.now flat.now)
         found.undriven.items found.floating.items (several_in flat.now found)) }
     ensures fit { IfOk result (FindingsFit flat.now) }
 {
     let _cells = hier.cells();
     let roles = roles_of(alloc, hier, flat)?;
-    let found = findings_by_group(alloc, roles.as_slice(), members)?;
-    let drivers = drivers_by_group(alloc, roles.as_slice(), members)?;
+    let found = findings_by_group(alloc, roles.as_slice(), &members)?;
+    let drivers = drivers_by_group(alloc, roles.as_slice(), &members)?;
+    drop(members);
+    drop(roles);
     Ok(Findings {
         undriven: places_found(alloc, flat, found.as_slice(), Finding::Undriven)?,
         floating: places_found(alloc, flat, found.as_slice(), Finding::Floating)?,
-        firsts: first_drivers(alloc, flat, drivers.as_slice())?,
+        firsts: first_drivers(alloc, flat, &drivers)?,
         drivers,
     })
 }

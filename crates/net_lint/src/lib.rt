@@ -15,6 +15,7 @@
 // Directions are those of EDIF 2 0 0 (direction) and IEEE 1364-2005, 12.3.3.
 #![tactic(auto)]
 
+pub mod drivers;
 pub mod findings;
 pub mod laws;
 pub mod linting;

@@ -1,5 +1,5 @@
 // The text of the findings.
-ghost use Rattle.std.specs.Prelude.{ℕ, ◌≡◌, ◌<◌, ◌≤◌, List, [], All, length, map};
+ghost use Rattle.std.specs.Prelude.{ℕ, ◌≡◌, ◌<◌, ◌≤◌, List, [], All, length};
 ghost use Rattle.flat_classes.specs.Terminals.{AreFlatClasses};
 ghost use Rattle.flat_report.specs.Report.{nets_then};
 ghost use Rattle.flat_classes.specs.Ways.{ArePaths};
@@ -13,6 +13,7 @@ ghost use Rattle.net_lint.specs.Lints.{Lints};
 ghost use Rattle.net_lint.specs.declared.linting.LintError.TheVariants.{NoMemory};
 ghost use Rattle.nl_output.specs.Writing.{Puts, Writes, state};
 
+use crate::drivers::Drivers;
 use crate::findings::{Findings, findings_of};
 use flat_classes::{Flat, FlatFault};
 use flat_report::lines::{put_count, put_design, put_terminals};
@@ -46,25 +47,25 @@ impl From<NoMemory> for LintError {
 fn put_sets<O: Sink>(
     hier: &Hier,
     flat: &Flat,
-    drivers: &[Vec<u32>],
+    drivers: &Drivers,
     firsts: &[u32],
     room: &mut [u32],
     output: &mut Output,
     sink: &mut O,
 )
     requires classes { (names : ConstantNames) × AreFlatClasses names hier.now flat.now }
-    requires drivers { All (λ list. AreTerminals flat.now list.items) drivers.now }
+    requires drivers { All (AreTerminals flat.now) drivers.now }
     requires groups { length drivers.now ≡ flat.now.count }
     requires firsts { AreTerminals flat.now firsts.now }
     requires room { length flat.now.spots ≤ length room.old }
     ensures { (paths : List Path) → ArePaths hier.now.cells flat.now.spots paths →
         Puts (nets_then hier.now.cells flat.now.spots paths flat.now.terminals
-        (sets_of flat.now.groups (map (λ list. list.items) drivers.now) firsts.now))
+        (sets_of flat.now.groups drivers.now firsts.now))
         (state O.receipt sink.old output.old)
         (state O.receipt sink.new output.new) }
 {
     for first in firsts {
-        let set = drivers[flat.group(*first) as usize].as_slice();
+        let set = drivers.of(flat.group(*first) as usize);
         put_net(hier, flat, set, room, output, sink);
     }
 }
@@ -89,7 +90,6 @@ fn put_findings<O: Sink>(
 {
     let undriven = found.undriven.as_slice();
     let floating = found.floating.as_slice();
-    let drivers = found.drivers.as_slice();
     let firsts = found.firsts.as_slice();
     put_design(hier, output, sink);
     put_count(b"undriven", undriven.len(), output, sink);
@@ -97,7 +97,7 @@ fn put_findings<O: Sink>(
     put_count(b"floating", floating.len(), output, sink);
     put_terminals(hier, flat, floating, room, output, sink);
     put_count(b"several", firsts.len(), output, sink);
-    put_sets(hier, flat, drivers, firsts, room, output, sink);
+    put_sets(hier, flat, &found.drivers, firsts, room, output, sink);
 }
 
 /// Writes the lines of the findings.
@@ -139,7 +139,7 @@ pub fn lint<O: Sink>(
         Err(FlatFault::NoMemory) => return Err(LintError::NoMemory),
     };
     let members = flat.members(alloc)?;
-    let found = findings_of(alloc, hier, constants, &flat, &members)?;
+    let found = findings_of(alloc, hier, constants, &flat, members)?;
     let mut room = room_for(alloc, flat.spots())?;
     match write_findings(hier, &flat, &found, &mut room, sink) {
         Ok(()) => Ok(()),

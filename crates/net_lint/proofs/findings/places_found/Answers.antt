@@ -34,4 +34,4 @@ pub returns : goal.returns
 returns c =
     let many = ap length c.terminals-place-end.ensures in
     let whole : c.loop-place.place ≡ length c.args.flat.now.groups = omega (arith, c.loop-place-test.false, c.loop-place.auto.place-end, many, c.requires.numbers.len) in
-    c.loop-place.invariant ∙ ap (λ n. filter (λ place. same_finding c.args.finding (get_or c.args.findings.now (group_at c.args.flat.now.groups place) Driven)) (range_with_len 0 n)) whole
+    c.shrink_to_fit.ensures.items ∙ c.loop-place.invariant ∙ ap (λ n. filter (λ place. same_finding c.args.finding (get_or c.args.findings.now (group_at c.args.flat.now.groups place) Driven)) (range_with_len 0 n)) whole

@@ -1,13 +1,13 @@
-use Rattle.std.proofs.Common.{ap, map, subst, Vec, ℕ, Global}
+use Rattle.std.proofs.Common.{refl, subst}
 use Rattle.nl_output.specs.Writing.{state, ToCome}
 use Rattle.net_lint.proofs.OneLint.{same_lines}
 use Rattle.net_lint.proofs.linting.put_findings.Goals as goal
 
 pub returns : goal.returns
 returns g c = λ paths of b rest h.
-    let text = same_lines c.args.hier.now c.args.flat.now paths c.args.found.now.undriven.items c.args.found.now.floating.items c.args.found.now.firsts.items (map (λ (list : Vec ℕ Global). list.items) c.args.found.now.drivers.items)
-    c.as_slice-undriven.result.now c.as_slice-floating.result.now c.as_slice-firsts.result.now (map (λ (list : Vec ℕ Global). list.items) c.as_slice-drivers.result.now) rest
-    c.as_slice-undriven.ensures.value c.as_slice-floating.ensures.value c.as_slice-firsts.ensures.value (ap (map (λ (list : Vec ℕ Global). list.items)) c.as_slice-drivers.ensures.value) in
+    let text = same_lines c.args.hier.now c.args.flat.now paths c.args.found.now.undriven.items c.args.found.now.floating.items c.args.found.now.firsts.items c.args.found.now.drivers
+    c.as_slice-undriven.result.now c.as_slice-floating.result.now c.as_slice-firsts.result.now c.args.found.now.drivers rest
+    c.as_slice-undriven.ensures.value c.as_slice-floating.ensures.value c.as_slice-firsts.ensures.value refl in
     c.put_sets.ensures paths of b rest
     (c.put_count-3.ensures b _
     (c.put_terminals-2.ensures paths of b _

@@ -1,7 +1,0 @@
-use Rattle.std.proofs.Common.{◌≡◌, filter, take}
-use Rattle.net_lint.specs.Groups.{role_at}
-use Rattle.net_lint.specs.Roles.{is_driver}
-use Rattle.net_lint.proofs.findings.drivers_among.Given as goal
-
-abbrev pub invariant-loop-place : goal.invariant-loop-place
-invariant-loop-place l = l.drivers.items ≡ filter (λ place. is_driver (role_at l.roles place)) (take l.place-index l.places)
