@@ -7,19 +7,16 @@ use Rattle.std.proofs.lemmas.Option.{slice_get-get_or, slice_get_within}
 use Rattle.net_hier.specs.Cells.{IsPortBit, width_of}
 use Rattle.net_hier.specs.Constants.{ConstantNames}
 use Rattle.net_hier.specs.Design.{Design, IsCell}
-use Rattle.net_hier.specs.Flat.{taken_at}
 use Rattle.net_hier.specs.Valid.{IsValid}
 use Rattle.net_hier.specs.declared.cells.HCell.{HCell}
 use Rattle.net_hier.specs.declared.cells.HPort.{HPort}
 use Rattle.net_hier.specs.declared.nodes.Join.{Join}
-use Rattle.net_hier.specs.declared.nodes.Node.{Node}
-use Rattle.flat_numbers.specs.FlatJoins.{AreCellLinks, links_in}
+use Rattle.flat_numbers.specs.FlatJoins.{AreCellLinks, AreJoinLabels, links_in}
 use Rattle.flat_numbers.specs.Layout.{base_of}
-use Rattle.flat_numbers.specs.Linked.{AreLabels, JoinsAreBelow, label}
-use Rattle.flat_numbers.specs.Numbers.{AreFlatJoins, CellOf, FlatJoin, by_link, by_constant, NodeNumber, bits_before}
+use Rattle.flat_numbers.specs.Linked.{AreLabels, label}
+use Rattle.flat_numbers.specs.Numbers.{CellOf, bits_before}
 use Rattle.flat_numbers.specs.Tables.{AreSmall, AreTables}
 use Rattle.flat_classes.specs.TerminalNumbers.{AreFlatLabels}
-use Rattle.flat_numbers.specs.declared.joins.NumberJoin.{NumberJoin}
 use Rattle.flat_numbers.specs.declared.spots.Spot.{Spot}
 use Rattle.flat_numbers.specs.declared.walk.Layout.{Layout}
 use Rattle.std.proofs.lemmas.List.Elements.{Contains-append_cases}
@@ -40,12 +37,11 @@ use Rattle.std.specs.Prelude.{slice_index}
 use Rattle.flat_numbers.proofs.SpotLaws.{listed_cells}
 use Rattle.flat_classes.proofs.TerminalLaws.{ports_read}
 use Rattle.flat_numbers.proofs.Linking.{contains_there}
-use Rattle.flat_numbers.proofs.NumberLaws.{constant_small}
-use Rattle.flat_numbers.proofs.PathSpots.{spot_has_path}
+use Rattle.flat_numbers.proofs.Bounds.{room}
 use Rattle.flat_numbers.proofs.SpotLaws.{SpotFacts, spot_facts}
-use Rattle.flat_classes.proofs.TerminalLaws.{room, terminal_below}
+use Rattle.flat_classes.proofs.TerminalLaws.{terminal_below}
 use Rattle.net_hier.proofs.PathLaws.{element_there}
-use Rattle.flat_numbers.proofs.Whole.{labels_connected, number_below}
+use Rattle.flat_numbers.proofs.Whole.{labels_connected}
 
 clash_none : (o : Option Bool) (value : Bool) → is_none o ≡ true → o ≡ Some value → ⊥
 clash_none None value e f = cc
@@ -88,36 +84,17 @@ module _ (names : ConstantNames) (design : Design) (valid : IsValid design) (cou
   facts : SpotFacts design.cells design.top layout.spots.items
   facts = spot_facts design.cells design.top layout.spots.items tables.is_layout.are_spots
 
-  node_below : (number : ℕ) (cell : HCell) (node : Node) (u : ℕ) → CellOf design.cells layout.spots.items number cell → NodeNumber design.cells layout.spots.items (base_of layout.bases.items layout.count) number cell node u → u < layout.count
-  node_below number cell node u of n =
-      let (path, at) = spot_has_path design valid layout.spots.items facts number of.spot of.is_spot in
-      number_below names design valid layout.spots.items facts (base_of layout.bases.items layout.count) layout.count tables.is_layout.are_bases (room design count layout belows offsets tables) (taken_at path node) u
-      (record { path = path; number = number; at = at; cell = cell; of_cell = of; node = node; x_is = refl; node_number = n })
-
-  module _ (links : ℕ → List Join) (joins : List NumberJoin) (flat : AreFlatJoins names design.cells layout.spots.items (base_of layout.bases.items layout.count) links joins) where
-    join_below : (u v : ℕ) → FlatJoin names design.cells layout.spots.items (base_of layout.bases.items layout.count) links u v → (u < layout.count) × (v < layout.count)
-    join_below u v (by_link {number = number} {spot = spot} {cell = cell} {x = x} {y = y} is_spot is_cell there m n) =
-        let of : CellOf design.cells layout.spots.items number cell = record { spot = spot; is_spot = is_spot; is_cell = is_cell } in
-        (node_below number cell x u of m, node_below number cell y v of n)
-    join_below u v (by_constant {number = number} {cell = cell} {value = value} of constant n) =
-        let r = room design count layout belows offsets tables in
-        let s = constant_small value in
-        (node_below number cell _ u of n, omega (arith, r, s))
-
-    pub joins_below : JoinsAreBelow layout.count joins
-    joins_below k d lt = join_below (get_or joins k d).a (get_or joins k d).b ((flat (get_or joins k d).a (get_or joins k d).b).0 (contains_there joins k (get_or joins k d) (slice_get-get_or joins k d lt)))
-
   -- the labels of a design's numbers
-  pub flat_labels : (rows read : List (Vec Join Global)) (joins handed : List NumberJoin) (labels : List ℕ) → read ≡ rows → handed ≡ joins → AreCellLinks design.cells rows →
-      AreFlatJoins names design.cells layout.spots.items (base_of layout.bases.items layout.count) (links_in design.cells read) joins → AreLabels layout.count handed labels →
+  pub flat_labels : (rows read : List (Vec Join Global)) (labels : List ℕ) → read ≡ rows → AreCellLinks design.cells rows →
+      AreJoinLabels names design.cells layout.spots.items (base_of layout.bases.items layout.count) (links_in design.cells read) layout.count labels →
       AreFlatLabels names design layout.spots.items (base_of layout.bases.items layout.count) layout.count labels
-  flat_labels rows read joins handed labels e f links flat are =
-      let here : AreFlatJoins names design.cells layout.spots.items (base_of layout.bases.items layout.count) (links_in design.cells rows) joins = subst (λ r. AreFlatJoins names design.cells layout.spots.items (base_of layout.bases.items layout.count) (links_in design.cells r) joins) e flat in
-      let labelled : AreLabels layout.count joins labels = subst (λ js. AreLabels layout.count js labels) f are in
+  flat_labels rows read labels e links are =
+      let here : AreJoinLabels names design.cells layout.spots.items (base_of layout.bases.items layout.count) (links_in design.cells rows) layout.count labels = subst (λ r. AreJoinLabels names design.cells layout.spots.items (base_of layout.bases.items layout.count) (links_in design.cells r) layout.count labels) e are in
+      let labelled : AreLabels layout.count here.joins labels = here.are_labels in
       record {
         len = labelled.len;
         below = labelled.below;
-        connected = λ x y u v hx hy. labels_connected names design valid layout.spots.items facts (base_of layout.bases.items layout.count) layout.count tables.is_layout.are_bases (room design count layout belows offsets tables) (links_in design.cells rows) links.are joins here labels labelled x y u v hx hy;
+        connected = λ x y u v hx hy. labels_connected names design valid layout.spots.items facts (base_of layout.bases.items layout.count) layout.count tables.is_layout.are_bases (room design count layout belows offsets tables) (links_in design.cells rows) links.are here.joins here.are_joins labels labelled x y u v hx hy;
       }
 
   pub first_spot : slice_get layout.spots.items 0 ≡ Some (top_spot design.top)

@@ -8,6 +8,7 @@ pub mod LeafLists
 pub mod Listing
 pub mod OneFlat
 pub mod Ordering
+pub mod PortLabels
 pub mod Stars
 pub mod TerminalLaws
 pub mod WayLaws

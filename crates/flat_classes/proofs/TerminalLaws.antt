@@ -1,25 +1,23 @@
 -- the numbers of terminals, and the lists of leaves and terminals
-use Rattle.std.proofs.Common.{◌≡◌, ℕ, ◌+◌, ◌<◌, ◌≤◌, inl, inr, List, [], ◌∷◌, ◌++◌, refl, sym, ◌∙◌, ap, subst, slice_get, get_or, Some, Option, Bool, true, false, cond, not, ◌==◌, length, take, filter, arith}
+use Rattle.std.proofs.Common.{◌≡◌, ℕ, ◌+◌, ◌<◌, List, [], ◌∷◌, ◌++◌, refl, sym, ◌∙◌, ap, slice_get, get_or, Some, Option, Bool, true, false, cond, not, ◌==◌, length, take, filter, arith}
 use Rattle.std.specs.List.{flat_map, range_with_len}
-use Rattle.std.proofs.lemmas.List.{append-nil, append_assoc, length-append, take_more}
-use Rattle.net_graph.proofs.OrderLaws.{front_or_last, get_front, get_last}
-use Rattle.std.proofs.lemmas.Option.{get_or_from_slice_get, slice_get_within}
+use Rattle.std.proofs.lemmas.List.{append-nil, append_assoc}
 use Rattle.net_hier.specs.Cells.{IsPortBit}
 use Rattle.net_hier.specs.Design.{Design, IsCell}
 use Rattle.net_hier.specs.declared.cells.HCell.{HCell}
 use Rattle.net_hier.specs.declared.nodes.Node.TheVariants.{Port as PortNode}
 use Rattle.flat_numbers.specs.Layout.{base_of}
-use Rattle.flat_numbers.specs.Linked.{label}
 use Rattle.flat_numbers.specs.Numbers.{CellOf, NodeNumber, bits_before, of_own, port_place}
 use Rattle.flat_numbers.specs.Tables.{AreTables}
-use Rattle.flat_classes.specs.TerminalNumbers.{HaveLabels, TerminalNumber, zero_number, one_number, port_number, pin_number}
+use Rattle.flat_classes.specs.TerminalNumbers.{TerminalNumber, zero_number, one_number, port_number, pin_number}
 use Rattle.flat_classes.specs.Terminals.{bits_of_ports, cell_of, is_leaf_spot, ports_at, ports_of}
 use Rattle.flat_classes.specs.declared.flat.Terminal.{Terminal}
 use Rattle.flat_classes.specs.declared.flat.Terminal.TheVariants.{Port, Pin, Zero, One}
 use Rattle.flat_numbers.specs.declared.spots.Spot.{Spot}
 use Rattle.flat_numbers.specs.declared.walk.Layout.{Layout}
 use Rattle.flat_classes.proofs.GroupLists.{filter_range, flat_filter_taken}
-use Rattle.flat_numbers.proofs.Places.{base_least, number_within, place_within}
+use Rattle.flat_numbers.proofs.Bounds.{room}
+use Rattle.flat_numbers.proofs.Places.{number_within, place_within}
 use Rattle.flat_numbers.proofs.SpotLaws.{listed_cells}
 
 -- a port bit of the cell at a spot, and its number
@@ -45,18 +43,11 @@ module _ (design : Design) (count : ℕ) (layout : Layout) (belows offsets : Lis
   known : (number : ℕ) (spot : Spot) → slice_get layout.spots.items number ≡ Some spot → (cell : HCell) × IsCell design.cells spot.cell cell
   known number spot e = listed_cells tables.is_layout.are_spots number spot e
 
-  pub room : 2 ≤ layout.count
-  room = let l = base_least design.cells layout.spots.items (base_of layout.bases.items layout.count) layout.count tables.is_layout.are_bases known (length layout.spots.items) (omega arith) in omega (arith, l, tables.is_layout.are_bases.last)
-
   pub terminal_below : (t : Terminal) (u : ℕ) → TerminalNumber design.cells layout.spots.items (base_of layout.bases.items layout.count) t u → u < layout.count
-  terminal_below t u zero_number = let r = room in omega (arith, r)
-  terminal_below t u one_number = let r = room in omega (arith, r)
+  terminal_below t u zero_number = let r = room design count layout belows offsets tables in omega (arith, r)
+  terminal_below t u one_number = let r = room design count layout belows offsets tables in omega (arith, r)
   terminal_below t u (port_number {cell = cell} {port = port} {bit = bit} of is) = number_within design.cells layout.spots.items (base_of layout.bases.items layout.count) layout.count tables.is_layout.are_bases known 0 cell (bits_before cell.ports port + bit) of (place_within cell (PortNode port bit) (bits_before cell.ports port + bit) (port_place is))
   terminal_below t u (pin_number {spot = spot} {cell = cell} {port = port} {bit = bit} of is) = number_within design.cells layout.spots.items (base_of layout.bases.items layout.count) layout.count tables.is_layout.are_bases known spot cell (bits_before cell.ports port + bit) of (place_within cell (PortNode port bit) (bits_before cell.ports port + bit) (port_place is))
-
--- a terminal has one number
-pub one_terminal_number : (cells : List HCell) (spots : List Spot) (base : ℕ → ℕ) (t : Terminal) (u v : ℕ) → ((w : ℕ) → TerminalNumber cells spots base t w → u ≡ w) → TerminalNumber cells spots base t v → u ≡ v
-one_terminal_number cells spots base t u v found n = found v n
 
 -- ---- the list of leaves
 pub leaves_more : (spots : List Spot) (marks : List Bool) (constants : List (Option Bool)) (number : ℕ) (spot : Spot) (b : Bool) → slice_get spots number ≡ Some spot → b ≡ is_leaf_spot marks constants (Some spot) →
@@ -87,10 +78,10 @@ pins_of cells spots leaf = bits_of_ports (λ port bit. Pin leaf port bit) 0 (por
 abbrev pub inner_pins : List HCell → List Spot → List ℕ → List Terminal
 inner_pins cells spots leaves = flat_map (pins_of cells spots) (filter (λ leaf. not (leaf == 0)) leaves)
 
-is_inner : (n : ℕ) → ¬ (n ≡ 0) → not (n == 0) ≡ true
+pub is_inner : (n : ℕ) → ¬ (n ≡ 0) → not (n == 0) ≡ true
 is_inner n differ = grind (arith, differ)
 
-is_top : (n : ℕ) → n ≡ 0 → not (n == 0) ≡ false
+pub is_top : (n : ℕ) → n ≡ 0 → not (n == 0) ≡ false
 is_top n e = grind (arith, e)
 
 pub pins_added : (cells : List HCell) (spots : List Spot) (leaves : List ℕ) (i : ℕ) (front old new : List Terminal) → i < length leaves → ¬ (get_or leaves i 0 ≡ 0) → new ≡ old ++ pins_of cells spots (get_or leaves i 0) →
@@ -104,19 +95,3 @@ pub pins_passed : (cells : List HCell) (spots : List Spot) (leaves : List ℕ) (
 pins_passed cells spots leaves i front old new lt e n o =
     let s = flat_filter_taken (pins_of cells spots) (λ leaf. not (leaf == 0)) leaves i 0 false lt (is_top (get_or leaves i 0) e) in
     n ∙ (o ∙ ap (λ w. front ++ w) (sym (s ∙ append-nil (inner_pins cells spots (take i leaves)))))
-
--- ---- the labels of terminals
-pub labels_more : (cells : List HCell) (spots : List Spot) (base : ℕ → ℕ) (labels : List ℕ) (terminals : List Terminal) (i : ℕ) (t : Terminal) (number : ℕ) (found more : List ℕ) → slice_get terminals i ≡ Some t → ((u : ℕ) → TerminalNumber cells spots base t u → number ≡ u) → more ≡ found ++ label labels number ∷ [] →
-    HaveLabels cells spots base labels (take i terminals) found → HaveLabels cells spots base labels (take (i + 1) terminals) more
-labels_more cells spots base labels terminals i t number found more there is e have =
-    let lt : i < length terminals = slice_get_within terminals i t there in
-    let d : take (i + 1) terminals ≡ take i terminals ++ t ∷ [] = take_more terminals i t lt ∙ ap (λ w. take i terminals ++ w ∷ []) (get_or_from_slice_get terminals i t t there) in
-    record {
-      len = ap length e ∙ (length-append found (label labels number ∷ []) ∙ (ap (λ n. n + 1) have.len ∙ (sym (length-append (take i terminals) (t ∷ [])) ∙ ap length (sym d))));
-      are = λ place terminal u at n. elim (front_or_last (take i terminals) t place terminal (subst (λ w. slice_get w place ≡ Some terminal) d at)) as (λ _. slice_get more place ≡ Some (label labels u)) [
-        | inl f ↦ subst (λ w. slice_get w place ≡ Some (label labels u)) (sym e) (get_front found (label labels number ∷ []) place (label labels u) (have.are place terminal u f n))
-        | inr f ↦
-            let same : number ≡ u = is u (subst (λ w. TerminalNumber cells spots base w u) (sym f.1) n) in
-            ap (λ w. slice_get w place) e ∙ (ap (slice_get (found ++ label labels number ∷ [])) (f.0 ∙ sym have.len) ∙ (get_last found (label labels number) ∙ ap (λ n. Some (label labels n)) same))
-      ];
-    }

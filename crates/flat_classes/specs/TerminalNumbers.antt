@@ -1,11 +1,13 @@
-use Rattle.std.specs.Prelude.{◌≡◌, ◌↔◌, ℕ, ◌+◌, ◌<◌, List, Some, length, slice_get}
+use Rattle.std.specs.Prelude.{◌≡◌, ◌↔◌, ℕ, ◌+◌, ◌<◌, List, Some, length, slice_get, slice_range, sum_by}
 use Rattle.flat_numbers.specs.Linked.{label}
-use Rattle.net_hier.specs.Cells.{IsPortBit}
+use Rattle.net_hier.specs.Cells.{IsPortBit, width_of}
 use Rattle.net_hier.specs.declared.cells.HCell.{HCell}
+use Rattle.net_hier.specs.declared.cells.HPort.{HPort}
 use Rattle.net_hier.specs.Constants.{ConstantNames}
 use Rattle.net_hier.specs.Design.{Design}
 use Rattle.net_hier.specs.Flat.{FlatNode, IsConnected}
 use Rattle.flat_numbers.specs.Numbers.{CellOf, IsNumber, bits_before}
+use Rattle.flat_classes.specs.Terminals.{ports_at}
 use Rattle.flat_classes.specs.declared.flat.Terminal.{Terminal}
 use Rattle.flat_classes.specs.declared.flat.Terminal.TheVariants.{Port, Pin, Zero, One}
 use Rattle.flat_numbers.specs.declared.spots.Spot.{Spot}
@@ -25,6 +27,10 @@ AreNumbered cells spots base terminals = (place : ℕ) (terminal : Terminal) →
 pub record HaveLabels (cells : List HCell) (spots : List Spot) (base : ℕ → ℕ) (labels : List ℕ) (terminals : List Terminal) (found : List ℕ) : Type 0 where
   pub len : length found ≡ length terminals
   pub are : (place : ℕ) (terminal : Terminal) (u : ℕ) → slice_get terminals place ≡ Some terminal → TerminalNumber cells spots base terminal u → slice_get found place ≡ Some (label labels u)
+
+-- the labels of the port bits of the cell at a spot: their numbers follow one another from the spot's first number on
+abbrev pub port_labels : List HCell → List Spot → (ℕ → ℕ) → List ℕ → ℕ → List ℕ
+port_labels cells spots base labels spot = slice_range labels (base spot) (base spot + sum_by (λ (port : HPort). width_of port.range) (ports_at cells spots spot))
 
 -- equal labels of numbers are connection
 pub record AreFlatLabels (names : ConstantNames) (design : Design) (spots : List Spot) (base : ℕ → ℕ) (count : ℕ) (labels : List ℕ) : Type 0 where

@@ -15,8 +15,7 @@ use crate::kinds::{Kinds, kinds_of};
 use crate::members::{Members, members_of};
 use crate::terminals::{leaves_of, terminals_of};
 use flat_numbers::counts::flat_count;
-use flat_numbers::joins::flat_joins;
-use flat_numbers::linked::least_linked;
+use flat_numbers::joins::join_labels;
 use flat_numbers::numbers::{Tables, tables_of};
 use flat_numbers::spots::Spot;
 use net_hier::{Constants, Hier, Join};
@@ -98,8 +97,7 @@ fn classes_of(
         (bases_in tables.now) tables.now.layout.count labels.items) }
 {
     let _cells = hier.cells();
-    let joins = flat_joins(alloc, hier, tables, constants, links.as_slice(), values)?;
-    let classes = least_linked(alloc, tables.layout.count, joins.as_slice())?;
+    let classes = join_labels(alloc, hier, tables, constants, links.as_slice(), values)?;
     Ok(classes)
 }
 
@@ -115,7 +113,8 @@ fn spots_of(tables: Tables) -> Vec<Spot>
     layout.into_spots()
 }
 
-/// The flat classes of a design of this flat count, which is within the limit.
+/// The flat classes of a design of this flat count, which is within the limit. The list of terminals
+/// is the longest, so it is made when the tables and the labels are gone.
 fn flat_of(alloc: Global, hier: &Hier, constants: &Constants, count: u64) -> Result<Flat, NoMemory>
     requires few { count ≤ 2000000 }
     requires counted { FlatCount hier.now.cells hier.now.top count }
@@ -130,20 +129,19 @@ fn flat_of(alloc: Global, hier: &Hier, constants: &Constants, count: u64) -> Res
         constants: values,
     } = kinds;
     let classes = classes_of(alloc, hier, constants, &tables, links, values.as_slice())?;
-    let spots = tables.layout.spots.as_slice();
-    let leaves = leaves_of(alloc, spots, marks.as_slice(), values.as_slice())?;
-    let terminals = terminals_of(alloc, hier, spots, leaves.as_slice())?;
-    let labels = labels_of(
+    let leaves = leaves_of(
         alloc,
-        hier,
-        &tables,
-        classes.as_slice(),
-        terminals.as_slice(),
+        tables.layout.spots.as_slice(),
+        marks.as_slice(),
+        values.as_slice(),
     )?;
+    let labels = labels_of(alloc, hier, &tables, classes.as_slice(), leaves.as_slice())?;
     let bound = classes.len();
     drop(classes);
     let spots = spots_of(tables);
     let (groups, count) = numbers_in_order(alloc, bound, labels.as_slice())?;
+    drop(labels);
+    let terminals = terminals_of(alloc, hier, spots.as_slice(), leaves.as_slice())?;
     Ok(Flat {
         spots,
         leaves,

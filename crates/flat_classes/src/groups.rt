@@ -1,52 +1,68 @@
 // The groups of connected terminals.
-ghost use Rattle.std.specs.Prelude.{ℕ, ◌≡◌, ◌+◌, ◌-◌, ◌<◌, ◌≤◌, ◌^◌, All, None, Option, Some, map, length, slice_get, slice_index_or, slice_set, IfOk};
+ghost use Rattle.std.specs.Prelude.{ℕ, ◌≡◌, ◌+◌, ◌-◌, ◌<◌, ◌≤◌, ◌^◌, ◌++◌, All, None, Option, Some, map, length, slice_get, slice_index_or, slice_set, IfOk, OnOk};
+ghost use Rattle.net_hier.specs.declared.cells.HCell.{HCell as CellValue};
 ghost use Rattle.flat_classes.specs.Groups.{AreInOrder, AreSame, known_numbers};
 ghost use Rattle.flat_numbers.specs.TableParts.{HasTables, bases_in, spots_in};
-ghost use Rattle.flat_classes.specs.TerminalNumbers.{AreNumbered, HaveLabels, TerminalNumber};
+ghost use Rattle.flat_numbers.specs.Numbers.{CellOf};
+ghost use Rattle.flat_classes.specs.TerminalNumbers.{HaveLabels, port_labels};
+ghost use Rattle.flat_classes.specs.Terminals.{terminals_of};
 
-use crate::flat::Terminal;
-use flat_numbers::numbers::{Tables, place_number};
+use flat_numbers::counts::bits_of_ports;
+use flat_numbers::numbers::Tables;
 use net_hier::Hier;
 use nl_base::NoMemory;
 use std::alloc::Global;
 
-/// The number of a terminal's node.
-fn terminal_number(hier: &Hier, tables: &Tables, terminal: Terminal) -> u32
+/// Adds the labels of the port bits of the cell at a spot, whose numbers lie one behind the other.
+fn push_labels(
+    found: &mut Vec<u32>,
+    hier: &Hier,
+    tables: &Tables,
+    labels: &[u32],
+    spot: u32,
+) -> Result<(), NoMemory>
     requires are_tables { HasTables hier.now tables.now }
-    requires has_number { (u : ℕ) × TerminalNumber hier.now.cells (spots_in tables.now) (bases_in
-        tables.now) terminal u }
-    ensures { (u : ℕ) → TerminalNumber hier.now.cells (spots_in tables.now) (bases_in tables.now)
-        terminal u → result ≡ u }
+    requires spot { (cell : CellValue) × CellOf hier.now.cells (spots_in tables.now) spot cell }
+    requires labels { tables.now.layout.count ≡ length labels.now }
+    ensures { OnOk result (found.new.items ≡ found.old.items ++ port_labels hier.now.cells
+        (spots_in tables.now) (bases_in tables.now) labels.now spot) }
 {
-    let _cells = hier.cells();
-    match terminal {
-        Terminal::Port { port, bit } => place_number(tables, 0, port as usize, bit),
-        Terminal::Pin { spot, port, bit } => place_number(tables, spot, port as usize, bit),
-        Terminal::Zero => 0,
-        Terminal::One => 1,
-    }
+    let cells = hier.cells();
+    let cell = tables.layout.spots[spot as usize].cell;
+    let from = tables.layout.bases[spot as usize] as usize;
+    let bits = bits_of_ports(&cells[cell as usize]) as usize;
+    found.extend_from_slice(&labels[from..from + bits])?;
+    Ok(())
 }
 
-/// The label of each terminal's number.
+/// The label of each terminal's number, where the terminals are the port bits of the top, those of
+/// the leaves other than the top, and the constants.
 pub fn labels_of(
     alloc: Global,
     hier: &Hier,
     tables: &Tables,
     labels: &[u32],
-    terminals: &[Terminal],
+    leaves: &[u32],
 ) -> Result<Vec<u32>, NoMemory>
     requires are_tables { HasTables hier.now tables.now }
-    requires numbered { AreNumbered hier.now.cells (spots_in tables.now) (bases_in tables.now)
-        terminals.now }
+    requires leaves { All (λ leaf. (cell : CellValue) ×
+        CellOf hier.now.cells (spots_in tables.now) leaf cell) leaves.now }
     requires labels { tables.now.layout.count ≡ length labels.now }
     ensures { IfOk result (λ found. HaveLabels hier.now.cells (spots_in tables.now) (bases_in
-        tables.now) labels.now terminals.now found.items) }
+        tables.now) labels.now (terminals_of hier.now.cells (spots_in tables.now) leaves.now)
+        found.items) }
 {
-    let mut found = Vec::with_capacity(alloc, terminals.len())?;
-    for terminal in terminals {
-        let number = terminal_number(hier, tables, *terminal);
-        found.push(labels[number as usize])?;
+    let _cells = hier.cells();
+    let mut found = Vec::new(alloc);
+    push_labels(&mut found, hier, tables, labels, 0)?;
+    for leaf in leaves {
+        if *leaf != 0 {
+            push_labels(&mut found, hier, tables, labels, *leaf)?;
+        }
     }
+    found.push(labels[0])?;
+    found.push(labels[1])?;
+    found.shrink_to_fit();
     Ok(found)
 }
 

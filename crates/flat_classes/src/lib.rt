@@ -6,6 +6,7 @@
 // `Flat::of` lists the top and every path in depth-first order (`spots`), the leaves that are no
 // constant cells, and the terminals: the top's port bits, the pins of the leaves and the two
 // constants. Two terminals have one `group` exactly where a list of flat steps connects them.
+// `members` answers for each group the places of its terminals, which lie one behind the other.
 //
 // A path is one instance in each of the levels of EDIF 2 0 0 (instance, cellRef) or IEEE 1364-2005,
 // clause 12.

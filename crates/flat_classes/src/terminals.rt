@@ -108,6 +108,7 @@ pub fn leaves_of(
             found.push(number as u32)?;
         }
     }
+    found.shrink_to_fit();
     Ok(found)
 }
 
