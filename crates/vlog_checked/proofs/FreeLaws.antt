@@ -1,7 +1,6 @@
 -- The refusals of modules that break no rule that needs a table.
-use Rattle.std.proofs.Common.{◌≡◌, List, [], ◌∷◌, ◌++◌, append-nil, map, refl, ap, ◌∙◌}
+use Rattle.std.proofs.Common.{◌≡◌, List, [], ◌∷◌, ◌++◌, append-nil, map, refl, ◌∙◌}
 use Rattle.std.specs.List.{AllByRecursion}
-use Rattle.nl_base.specs.declared.rule.Refusal.{Refusal}
 use Rattle.nl_base.specs.declared.rule.Rule.{Rule}
 use Rattle.nl_base.specs.declared.rule.Rule.TheVariants.{G6, G7, G8, G12, G13, G14, G15}
 use Rattle.vlog_design.specs.Rules.{Objects, bad_selects, in_modules, other_ranges, params_twice, refused, too_wide, unequal_widths, unknown_names, unsized}

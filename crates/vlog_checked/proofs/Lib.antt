@@ -1,4 +1,5 @@
 pub mod Below
+mod BothLaws
 pub mod Clean
 pub mod Differing
 pub mod Firsts

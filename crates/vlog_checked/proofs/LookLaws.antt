@@ -9,14 +9,13 @@ use Rattle.std.specs.Borrow.{Bor}
 use Rattle.nl_base.specs.declared.rule.Refusal.{Refusal}
 use Rattle.nl_base.specs.declared.rule.Rule.{Rule}
 use Rattle.nl_base.specs.declared.rule.Rule.TheVariants.{G6, G7, G8, G12, G13, G15}
-use Rattle.vlog_design.specs.Names.{signals}
 use Rattle.vlog_design.specs.Rules.{Objects, bad_selects, first_of, in_modules, other_ranges, refused, too_wide, unequal_widths, unknown_names, unsized}
 use Rattle.vlog_design.specs.Tables.{modules_of}
 use Rattle.vlog_rules.proofs.UseLaws.{none_refused}
 use Rattle.vlog_rules.specs.WrongUses.{has_wrong_use}
 use Rattle.vlog_rules.specs.declared.passes.ModuleScope.{ModuleScope}
 use Rattle.vlog_ties.specs.Sides.{AreSides}
-use Rattle.vlog_ties.specs.Ties.{module_bits, most_joins, signal_width}
+use Rattle.vlog_ties.specs.Ties.{module_bits, most_joins}
 use Rattle.vlog_ties.specs.declared.sides.Sides.{Sides}
 use Rattle.vlog_values.specs.declared.module.Module.{Module}
 use Rattle.vlog_shown.specs.Interfaces.{interface}

@@ -1,5 +1,5 @@
 -- The refusals of a file in the groups in which the rules are tried, each in the order of the rules.
-use Rattle.std.specs.Prelude.{List, ◌++◌}
+use Rattle.std.specs.Prelude.{◌≡◌, List, [], ◌++◌}
 use Rattle.nl_base.specs.declared.rule.Refusal.{Refusal}
 use Rattle.nl_base.specs.declared.rule.Rule.TheVariants.{G3, G4, G5, G6, G7, G8, G9, G10, G11, G12, G13, G14, G15, G16, G17}
 use Rattle.vlog_design.specs.Names.{Name}
@@ -45,6 +45,12 @@ unfoldable pub design_refusals : List Module → List Refusal
 design_refusals modules =
     in_modules G16 (recursions modules) modules
     ++ in_modules G17 unknown_instances modules
+
+-- no module breaks a rule on connections, on parameters or on values for parameters of instances (G9 to G11, G14 and G17)
+pub record BreakNone (modules : List Module) : Type 0 where
+  pub connections : connection_refusals modules ≡ []
+  pub parameters : in_modules G14 params_twice modules ≡ []
+  pub instances : in_modules G17 unknown_instances modules ≡ []
 
 -- by the rules on modules with their tables (G6 to G17)
 unfoldable pub table_refusals : List Module → List Refusal

@@ -4,12 +4,14 @@
 // (`first_G`), and `Clean` only where no rule is broken; then the modules are those that are reached from the top, in file order, with
 // their names and what they show to one another, the number is that of the top among them, and the bits of their ports and nets and of
 // the left sides of all that is tied are told, which no count of units passes. Want of memory is the one free answer. The rules that
-// need the table of a module's names are tried on one module after the other, and each table is left before the next is made.
+// need the table of a module's names are tried on one module after the other, and each table is left before the next is made; the others
+// are tried together on each module, and rule by rule only where one is broken.
 #![tactic(auto)]
 
 pub mod check;
 mod looks;
 mod modules;
 pub mod tables;
+mod together;
 
 pub use check::{Checked, CleanModules, check_file};

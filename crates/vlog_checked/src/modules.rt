@@ -4,6 +4,7 @@ ghost use Rattle.vlog_checked.specs.Groups.{file_refusals, module_refusals};
 ghost use Rattle.vlog_design.specs.Rules.{first_of, modules_twice};
 ghost use Rattle.vlog_design.specs.Tables.{modules_of};
 
+use crate::together::Both;
 use nl_base::{NoMemory, Refusal};
 use std::alloc::Global;
 use vlog_design::names::NameSet;
@@ -50,13 +51,23 @@ pub(crate) fn first_in_reached(
     ensures { IfOk result (λ found. found
         ≡ first_of (module_refusals all.now (modules_of modules.now))) }
 {
-    let unknown = EachStatement {
-        rule: UnknownModules {
-            modules: all,
-            names,
+    let rules = Both {
+        first: EachStatement {
+            rule: UnknownModules {
+                modules: all,
+                names,
+            },
+        },
+        second: Both {
+            first: DeclaredTwice,
+            second: Directions,
         },
     };
-    if let Some(refusal) = first_in_modules(alloc, &unknown, modules)? {
+    let any = first_in_modules(alloc, &rules, modules)?;
+    if any.is_none() {
+        return Ok(None);
+    }
+    if let Some(refusal) = first_in_modules(alloc, &rules.first, modules)? {
         return Ok(Some(refusal));
     }
     if let Some(refusal) = first_in_modules(alloc, &DeclaredTwice, modules)? {

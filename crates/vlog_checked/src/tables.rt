@@ -3,7 +3,7 @@ ghost use Rattle.std.specs.Prelude.{◌≡◌, ◌≤◌, ◌<◌, ◌++◌, tru
 ghost use Rattle.std.specs.List.{AllByRecursion};
 ghost use Rattle.nl_base.specs.declared.rule.Rule.TheVariants.{G6, G7, G8, G13};
 ghost use Rattle.vlog_checked.specs.ByTables.{IsFree};
-ghost use Rattle.vlog_checked.specs.Groups.{connection_refusals, design_refusals, name_refusals, table_refusals, width_refusals};
+ghost use Rattle.vlog_checked.specs.Groups.{BreakNone, connection_refusals, design_refusals, name_refusals, table_refusals, width_refusals};
 ghost use Rattle.vlog_checked.specs.Tabled.{CanHaveTables};
 ghost use Rattle.vlog_design.specs.Rules.{bad_selects, first_of, in_modules, unequal_widths, unknown_names, unsized};
 ghost use Rattle.vlog_design.specs.Tables.{modules_of};
@@ -11,6 +11,7 @@ ghost use Rattle.vlog_scopes.specs.Distinct.{AreDeclaredOnce};
 ghost use Rattle.vlog_ties.specs.Ties.{modules_in};
 ghost use Rattle.vlog_values.specs.Sizes.{module_size};
 
+use crate::together::Both;
 use nl_base::{NoMemory, Refusal};
 use std::alloc::Global;
 use vlog_design::names::NameSet;
@@ -195,6 +196,39 @@ fn first_by_tables(
     first_in_tables(alloc, library, scopes, top, sides.unequal, sides.loose)
 }
 
+/// Whether it is seen that no module breaks a rule on connections, parameters or values for parameters of instances. All of them are
+/// tried on a module before the next one is looked at: `false` says nothing.
+fn break_none(alloc: Global, library: &ModulePorts) -> Result<bool, NoMemory>
+    ensures { IfOk result
+        (λ none. none ≡ true → BreakNone (modules_of library.now.modules.items)) }
+{
+    let rules = Both {
+        first: Both {
+            first: EachStatement {
+                rule: EachInstance {
+                    rule: UnknownPorts { library },
+                },
+            },
+            second: Both {
+                first: EachStatement {
+                    rule: EachInstance { rule: PortsTwice },
+                },
+                second: EachStatement {
+                    rule: EachInstance {
+                        rule: ExtraConnections { library },
+                    },
+                },
+            },
+        },
+        second: Both {
+            first: EachStatement { rule: ParamsTwice },
+            second: UnknownInstances,
+        },
+    };
+    let found = first_in_modules(alloc, &rules, &library.modules)?;
+    Ok(found.is_none())
+}
+
 /// The first object of modules that breaks a rule on connections, parameters or instances, where none breaks one that needs a table.
 fn first_of_free(
     alloc: Global,
@@ -208,6 +242,10 @@ fn first_of_free(
     ensures { IfOk result (λ found. found
         ≡ first_of (table_refusals (modules_of library.now.modules.items))) }
 {
+    let unbroken = break_none(alloc, library)?;
+    if unbroken {
+        return first_recursion(alloc, &library.names, &library.modules, top);
+    }
     if let Some(refusal) = first_in_connections(alloc, library)? {
         return Ok(Some(refusal));
     }

@@ -1,10 +1,8 @@
-use Rattle.std.proofs.Common.{◌≡◌, ◌∙◌, ◌-◌, ◌^◌, ap, map, min, subst, sum_by, sym}
+use Rattle.std.proofs.Common.{◌≡◌, ◌∙◌, ap, map, subst, sym}
 use Rattle.vlog_design.specs.Reach.{reached}
 use Rattle.vlog_design.specs.Rules.{first_of}
 use Rattle.vlog_design.specs.Tables.{modules_of}
 use Rattle.vlog_shown.specs.Interfaces.{interface}
-use Rattle.vlog_ties.specs.Ties.{module_bits, most_joins}
-use Rattle.vlog_values.specs.declared.module.Module.{Module}
 use Rattle.vlog_checked.specs.ByTables.{AreLooked}
 use Rattle.vlog_checked.specs.Groups.{table_refusals}
 use Rattle.vlog_checked.proofs.Grouping.{none_refused, refused_in_tables}

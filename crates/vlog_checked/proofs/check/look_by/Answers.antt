@@ -1,4 +1,4 @@
-use Rattle.std.proofs.Common.{◌≡◌, ◌≤◌, ◌∙◌, ap, subst, sym}
+use Rattle.std.proofs.Common.{◌≤◌, ◌∙◌, ap, subst, sym}
 use Rattle.std.specs.List.{AllByRecursion}
 use Rattle.vlog_design.specs.Tables.{modules_of}
 use Rattle.vlog_scopes.specs.Distinct.{AreDeclaredOnce, Distinct, module_names}

@@ -1,6 +1,4 @@
-use Rattle.std.proofs.Common.{◌≤◌}
 use Rattle.vlog_ties.specs.Ties.{modules_in}
-use Rattle.vlog_values.specs.Sizes.{module_size}
 use Rattle.vlog_values.specs.Values.{IsModule}
 use Rattle.vlog_checked.proofs.LookLaws.{looked_begun, looked_done, looked_more}
 use Rattle.vlog_checked.proofs.TableLaws.{all_at, once_at, small_at}
