@@ -117,7 +117,8 @@ fn push_assign_uses<'a>(sets: &'a [Assignment], out: &mut Vec<UseOf<'a>>) -> Res
     Ok(())
 }
 
-fn push_item_uses<'a>(item: &'a ItemV, out: &mut Vec<UseOf<'a>>) -> Result<(), NoMemory>
+/// Adds the names in the expressions of an item, in the order of the text.
+pub fn push_item_uses<'a>(item: &'a ItemV, out: &mut Vec<UseOf<'a>>) -> Result<(), NoMemory>
     ensures added { OnOk result (uses_of out.new.items
         ≡ uses_of out.old.items ++ flat_map uses (item_exprs item.now)) }
 {

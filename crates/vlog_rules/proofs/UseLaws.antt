@@ -1,20 +1,40 @@
 -- Where no use of a name is wrong, no module breaks a rule on the names in expressions.
-use Rattle.std.proofs.Common.{◌≡◌, ◌++◌, Bool, true, false, cond, List, [], ◌∷◌, Option, None, Some, filter, flat_map, is_none, map, refl, sym, ap, ◌∙◌}
+use Rattle.std.proofs.Common.{◌≡◌, ◌++◌, ◌+◌, ◌<◌, ◌≤◌, ◌||◌, ℕ, Bool, true, false, cond, List, [], ◌∷◌, Option, None, Some, drop, drop_of_length-le, filter, flat_map, get_or, is_none, length, map, refl, sym, ap, ◌∙◌}
 use Rattle.std.specs.List.{list_any}
 use Rattle.std.specs.Option.{option_map_or}
 use Rattle.std.proofs.lemmas.Bool.{false≢true, or_parts}
+use Rattle.std.proofs.lemmas.List.Concat.{flat_map-append}
+use Rattle.std.proofs.lemmas.List.Folds.{list_any-append}
 use Rattle.nl_base.specs.declared.rule.Rule.TheVariants.{G6, G7}
-use Rattle.vlog_design.specs.Names.{Signal, Use, module_uses, signal_named, signals}
+use Rattle.vlog_design.specs.Names.{Signal, Use, item_exprs, module_uses, signal_named, signals, uses}
 use Rattle.vlog_design.specs.Ranges.{selected}
 use Rattle.vlog_design.specs.Rules.{bad_select_in, bad_selects, refused, unknown_names}
 use Rattle.vlog_design.specs.declared.signals.Slot.{Slot}
+use Rattle.vlog_design.proofs.Steps.{flat_map_left}
+use Rattle.vlog_values.specs.declared.module.ItemV.{ItemV}
 use Rattle.vlog_values.specs.declared.module.Module.{Module}
 use Rattle.vlog_rules.specs.WrongUses.{has_wrong_use, is_wrong}
 use Rattle.vlog_rules.specs.declared.passes.ModuleScope.{ModuleScope}
 
-pub wrong_is : (m : Module) (table : List Signal) (us : List Use) → table ≡ signals m → us ≡ module_uses m → list_any (is_wrong table) us ≡ has_wrong_use m
-unfolding has_wrong_use
-wrong_is m table us e f = (λ j. list_any (is_wrong (e j)) (f j))
+-- a condition on the parts of the parts of a list, tried one element after the other
+module _ {A B C : Type 0} (p : C → Bool) (g : B → List C) (f : A → List B) (xs : List A) (i : ℕ) where
+  -- it holds of a part of this element
+  pub any_here : (x : A) → x ≡ get_or xs i x → i < length xs → true ≡ list_any p (flat_map g (f x)) → true ≡ list_any p (flat_map g (flat_map f (drop i xs)))
+  any_here x is lt h =
+      let rest = flat_map f (drop (i + 1) xs) in
+      let e : flat_map f (drop i xs) ≡ f x ++ rest = flat_map_left f xs i x lt ∙ ap (λ y. f y ++ rest) (sym is) in
+      sym (ap (λ ys. list_any p (flat_map g ys)) e
+      ∙ (ap (list_any p) (flat_map-append g (f x) rest)
+      ∙ (list_any-append p (flat_map g (f x)) (flat_map g rest) ∙ ap (λ b. b || list_any p (flat_map g rest)) (sym h))))
+
+  -- no element is left
+  pub any_done : length xs ≤ i → false ≡ list_any p (flat_map g (flat_map f (drop i xs)))
+  any_done h = sym (ap (λ ys. list_any p (flat_map g (flat_map f ys))) (drop_of_length-le xs {i = i} h))
+
+-- one of the uses in the items of a module is wrong
+pub wrong_is : (m : Module) (table : List Signal) (items : List ItemV) → table ≡ signals m → items ≡ m.items → list_any (is_wrong table) (flat_map uses (flat_map item_exprs items)) ≡ has_wrong_use m
+unfolding has_wrong_use module_uses
+wrong_is m table items e f = (λ j. list_any (is_wrong (e j)) (flat_map uses (flat_map item_exprs (f j))))
 
 -- what is never true where another test is not
 none_kept : {A : Type 0} (p q : A → Bool) → ((x : A) → p x ≡ true → q x ≡ true) → (xs : List A) → list_any q xs ≡ false → filter p xs ≡ []

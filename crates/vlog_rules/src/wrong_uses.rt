@@ -1,6 +1,7 @@
 // Whether some name in an expression is no port and no net, or some select means no bits, by one look-up for each name.
-ghost use Rattle.std.specs.Prelude.{◌≡◌, IfOk};
+ghost use Rattle.std.specs.Prelude.{◌≡◌, flat_map, IfOk};
 ghost use Rattle.std.specs.List.{list_any};
+ghost use Rattle.vlog_design.specs.Names.{item_exprs, uses};
 ghost use Rattle.vlog_design.specs.Uses.{use_of, uses_of};
 ghost use Rattle.vlog_rules.specs.WrongUses.{has_wrong_use, is_wrong};
 
@@ -9,7 +10,8 @@ use crate::selects::is_selected;
 use nl_base::NoMemory;
 use std::alloc::Global;
 use vlog_design::table::Table;
-use vlog_design::uses::{UseOf, uses_in};
+use vlog_design::uses::{UseOf, push_item_uses};
+use vlog_values::ItemV;
 
 /// Whether the name is no port and no net, or the select means no bits.
 fn is_wrong(table: &Table, u: &UseOf) -> bool
@@ -32,12 +34,32 @@ fn any_wrong(table: &Table, uses: &[UseOf]) -> bool
     false
 }
 
-/// Whether one of the uses in the module of a scope is wrong.
+/// Whether one of the uses in an item is wrong. The list has room for its uses.
+fn has_wrong_use_in<'a>(
+    table: &Table,
+    item: &'a ItemV,
+    found: &mut Vec<UseOf<'a>>,
+) -> Result<bool, NoMemory>
+    ensures { IfOk result (λ wrong. wrong
+        ≡ list_any (is_wrong table.now) (flat_map uses (item_exprs item.now))) }
+{
+    found.clear();
+    push_item_uses(item, found)?;
+    Ok(any_wrong(table, found))
+}
+
+/// Whether one of the uses in the module of a scope is wrong. No list of all of them is made.
 fn has_wrong_use(alloc: Global, scope: &ModuleScope) -> Result<bool, NoMemory>
     ensures { IfOk result (λ wrong. wrong ≡ has_wrong_use scope.now.module.now) }
 {
-    let uses = uses_in(alloc, scope.module)?;
-    Ok(any_wrong(&scope.table, &uses))
+    let mut found = Vec::new(alloc);
+    for item in scope.module.items.items() {
+        let wrong = has_wrong_use_in(&scope.table, item, &mut found)?;
+        if wrong {
+            return Ok(true);
+        }
+    }
+    Ok(false)
 }
 
 /// Whether one of the uses in the modules is wrong.

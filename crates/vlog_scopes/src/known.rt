@@ -1,18 +1,18 @@
 // Whether a module has nets that no declaration declares.
-ghost use Rattle.std.specs.Prelude.{◌≡◌, ◌&&◌, [], true, is_none, IfOk};
+ghost use Rattle.std.specs.Prelude.{◌≡◌, ◌&&◌, [], true, flat_map, is_none, IfOk};
 ghost use Rattle.std.specs.List.{list_any};
-ghost use Rattle.vlog_design.specs.Names.{implicit_names, is_whole, signal_named};
+ghost use Rattle.vlog_design.specs.Names.{implicit_names, is_whole, item_targets, signal_named, uses};
 ghost use Rattle.vlog_design.specs.Uses.{use_of, uses_of};
 ghost use Rattle.vlog_scopes.specs.Signals.{declared_signals};
 ghost use Rattle.vlog_scopes.specs.Implicit.{is_unknown};
 
 use crate::implicit::is_whole;
-use crate::targets::targets_in;
+use crate::targets::push_item_targets;
 use nl_base::NoMemory;
 use std::alloc::Global;
 use vlog_design::table::Table;
 use vlog_design::uses::UseOf;
-use vlog_values::Module;
+use vlog_values::{ItemV, Module};
 
 /// Whether the name stands whole and is none of the table.
 fn is_unknown(table: &Table, u: &UseOf) -> bool
@@ -32,6 +32,35 @@ fn any_unknown(table: &Table, uses: &[UseOf]) -> bool
     false
 }
 
+/// Whether a target in an item is unknown. The list has room for its targets.
+fn has_unknown_in<'a>(
+    table: &Table,
+    item: &'a ItemV,
+    targets: &mut Vec<UseOf<'a>>,
+) -> Result<bool, NoMemory>
+    ensures { IfOk result (λ unknown. unknown
+        ≡ list_any (is_unknown table.now) (flat_map uses (item_targets item.now))) }
+{
+    targets.clear();
+    push_item_targets(item, targets)?;
+    Ok(any_unknown(table, targets))
+}
+
+/// Whether a target in some of the items is unknown. No list of all of them is made.
+fn has_unknown(alloc: Global, table: &Table, items: &[ItemV]) -> Result<bool, NoMemory>
+    ensures { IfOk result (λ unknown. unknown
+        ≡ list_any (is_unknown table.now) (flat_map uses (flat_map item_targets items.now))) }
+{
+    let mut targets = Vec::new(alloc);
+    for item in items {
+        let unknown = has_unknown_in(table, item, &mut targets)?;
+        if unknown {
+            return Ok(true);
+        }
+    }
+    Ok(false)
+}
+
 /// Whether it shows, by the table of its ports and declared nets, that the module has no other nets: `false` says nothing.
 pub(crate) fn shows_none(alloc: Global, m: &Module, table: &Table) -> Result<bool, NoMemory>
     requires { table.now ≡ declared_signals m.now }
@@ -40,6 +69,6 @@ pub(crate) fn shows_none(alloc: Global, m: &Module, table: &Table) -> Result<boo
     if !m.implicit {
         return Ok(true);
     }
-    let uses = targets_in(alloc, m)?;
-    Ok(!any_unknown(table, &uses))
+    let unknown = has_unknown(alloc, table, m.items.items())?;
+    Ok(!unknown)
 }

@@ -19,7 +19,11 @@ fn push_lefts<'a>(sets: &'a [Assignment], out: &mut Vec<UseOf<'a>>) -> Result<()
     Ok(())
 }
 
-fn push_item<'a>(item: &'a ItemV, out: &mut Vec<UseOf<'a>>) -> Result<(), NoMemory>
+/// Adds the names in the connections or on the left of the assignments of an item, in the order of the text.
+pub(crate) fn push_item_targets<'a>(
+    item: &'a ItemV,
+    out: &mut Vec<UseOf<'a>>,
+) -> Result<(), NoMemory>
     ensures added { OnOk result (uses_of out.new.items
         ≡ uses_of out.old.items ++ flat_map uses (item_targets item.now)) }
 {
@@ -38,7 +42,7 @@ fn push_items<'a>(items: &'a [ItemV], out: &mut Vec<UseOf<'a>>) -> Result<(), No
         ≡ uses_of out.old.items ++ flat_map uses (flat_map item_targets items.now)) }
 {
     for item in items {
-        push_item(item, out)?;
+        push_item_targets(item, out)?;
     }
     Ok(())
 }

@@ -1,6 +1,7 @@
 pub mod Broken
 pub mod Connected
 pub mod Counted
+pub mod ItemLaws
 pub mod Live
 pub mod ModuleLaws
 pub mod MostJoins

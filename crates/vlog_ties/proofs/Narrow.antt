@@ -16,7 +16,7 @@ use Rattle.vlog_design.specs.declared.signals.Slot.{Slot}
 use Rattle.vlog_design.proofs.ExprLemmas.{width-Cat, width-Ref}
 use Rattle.vlog_design.proofs.Parts.{all_found}
 use Rattle.vlog_design.proofs.Positions.{position_within}
-use Rattle.vlog_values.specs.Sizes.{expr_size, list_size, module_size}
+use Rattle.vlog_values.specs.Sizes.{expr_size, list_size}
 use Rattle.vlog_values.specs.Values.{IsHeader, IsItem, IsModule, IsNetDecl, IsPortDecl, IsRange, is_left}
 use Rattle.vlog_values.proofs.Sizes.{size-Cat}
 use Rattle.vlog_values.proofs.Values.{left-Cat, left-Lit, left-Loose, left-LooseNumber, left-Rep}
@@ -34,10 +34,10 @@ use Rattle.vlog_values.specs.declared.module.Header.TheVariants as headers
 use Rattle.vlog_values.specs.declared.module.ItemV.{ItemV}
 use Rattle.vlog_values.specs.declared.module.ItemV.TheVariants as items
 use Rattle.vlog_values.specs.declared.module.Module.{Module}
-use Rattle.vlog_ties.specs.Ties.{HasNarrowLeft, Tied, Pin, Assign, Supply, all_tied, module_ties, tied}
+use Rattle.vlog_ties.specs.Ties.{HasNarrowLeft, Tied, Pin, Assign, Supply, all_tied, tied}
 use Rattle.vlog_ties.specs.declared.tie.Tie.{Tie}
 use Rattle.vlog_ties.proofs.Spelled.{every_append, every_part}
-use Rattle.vlog_ties.proofs.Valid.{IsTied, ties_valid}
+use Rattle.vlog_ties.proofs.Valid.{IsTied}
 
 -- ranges
 
@@ -191,10 +191,8 @@ every_weaker : {A : Type 0} (P Q : A → Type 0) → ((x : A) → P x → Q x) �
 every_weaker P Q f [] h = tt
 every_weaker P Q f (x ∷ xs) h = (f x h.0, every_weaker P Q f xs h.1)
 
--- the left sides in the ties of a module
-pub ties_narrow : (modules : List Module) (m : Module) (table : List Signal) (ties : List Tie) → table ≡ signals m → all_tied ties ≡ module_ties modules m → IsModule m → module_size m ≤ 268435456 →
-    All (λ tie. HasNarrowLeft table (tied tie)) ties
-ties_narrow modules m table ties e f good small =
-    let valid = subst (AllByRecursion IsTied) (sym f) (ties_valid modules m good small) in
-    let all = every_weaker IsTied (HasNarrowLeft (signals m)) (tied_narrow (signals m) (signals_narrow m good)) (all_tied ties) valid in
+-- the left sides in ties of a module
+pub ties_narrow : (m : Module) (table : List Signal) (ties : List Tie) (ts : List Tied) → table ≡ signals m → all_tied ties ≡ ts → IsModule m → AllByRecursion IsTied ts → All (λ tie. HasNarrowLeft table (tied tie)) ties
+ties_narrow m table ties ts e f good valid =
+    let all = every_weaker IsTied (HasNarrowLeft (signals m)) (tied_narrow (signals m) (signals_narrow m good)) (all_tied ties) (subst (AllByRecursion IsTied) (sym f) valid) in
     subst (λ names. All (λ tie. HasNarrowLeft names (tied tie)) ties) (sym e) (All-from_recursion (λ tie. HasNarrowLeft (signals m) (tied tie)) ties (every_of_map (HasNarrowLeft (signals m)) tied ties all))

@@ -1,10 +1,10 @@
 -- The scope of a module by the place of its name, and the numbers of instances.
-use Rattle.std.proofs.Common.{◌≡◌, ℕ, suc, not, ◌+◌, ◌<◌, ◌≤◌, Bool, true, false, cond, List, [], ◌∷◌, Option, None, Some, bytes_eq, find, drop, get_or, length, map, sum_by, nat_lt, ◌++◌, refl, sym, ap, subst, ◌∙◌, arith, add-one, drop-cons, drop_of_length-le}
+use Rattle.std.proofs.Common.{◌≡◌, ℕ, zero, suc, not, ◌+◌, ◌<◌, ◌≤◌, Bool, true, false, cond, List, [], ◌∷◌, Option, None, Some, bytes_eq, find, drop, get_or, length, map, sum_by, nat_lt, ◌++◌, append_assoc, append-nil, take, refl, sym, ap, subst, ◌∙◌, arith, add-one, drop-cons, drop_of_length-le}
 use Rattle.std.specs.Prelude.{position}
 use Rattle.std.specs.List.{position_or_len}
 use Rattle.std.proofs.lemmas.Bool.{ltb-true, ltb-false}
 use Rattle.std.proofs.lemmas.List.{get_or-map, length-map}
-use Rattle.std.proofs.lemmas.List.Sums.{sum_by-cons}
+use Rattle.std.proofs.lemmas.List.Sums.{sum_by-cons, sum_by_more}
 use Rattle.vlog_design.specs.Design.{instance_count}
 use Rattle.vlog_design.specs.Names.{Name}
 use Rattle.vlog_design.specs.Reach.{module_named}
@@ -110,6 +110,36 @@ items_step modules number list i item is h =
     ap (ties_from modules number) (drop-cons list i item h)
     ∙ (ap (λ k. item_ties modules number (get_or list i item) ++ ties_from modules (number + instance_count (get_or list i item)) (drop k list)) (sym (add-one i))
     ∙ ap (λ x. item_ties modules number x ++ ties_from modules (number + instance_count x) (drop (i + 1) list)) (sym is))
+
+front_by : (modules : List Module) (number : ℕ) (list : List ItemV) (i : ℕ) (item : ItemV) → item ≡ get_or list i item → i < length list →
+    ties_from modules number (take (suc i) list) ≡ ties_from modules number (take i list) ++ item_ties modules (number + sum_by instance_count (take i list)) item
+unfolding ties_from
+front_by modules number [] i item is h = absurd (omega (arith, h))
+front_by modules number (x ∷ xs) zero item is h =
+    let e : number ≡ number + 0 = omega arith in
+    append-nil (item_ties modules number x) ∙ (ap (item_ties modules number) (sym is) ∙ ap (λ n. item_ties modules n item) e)
+front_by modules number (x ∷ xs) (suc i) item is h =
+    let next = number + instance_count x in
+    let before = sum_by instance_count (take i xs) in
+    let e : next + before ≡ number + sum_by instance_count (x ∷ take i xs) = omega (arith, sum_by-cons instance_count x (take i xs)) in
+    ap (λ ts. item_ties modules number x ++ ts) (front_by modules next xs i item is (omega (arith, h)) ∙ ap (λ n. ties_from modules next (take i xs) ++ item_ties modules n item) e)
+    ∙ sym (append_assoc (item_ties modules number x) (ties_from modules next (take i xs)) (item_ties modules (number + sum_by instance_count (x ∷ take i xs)) item))
+
+-- what the items in front of the next one tie, and what that one does
+pub items_front : (modules : List Module) (list : List ItemV) (i : ℕ) (item : ItemV) (number : ℕ) → item ≡ get_or list i item → i < length list → number ≡ sum_by instance_count (take i list) →
+    ties_from modules 0 (take (i + 1) list) ≡ ties_from modules 0 (take i list) ++ item_ties modules number item
+items_front modules list i item number is h counted =
+    let e : 0 + sum_by instance_count (take i list) ≡ number = omega (arith, counted) in
+    ap (λ k. ties_from modules 0 (take k list)) (add-one i)
+    ∙ (front_by modules 0 list i item is h ∙ ap (λ n. ties_from modules 0 (take i list) ++ item_ties modules n item) e)
+
+-- how many instances stand in front of the item behind this one
+pub counted_on : (list : List ItemV) (i : ℕ) (item : ItemV) (number count : ℕ) → item ≡ get_or list i item → i < length list → number ≡ sum_by instance_count (take i list) → count ≡ instance_count item →
+    number + count ≡ sum_by instance_count (take (i + 1) list)
+counted_on list i item number count is h counted e =
+    let more : sum_by instance_count (take (i + 1) list) ≡ sum_by instance_count (take i list) + instance_count (get_or list i item) = sum_by_more instance_count list i item h in
+    let same : instance_count (get_or list i item) ≡ instance_count item = ap instance_count (sym is) in
+    omega (arith, more, same, counted, e)
 
 pub items_done : (modules : List Module) (number : ℕ) (list : List ItemV) (i : ℕ) → length list ≤ i → ties_from modules number (drop i list) ≡ []
 unfolding ties_from

@@ -1,8 +1,9 @@
 -- What the rules on two sides say of one module, and of modules one after the other.
-use Rattle.std.proofs.Common.{◌≡◌, ◌+◌, ◌-◌, ◌^◌, ◌<◌, ◌≤◌, ℕ, List, [], ◌∷◌, ◌++◌, None, Option, ap, append-nil, arith, find, get_or, length, map, min, option_map, refl, subst, sum_by, sym, take, ◌∙◌}
+use Rattle.std.proofs.Common.{◌≡◌, ◌+◌, ◌-◌, ◌^◌, ◌<◌, ◌≤◌, ℕ, List, [], ◌∷◌, ◌++◌, None, Some, Option, ap, append-nil, arith, find, get_or, length, map, min, option_map, refl, subst, sum_by, sym, take, ◌∙◌}
 use Rattle.std.specs.Option.{option_or}
 use Rattle.std.proofs.lemmas.List.{map_more, take_all}
 use Rattle.std.proofs.lemmas.List.Concat.{flat_map-append}
+use Rattle.std.proofs.lemmas.List.Folds.{find-append}
 use Rattle.std.proofs.lemmas.List.Sums.{sum_by-append}
 use Rattle.nl_base.specs.declared.rule.Refusal.{Refusal}
 use Rattle.nl_base.specs.declared.rule.Rule.{Rule}
@@ -11,11 +12,17 @@ use Rattle.vlog_design.specs.Names.{Signal, signals}
 use Rattle.vlog_design.specs.Rules.{Objects, first_of, in_modules, refused, unequal_widths, unsized}
 use Rattle.vlog_rules.specs.declared.passes.ModuleScope.{ModuleScope}
 use Rattle.vlog_values.specs.declared.module.Module.{Module}
-use Rattle.vlog_ties.specs.Sides.{AreSides}
-use Rattle.vlog_ties.specs.Ties.{Tied, any_pairing, broken_objects, is_broken, module_ties, modules_in, most_joins, rule_number, tied_names}
+use Rattle.vlog_ties.specs.Sides.{AreSides, AreTieSides, tie_refusal}
+use Rattle.vlog_ties.specs.Ties.{Tied, any_pairing, broken_objects, is_broken, module_ties, modules_in, most_joins, rule_number, tied_most, tied_names, ties_from}
 use Rattle.vlog_ties.specs.declared.rules.TieRule.{TieRule}
+use Rattle.vlog_ties.specs.declared.rules.TieRule.TheVariants.{EqualWidths, SizedLiterals}
 use Rattle.vlog_ties.specs.declared.sides.Sides.{Sides}
 use Rattle.vlog_ties.proofs.Broken.{broken_first}
+use Rattle.vlog_ties.proofs.MostJoins.{module_most}
+
+map_or : {A B : Type 0} (f : A → B) (one other : Option A) → option_map f (option_or one other) ≡ option_or (option_map f one) (option_map f other)
+map_or f None other = refl
+map_or f (Some x) other = refl
 
 -- the first refusal of one module, by the first of its ties that breaks the rule
 pub module_first : (rule : TieRule) (modules : List Module) (m : Module) (table : List Signal) (ts : List Tied) (found : Option Refusal) → table ≡ signals m → ts ≡ module_ties modules m
@@ -24,6 +31,43 @@ module_first rule modules m table ts found e f is =
     is
     ∙ (sym (broken_first rule modules m table ts (find (any_pairing (is_broken rule) table) ts) e f refl)
     ∙ ap first_of (sym (append-nil (map (refused (rule_number rule) m.name) (broken_objects rule modules m)))))
+
+module _ (m : Module) (table : List Signal) where
+  refusals_joined : (rule : TieRule) (front back : List Tied) (one other both : Option Refusal) → one ≡ tie_refusal rule m table front → other ≡ tie_refusal rule m table back → both ≡ option_or one other → both ≡ tie_refusal rule m table (front ++ back)
+  refusals_joined rule front back one other both e f is =
+      is
+      ∙ ((λ j. option_or (e j) (f j))
+      ∙ sym (ap (option_map (λ t. refused (rule_number rule) m.name (tied_names t))) (find-append (any_pairing (is_broken rule) table) front back)
+      ∙ map_or (λ t. refused (rule_number rule) m.name (tied_names t)) (find (any_pairing (is_broken rule) table) front) (find (any_pairing (is_broken rule) table) back)))
+
+  bits_joined : (front back : List Tied) (limit one other both : ℕ) → one ≡ min limit (sum_by (tied_most table) front) → other ≡ min limit (sum_by (tied_most table) back) → both ≡ min (one + other) limit
+      → both ≡ min limit (sum_by (tied_most table) (front ++ back))
+  bits_joined front back limit one other both e f is =
+      let sums : sum_by (tied_most table) (front ++ back) ≡ sum_by (tied_most table) front + sum_by (tied_most table) back = sum_by-append (tied_most table) front back in
+      grind arith
+
+  -- before the first item
+  pub ties_begun : (modules : List Module) (sides : Sides) → sides.unequal ≡ None → sides.loose ≡ None → sides.most ≡ 0 → AreTieSides m table (ties_from modules 0 []) sides
+  unfolding ties_from
+  ties_begun modules sides unequal loose most = record { unequal_is = unequal; loose_is = loose; most_is = most }
+
+  -- more ties
+  pub ties_more : (ties more all : List Tied) → all ≡ ties ++ more → (front back both : Sides) → AreTieSides m table ties front → AreTieSides m table more back
+      → both.unequal ≡ option_or front.unequal back.unequal → both.loose ≡ option_or front.loose back.loose → both.most ≡ min (front.most + back.most) (2 ^ 64 - 1) → AreTieSides m table all both
+  ties_more ties more all are front back both a b unequal loose most =
+      subst (λ those. AreTieSides m table those both) (sym are) (record {
+        unequal_is = refusals_joined EqualWidths ties more front.unequal back.unequal both.unequal a.unequal_is b.unequal_is unequal;
+        loose_is = refusals_joined SizedLiterals ties more front.loose back.loose both.loose a.loose_is b.loose_is loose;
+        most_is = bits_joined ties more (2 ^ 64 - 1) front.most back.most both.most a.most_is b.most_is most;
+      })
+
+-- the sides of a module are those of its ties
+pub module_sides : (modules : List Module) (m : Module) (table : List Signal) (ts : List Tied) (sides : Sides) → table ≡ signals m → ts ≡ module_ties modules m → AreTieSides m table ts sides → AreSides modules (m ∷ []) sides
+module_sides modules m table ts sides e f are = record {
+  unequal_is = module_first EqualWidths modules m table ts sides.unequal e f are.unequal_is;
+  loose_is = module_first SizedLiterals modules m table ts sides.loose e f are.loose_is;
+  most_is = module_most modules m table ts (2 ^ 64 - 1) sides.most e f are.most_is;
+}
 
 first_both : {A : Type 0} (xs ys : List A) → first_of (xs ++ ys) ≡ option_or (first_of xs) (first_of ys)
 first_both [] ys = refl
@@ -45,8 +89,8 @@ module _ (modules : List Module) where
 
   module _ (scopes : List ModuleScope) where
     -- before the first module
-    pub sides_begun : AreSides modules (modules_in (take 0 scopes)) (record { unequal = None; loose = None; most = 0 })
-    sides_begun = record { unequal_is = refl; loose_is = refl; most_is = refl }
+    pub sides_begun : (sides : Sides) → sides.unequal ≡ None → sides.loose ≡ None → sides.most ≡ 0 → AreSides modules (modules_in (take 0 scopes)) sides
+    sides_begun sides unequal loose most = record { unequal_is = unequal; loose_is = loose; most_is = most }
 
     -- one more module
     pub sides_more : (i : ℕ) (scope : ModuleScope) → scope ≡ get_or scopes i scope → i < length scopes → (front back both : Sides) → AreSides modules (modules_in (take i scopes)) front → AreSides modules (scope.module.now ∷ []) back

@@ -1,5 +1,5 @@
 -- What is tied in a module that a text can have.
-use Rattle.std.proofs.Common.{◌≡◌, ℕ, ◌+◌, ◌≤◌, All, Bool, true, false, List, [], ◌∷◌, Option, None, Some, flat_map, map, ap, subst, sym, ◌∙◌, arith, if◌then◌else◌}
+use Rattle.std.proofs.Common.{◌≡◌, ℕ, zero, suc, ◌+◌, ◌<◌, ◌≤◌, get_or, length, All, Bool, true, false, List, [], ◌∷◌, Option, None, Some, flat_map, map, ap, subst, sym, ◌∙◌, arith, if◌then◌else◌}
 use Rattle.std.specs.Prelude.{⊤, IfSome}
 use Rattle.std.specs.List.{AllByRecursion}
 use Rattle.std.specs.Option.{option_map_or}
@@ -123,6 +123,17 @@ pub ties_valid : (modules : List Module) (m : Module) → IsModule m → module_
 unfolding module_ties
 ties_valid modules m good small = items_valid modules 0 m.items good.items (omega (arith, small))
 
+valid_at : (modules : List Module) (number : ℕ) (list : List ItemV) (i : ℕ) (item : ItemV) → item ≡ get_or list i item → i < length list → AllByRecursion IsItem list → list_size item_size list ≤ 268435456 → AllByRecursion IsTied (item_ties modules number item)
+valid_at modules number [] i item is h good small = absurd (omega (arith, h))
+valid_at modules number (x ∷ xs) zero item is h good small =
+    subst (λ y. AllByRecursion IsTied (item_ties modules number y)) (sym is) (item_valid modules number x good.0 (omega (arith, sum_by-cons item_size x xs, small)))
+valid_at modules number (x ∷ xs) (suc i) item is h good small = valid_at modules number xs i item is (omega (arith, h)) good.1 (omega (arith, sum_by-cons item_size x xs, small))
+
+-- what is tied in an item of a module
+pub item_ties_valid : (modules : List Module) (m : Module) (number : ℕ) (list : List ItemV) (i : ℕ) (item : ItemV) → list ≡ m.items → item ≡ get_or list i item → i < length list → IsModule m → module_size m ≤ 268435456 →
+    AllByRecursion IsTied (item_ties modules number item)
+item_ties_valid modules m number list i item e is h good small = valid_at modules number list i item is h (subst (AllByRecursion IsItem) (sym e) good.items) (omega (arith, ap (list_size item_size) e, small))
+
 -- the literals
 
 tied_spelled : (t : Tied) → IsTied t → AllByRecursion HasDigits (tied_literals t)
@@ -130,9 +141,9 @@ tied_spelled (Pin instance number port port_number size value) good = spelled_by
 tied_spelled (Assign left right) good = every_append HasDigits (literals left) (literals right) (spelled_by_recursion left good.left_is) (spelled_by_recursion right good.right_is)
 tied_spelled (Supply name constant) good = tt
 
--- the digits of the literals in the ties of a module
-pub ties_spelled : (modules : List Module) (m : Module) (ties : List Tie) → all_tied ties ≡ module_ties modules m → IsModule m → module_size m ≤ 268435456 → All HasDigits (flat_map tie_literals ties)
-ties_spelled modules m ties e good small =
-    let all = every_part IsTied HasDigits tied_literals tied_spelled (module_ties modules m) (ties_valid modules m good small) in
-    let same : flat_map tied_literals (module_ties modules m) ≡ flat_map tie_literals ties = ap (flat_map tied_literals) (sym e) ∙ flat_map-map tied_literals tied ties in
+-- the digits of the literals in ties
+pub ties_spelled : (ties : List Tie) (ts : List Tied) → all_tied ties ≡ ts → AllByRecursion IsTied ts → All HasDigits (flat_map tie_literals ties)
+ties_spelled ties ts e valid =
+    let all = every_part IsTied HasDigits tied_literals tied_spelled ts valid in
+    let same : flat_map tied_literals ts ≡ flat_map tie_literals ties = ap (flat_map tied_literals) (sym e) ∙ flat_map-map tied_literals tied ties in
     All-from_recursion HasDigits (flat_map tie_literals ties) (subst (AllByRecursion HasDigits) same all)

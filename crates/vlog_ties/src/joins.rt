@@ -8,7 +8,7 @@ ghost use Rattle.vlog_values.specs.Values.{IsModule};
 ghost use Rattle.vlog_ties.specs.Ties.{modules_in, pairing_joins, tie_joins, tie_literals};
 
 use crate::tie::Tie;
-use crate::ties::ties_of;
+use crate::ties::{instance_count, push_item_ties};
 use net_hier::{Join, Node};
 use nl_base::NoMemory;
 use std::alloc::Global;
@@ -106,12 +106,12 @@ pub fn push_ties(
     Ok(())
 }
 
-/// The joins of a module, where `scopes` are the modules below it and `names` their names.
-pub fn joins_of(
+/// The joins of a module, where `scopes` are the modules below it and `names` their names. No list of all its ties is made.
+pub fn joins_of<'a>(
     alloc: Global,
     names: &NameSet,
-    scopes: &[ModuleScope],
-    scope: &ModuleScope,
+    scopes: &[ModuleScope<'a>],
+    scope: &ModuleScope<'a>,
 ) -> Result<Vec<Join>, NoMemory>
     requires named { names.now ≡ map (λ m. m.name) (modules_in scopes.now) }
     requires small { module_size scope.now.module.now ≤ 268435456 }
@@ -120,8 +120,15 @@ pub fn joins_of(
     ensures { IfOk result (λ joins. joins.items
         ≡ module_joins (modules_in scopes.now) scope.now.module.now) }
 {
-    let ties = ties_of(alloc, names, scopes, scope.module)?;
-    let mut joins = Vec::with_capacity(alloc, ties.len())?;
-    push_ties(alloc, &scope.table, &ties, &mut joins)?;
+    let items = scope.module.items.items();
+    let mut joins = Vec::with_capacity(alloc, items.len())?;
+    let mut ties = Vec::new(alloc);
+    let mut number: u32 = 0;
+    for item in items {
+        ties.clear();
+        push_item_ties(names, scopes, number, item, &mut ties)?;
+        push_ties(alloc, &scope.table, ties.as_slice(), &mut joins)?;
+        number += instance_count(item);
+    }
     Ok(joins)
 }

@@ -1,15 +1,16 @@
 // What the rules on the two sides of connections and assignments say of modules.
-ghost use Rattle.std.specs.Prelude.{◌≡◌, ◌≤◌, ◌∷◌, ◌+◌, ◌-◌, ◌^◌, [], min, map, IfOk};
+ghost use Rattle.std.specs.Prelude.{None, All, ◌≡◌, ◌≤◌, ◌∷◌, ◌+◌, ◌-◌, ◌^◌, [], min, map, IfOk};
 ghost use Rattle.std.specs.List.{AllByRecursion};
 ghost use Rattle.std.specs.Option.{option_or};
 ghost use Rattle.vlog_values.specs.Sizes.{module_size};
 ghost use Rattle.vlog_values.specs.Values.{IsModule};
-ghost use Rattle.vlog_ties.specs.Sides.{AreSides};
-ghost use Rattle.vlog_ties.specs.Ties.{modules_in};
+ghost use Rattle.vlog_ties.specs.Sides.{AreSides, AreTieSides};
+ghost use Rattle.vlog_ties.specs.Ties.{HasNarrowLeft, all_tied, modules_in, tied};
 
 use crate::counts::most_joins;
 use crate::rules::{TieRule, first_refusal};
-use crate::ties::ties_of;
+use crate::tie::Tie;
+use crate::ties::{instance_count, push_item_ties};
 use nl_base::{NoMemory, Refusal};
 use std::alloc::Global;
 use vlog_design::names::NameSet;
@@ -26,20 +27,24 @@ pub struct Sides {
     pub most: u64,
 }
 
-/// The sides of the module of a scope, where `scopes` are the modules below it and `names` their names.
-pub fn sides_in_scope(
-    alloc: Global,
-    names: &NameSet,
-    scopes: &[ModuleScope],
-    scope: &ModuleScope,
-) -> Result<Sides, NoMemory>
-    requires named { names.now ≡ map (λ m. m.name) (modules_in scopes.now) }
-    requires valid { IsModule scope.now.module.now }
-    requires small { module_size scope.now.module.now ≤ 268435456 }
-    ensures { IfOk result (AreSides (modules_in scopes.now) (scope.now.module.now ∷ [])) }
+/// The sides of no ties and of no modules.
+fn no_sides() -> Sides
+    ensures unequal { result.unequal ≡ None }
+    ensures loose { result.loose ≡ None }
+    ensures most { result.most ≡ 0 }
 {
-    let gathered = ties_of(alloc, names, scopes, scope.module)?;
-    let ties = gathered.as_slice();
+    Sides {
+        unequal: None,
+        loose: None,
+        most: 0,
+    }
+}
+
+/// The sides of these ties of the module of a scope.
+fn sides_of_ties(alloc: Global, scope: &ModuleScope, ties: &[Tie]) -> Result<Sides, NoMemory>
+    requires { All (λ tie. HasNarrowLeft scope.now.table (tied tie)) ties.now }
+    ensures { IfOk result (AreTieSides scope.now.module.now scope.now.table (all_tied ties.now)) }
+{
     let unequal = first_refusal(alloc, TieRule::EqualWidths, scope, ties)?;
     let loose = first_refusal(alloc, TieRule::SizedLiterals, scope, ties)?;
     let most = most_joins(&scope.table, ties);
@@ -50,7 +55,7 @@ pub fn sides_in_scope(
     })
 }
 
-/// The sides of modules, by those of the ones in front and those of the others.
+/// The sides of ties or modules, by those of the ones in front and those of the others.
 fn joined(front: Sides, back: Sides) -> Sides
     ensures unequal { result.unequal ≡ option_or front.unequal back.unequal }
     ensures loose { result.loose ≡ option_or front.loose back.loose }
@@ -73,6 +78,32 @@ fn joined(front: Sides, back: Sides) -> Sides
     }
 }
 
+/// The sides of the module of a scope, where `scopes` are the modules below it and `names` their names. No list of all its ties
+/// is made.
+pub fn sides_in_scope<'a>(
+    alloc: Global,
+    names: &NameSet,
+    scopes: &[ModuleScope<'a>],
+    scope: &ModuleScope<'a>,
+) -> Result<Sides, NoMemory>
+    requires named { names.now ≡ map (λ m. m.name) (modules_in scopes.now) }
+    requires valid { IsModule scope.now.module.now }
+    requires small { module_size scope.now.module.now ≤ 268435456 }
+    ensures { IfOk result (AreSides (modules_in scopes.now) (scope.now.module.now ∷ [])) }
+{
+    let mut sides = no_sides();
+    let mut ties = Vec::new(alloc);
+    let mut number: u32 = 0;
+    for item in scope.module.items.items() {
+        ties.clear();
+        push_item_ties(names, scopes, number, item, &mut ties)?;
+        let next = sides_of_ties(alloc, scope, ties.as_slice())?;
+        sides = joined(sides, next);
+        number += instance_count(item);
+    }
+    Ok(sides)
+}
+
 /// The sides of the modules, where `scopes` are the modules and `names` their names. What is tied is gathered once.
 pub fn sides_of(alloc: Global, names: &NameSet, scopes: &[ModuleScope]) -> Result<Sides, NoMemory>
     requires named { names.now ≡ map (λ m. m.name) (modules_in scopes.now) }
@@ -80,11 +111,7 @@ pub fn sides_of(alloc: Global, names: &NameSet, scopes: &[ModuleScope]) -> Resul
     requires small { AllByRecursion (λ m. module_size m ≤ 268435456) (modules_in scopes.now) }
     ensures { IfOk result (AreSides (modules_in scopes.now) (modules_in scopes.now)) }
 {
-    let mut sides = Sides {
-        unequal: None,
-        loose: None,
-        most: 0,
-    };
+    let mut sides = no_sides();
     for scope in scopes {
         let next = sides_in_scope(alloc, names, scopes, scope)?;
         sides = joined(sides, next);

@@ -77,7 +77,7 @@ pub fn scope_named<'s, 'a>(
 }
 
 /// How many instances an item has.
-fn instance_count(item: &ItemV) -> u32
+pub(crate) fn instance_count(item: &ItemV) -> u32
     requires { instance_count item.now ≤ 268435456 }
     ensures { result ≡ instance_count item.now }
 {
@@ -91,8 +91,9 @@ fn instance_count(item: &ItemV) -> u32
     }
 }
 
+/// Adds what an item ties whose first instance has this number.
 #[tactic(auto, unfolding(crate::specs::Ties::item_ties))]
-fn push_item<'a>(
+pub(crate) fn push_item_ties<'a>(
     names: &NameSet,
     scopes: &[ModuleScope<'a>],
     number: u32,
@@ -132,7 +133,7 @@ fn push_items<'a>(
 {
     let mut number: u32 = 0;
     for item in items {
-        push_item(names, scopes, number, item, out)?;
+        push_item_ties(names, scopes, number, item, out)?;
         number += instance_count(item);
     }
     Ok(())

@@ -13,7 +13,7 @@ pub sides_in_scope-requires-clause-small : goal.sides_in_scope-requires-clause-s
 sides_in_scope-requires-clause-small c = of_scope (λ m. module_size m ≤ 268435456) c.args.scopes.now c.loop-scope.scope-index c.scope-item.result c.scope-item.is c.loop-scope-test.true c.requires.small
 
 pub loop-scope-init : goal.loop-scope-init
-loop-scope-init c = sides_begun (modules_in c.args.scopes.now) c.args.scopes.now
+loop-scope-init c = sides_begun (modules_in c.args.scopes.now) c.args.scopes.now _ c.no_sides-sides.ensures.unequal c.no_sides-sides.ensures.loose c.no_sides-sides.ensures.most
 
 pub loop-scope-preserved : goal.loop-scope-preserved
 loop-scope-preserved c =

@@ -1,0 +1,12 @@
+use Rattle.std.proofs.Common.{◌≡◌, ◌+◌, ◌≤◌, drop, sum_by, take}
+use Rattle.vlog_design.specs.Design.{instance_count}
+use Rattle.vlog_ties.specs.Sides.{AreTieSides}
+use Rattle.vlog_ties.specs.Ties.{modules_in, ties_from}
+use Rattle.vlog_ties.proofs.sides.sides_in_scope.Given as goal
+
+abbrev pub invariant-loop-item : goal.invariant-loop-item
+invariant-loop-item l = record {
+  few : l.number + sum_by instance_count (drop l.item-index l.item-items) ≤ 268435456;
+  counted : l.number ≡ sum_by instance_count (take l.item-index l.item-items);
+  sides : AreTieSides l.scope.module.now l.scope.table (ties_from (modules_in l.scopes) 0 (take l.item-index l.item-items)) l.sides;
+}
