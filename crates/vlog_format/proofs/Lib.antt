@@ -1,3 +1,4 @@
 pub mod Behind
 pub mod Rounds
 pub mod Exits
+pub mod PieceLaws

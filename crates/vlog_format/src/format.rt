@@ -1,16 +1,20 @@
 // Files that are read, and of which the text is made.
-ghost use Rattle.vlog_modules.specs.Starts.{with_piece};
-ghost use Rattle.vlog_modules.specs.declared.file.SoFar.{SoFar};
+ghost use Rattle.std.specs.Prelude.{List, [], ◌∷◌, ◌++◌};
+ghost use Rattle.vlog_values.specs.declared.module.ItemV.{ItemV as ItemValue};
+ghost use Rattle.vlog_values.specs.declared.module.Module.{Module as ModuleValue};
 ghost use Rattle.vlog_format.specs.Formats.{Formats, FormatsPieces};
-ghost use Rattle.vlog_format.specs.Pieces.{IsMadeOf};
+ghost use Rattle.vlog_format.specs.Pieces.{FormatsItems, FormatsPiece};
+ghost use Rattle.vlog_format.specs.Texts.{IsTextOf, IsTextUpTo};
 
 use crate::text::FileText;
 use nl_base::ReadError;
 use nl_io::Source;
 use std::alloc::Global;
 use vlog_exprs::VCursor;
-use vlog_modules::{Piece, at_piece, read_piece};
+use vlog_items::read_item;
+use vlog_modules::{Piece, at_item, at_piece, read_beginning};
 use vlog_tokens::VTokens;
+use vlog_values::{ItemV, Module};
 
 /// The text so far, and whether names are nets without a declaration from here on.
 #[derive(Drop)]
@@ -54,20 +58,63 @@ fn format_pieces<S: Source>(
         implicit: true,
     };
     while at_piece(alloc, cursor, source)? {
-        let piece = read_piece(alloc, cursor, made.implicit, source)?;
-        add_piece(&mut made, piece);
+        made = format_piece(alloc, cursor, made, source)?;
     }
     Ok(made.text)
 }
 
-/// Adds a piece of the file: the text of a module, or what a directive says.
-#[tactic(auto, unfolding(vlog_modules::specs::Starts::with_piece))]
-fn add_piece(made: &mut Made, piece: Piece)
-    ensures { (so_far : SoFar) → IsMadeOf made.old so_far
-        → IsMadeOf made.new (with_piece so_far piece) }
+/// Reads a directive or a module, and makes the text of the module.
+fn format_piece<S: Source>(
+    alloc: Global,
+    cursor: &mut VCursor,
+    made: Made,
+    source: &mut S,
+) -> Result<Made, ReadError>
+    ensures { FormatsPiece made result cursor.old cursor.new
+        (S.supply source.old) (S.supply source.new) }
 {
-    match piece {
-        Piece::Implicit(implicit) => made.implicit = implicit,
-        Piece::Module(module) => made.text.add(&module),
+    let Made { mut text, implicit } = made;
+    match read_beginning(alloc, cursor, implicit, source)? {
+        Piece::Implicit(implicit) => Ok(Made { text, implicit }),
+        Piece::Module(heading) => {
+            begin_module(&mut text, heading);
+            format_items(alloc, cursor, &mut text, source)?;
+            Ok(Made { text, implicit })
+        }
     }
+}
+
+/// Reads the items of a module up to `endmodule`, and makes the text of each item.
+fn format_items<S: Source>(
+    alloc: Global,
+    cursor: &mut VCursor,
+    text: &mut FileText,
+    source: &mut S,
+) -> Result<(), ReadError>
+    ensures { FormatsItems text.old text.new result cursor.old cursor.new
+        (S.supply source.old) (S.supply source.new) }
+{
+    while at_item(alloc, cursor, source)? {
+        let item = read_item(alloc, cursor, source)?;
+        add_item(text, item);
+    }
+    cursor.keyword(alloc, b"endmodule", source)?;
+    text.end();
+    Ok(())
+}
+
+/// Begins the text of a module, of which nothing is kept.
+fn begin_module(text: &mut FileText, heading: Module)
+    ensures { (ms : List ModuleValue) → IsTextOf text.old ms → IsTextUpTo text.new ms heading [] }
+{
+    text.begin(&heading);
+}
+
+/// Adds the text of an item, which is not kept.
+fn add_item(text: &mut FileText, item: ItemV)
+    ensures { (ms : List ModuleValue) (heading : ModuleValue) (items : List ItemValue)
+        → IsTextUpTo text.old ms heading items
+        → IsTextUpTo text.new ms heading (items ++ item ∷ []) }
+{
+    text.add(&item);
 }

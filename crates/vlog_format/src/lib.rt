@@ -4,8 +4,9 @@
 // that `write_vlog` of `vlog_writer` has for the file that it reads. A text is answered only where all the bytes of the source, up to its end,
 // read as a file; where they do not, the first fault is answered and no text.
 //
-// The file is never whole in memory: each module is dropped when its lines are made. `FileText` is that text, made module by module: `add` takes
-// the modules in their order, and `finish` answers the text of the file of these modules, or that memory ran out.
+// Neither the file nor a module is ever whole in memory: each item is dropped when its line is made. `FileText` is that text, made item by item:
+// `begin` takes a module up to its items, `add` takes each item, `end` ends the module, and `finish` answers the text of the file of these modules,
+// or that memory ran out.
 #![tactic(auto)]
 
 pub mod format;

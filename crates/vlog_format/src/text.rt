@@ -3,18 +3,20 @@ ghost use Rattle.std.specs.Prelude.{◌≡◌, ◌+◌, ◌-◌, ◌<◌, ◌++�
 ghost use Rattle.std.specs.Io.{WritesAtMost};
 ghost use Rattle.nl_io.specs.Causes.{HasCause};
 ghost use Rattle.nl_io.specs.Sinks.{Gains, Keeps};
+ghost use Rattle.vlog_values.specs.declared.module.ItemV.{ItemV as ItemValue};
 ghost use Rattle.vlog_values.specs.declared.module.Module.{Module};
+ghost use Rattle.vlog_modules.specs.Beginnings.{with_items};
 ghost use Rattle.vlog_writer.specs.Forms.{vlog_text};
 ghost use Rattle.vlog_format.specs.Taken.{in_memory};
-ghost use Rattle.vlog_format.specs.Texts.{IsTextOf};
+ghost use Rattle.vlog_format.specs.Texts.{IsTextOf, IsTextUpTo};
 
 use nl_base::NoMemory;
 use nl_io::{Failed, Sink};
 use nl_output::Output;
 use std::alloc::Global;
 use std::marker::Model;
-use vlog_values::Module;
-use vlog_writer::lay_next_module;
+use vlog_values::{ItemV, Module};
+use vlog_writer::{lay_item, lay_module_end, lay_module_start};
 
 /// A sink in memory that grows. A put takes all the bytes, or fails where memory runs out.
 ///
@@ -76,7 +78,7 @@ impl Sink for TextSink {
     }
 }
 
-/// The normal text of a file, made module by module: the modules need not be kept.
+/// The normal text of a file, made item by item: neither the modules nor their items need be kept.
 #[derive(Drop)]
 pub struct FileText {
     sink: TextSink,
@@ -104,13 +106,31 @@ impl FileText {
         self.implicit = module.implicit;
     }
 
-    /// Adds the text of a module. Where memory runs out nothing more is added, and `finish` says it.
-    pub fn add(&mut self, module: &Module)
+    /// Begins the text of a module that has these items behind its heading. Where memory runs out nothing more is added, and `finish` says it.
+    pub fn begin(&mut self, heading: &Module)
         ensures { (ms : List Module) → IsTextOf self.old ms
-            → IsTextOf self.new (ms ++ «module».now ∷ []) }
+            → IsTextUpTo self.new ms heading.now [] }
     {
-        lay_next_module(self.implicit, module, &mut self.output, &mut self.sink);
-        self.note_implicit(module);
+        lay_module_start(self.implicit, heading, &mut self.output, &mut self.sink);
+        self.note_implicit(heading);
+    }
+
+    /// Adds the text of an item to that of a module.
+    pub fn add(&mut self, item: &ItemV)
+        ensures { (ms : List Module) (heading : Module) (items : List ItemValue)
+            → IsTextUpTo self.old ms heading items
+            → IsTextUpTo self.new ms heading (items ++ item.now ∷ []) }
+    {
+        lay_item(item, &mut self.output, &mut self.sink);
+    }
+
+    /// Ends the text of a module.
+    pub fn end(&mut self)
+        ensures { (ms : List Module) (heading : Module) (items : List ItemValue)
+            → IsTextUpTo self.old ms heading items
+            → IsTextOf self.new (ms ++ with_items heading items ∷ []) }
+    {
+        lay_module_end(&mut self.output, &mut self.sink);
     }
 
     /// The whole text.

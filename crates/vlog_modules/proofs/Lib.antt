@@ -1,4 +1,5 @@
 pub mod AtMostOne
+pub mod Beginnings
 pub mod Clear
 pub mod FileTexts
 pub mod GroupTexts

@@ -1,3 +1,4 @@
+pub mod Beginnings
 pub mod Grammar
 pub mod Productions
 pub mod Starts

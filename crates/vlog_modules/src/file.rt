@@ -9,10 +9,11 @@ ghost use Rattle.vlog_tokens.specs.Language.{vlog};
 ghost use Rattle.vlog_exprs.specs.Calls.{kept};
 ghost use Rattle.vlog_exprs.specs.Reasons.{trailing};
 ghost use Rattle.vlog_modules.specs.States.{IsPiece, piece_size, AddsPiece};
-ghost use Rattle.vlog_modules.specs.Starts.{begins_piece, said_by, one_module, piece};
+ghost use Rattle.vlog_modules.specs.Starts.{begins_piece, said_by, piece};
+ghost use Rattle.vlog_modules.specs.Beginnings.{beginning, one_heading};
 ghost use Rattle.vlog_modules.specs.Grammar.{net_type, net_type_of, directive_of, at_directive, file};
 
-use crate::module::read_module;
+use crate::module::{read_heading, read_items, with_items};
 use nl_base::{ReadError, Reason, Seq};
 use nl_io::Source;
 use std::alloc::Global;
@@ -162,8 +163,7 @@ fn directive_of(word: &[u8]) -> Option<Directive>
 /// # Errors
 /// `Text`: the first fault, with its place. `TooLong`: more bytes are needed than are looked at. `ReadFault`: the source failed.
 /// `NoMemory`: memory ran out. `Spent`: an earlier call with this cursor has failed.
-#[tactic(auto, using(readers::proofs::Choices::choices), unfolding(crate::specs::Starts::piece))]
-pub fn read_piece<S: Source>(
+fn read_piece<S: Source>(
     alloc: Global,
     cursor: &mut VCursor,
     implicit: bool,
@@ -174,14 +174,40 @@ pub fn read_piece<S: Source>(
     ensures value { IfOk result IsPiece }
     ensures size { IfOk result (λ p. piece_size p + room cursor.new < room cursor.old) }
 {
+    match read_beginning(alloc, cursor, implicit, source)? {
+        Piece::Implicit(implicit) => Ok(Piece::Implicit(implicit)),
+        Piece::Module(heading) => {
+            let items = read_items(alloc, cursor, source)?;
+            Ok(Piece::Module(with_items(heading, items)))
+        }
+    }
+}
+
+/// Reads a directive, or a module up to its items, where one is next: the module that is answered has none. `implicit` says whether names are
+/// nets without a declaration in the module. The items stand behind it, each where `at_item` sees one, and then `endmodule`.
+///
+/// # Errors
+/// As `read_piece`.
+#[tactic(auto, using(readers::proofs::Choices::choices), unfolding(crate::specs::Beginnings::beginning))]
+pub fn read_beginning<S: Source>(
+    alloc: Global,
+    cursor: &mut VCursor,
+    implicit: bool,
+    source: &mut S,
+) -> Result<Piece, ReadError>
+    ensures reads { Reads vlog same (beginning implicit) result cursor.old cursor.new
+        (S.supply source.old) (S.supply source.new) }
+    ensures value { IfOk result IsPiece }
+    ensures size { IfOk result (λ p. piece_size p + room cursor.new < room cursor.old) }
+{
     match takes_directive(alloc, cursor, source)? {
         Some(word) => {
             let implicit = read_directive(alloc, cursor, word, source)?;
             Ok(Piece::Implicit(implicit))
         }
         None => {
-            let module = read_one_module(alloc, cursor, implicit, source)?;
-            Ok(Piece::Module(module))
+            let heading = read_one_heading(alloc, cursor, implicit, source)?;
+            Ok(Piece::Module(heading))
         }
     }
 }
@@ -274,20 +300,20 @@ fn net_type_of(alloc: Global, token: VToken) -> Said<bool>
     }
 }
 
-/// Reads a module, from its attributes on.
-#[tactic(auto, using(readers::proofs::Reading::sequences), unfolding(crate::specs::Starts::one_module))]
-fn read_one_module<S: Source>(
+/// Reads a module up to its items, from its attributes on.
+#[tactic(auto, using(readers::proofs::Reading::sequences), unfolding(crate::specs::Beginnings::one_heading))]
+fn read_one_heading<S: Source>(
     alloc: Global,
     cursor: &mut VCursor,
     implicit: bool,
     source: &mut S,
 ) -> Result<Module, ReadError>
-    ensures reads { Reads vlog same (one_module implicit) result cursor.old cursor.new
+    ensures reads { Reads vlog same (one_heading implicit) result cursor.old cursor.new
         (S.supply source.old) (S.supply source.new) }
     ensures value { IfOk result IsModule }
     ensures size { IfOk result (λ m. module_size m + 1 + room cursor.new < room cursor.old) }
 {
     let attrs = read_attrs(alloc, cursor, source)?;
-    let module = read_module(alloc, cursor, implicit, attrs, source)?;
-    Ok(module)
+    let heading = read_heading(alloc, cursor, implicit, attrs, source)?;
+    Ok(heading)
 }

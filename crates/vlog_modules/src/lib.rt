@@ -6,9 +6,10 @@
 // memory aside, it answers nothing else, and at a fault at most 4,096 bytes past its stop were taken. Also where the source tells no
 // bytes, the file is one that can be written, with at most 268,435,456 items in all its lists. `laws` has it that these are three cases:
 // a text reads as at most one file, has at most one first fault, and never both; and that the grammar has the texts of the extended BNF
-// in `specs/Productions.antt`. A file can also be read piece by piece, so that its modules need not all be kept: `at_piece` looks whether a
-// directive or a module is next, and `read_piece` reads it; the laws `piece_loops` in `proofs/Pieces.antt` have it that a loop over these
-// two reads what the grammar has for a file.
+// in `specs/Productions.antt`. A file can also be read item by item, so that neither its modules nor their items need all be kept: `at_piece`
+// looks whether a directive or a module is next, `read_beginning` reads the directive or the module up to its items, and `at_item` looks whether
+// an item is next; the laws `piece_loops` in `proofs/Pieces.antt`, `in_two` in `proofs/Beginnings.antt` and `item_loops` in `proofs/Items.antt` have
+// it that loops over these read what the grammar has for a file.
 #![tactic(auto)]
 
 mod file;
@@ -17,4 +18,5 @@ pub mod laws;
 mod module;
 mod parameter;
 
-pub use file::{Piece, at_piece, read_piece, read_vlog};
+pub use file::{Piece, at_piece, read_beginning, read_vlog};
+pub use module::at_item;

@@ -10,7 +10,8 @@ ghost use Rattle.vlog_tokens.specs.Language.{vlog};
 ghost use Rattle.vlog_exprs.specs.Reasons.{meant_by};
 ghost use Rattle.vlog_items.specs.Grammar.{item_words};
 ghost use Rattle.vlog_modules.specs.Starts.{begins_item, begins_by};
-ghost use Rattle.vlog_modules.specs.Grammar.{items, module_rest, module_of};
+ghost use Rattle.vlog_modules.specs.Beginnings.{heading_rest, heading_of, with_items};
+ghost use Rattle.vlog_modules.specs.Grammar.{items};
 
 use crate::header::read_header;
 use crate::parameter::read_params;
@@ -77,8 +78,11 @@ fn begins_by(word: &[u8]) -> bool
     true
 }
 
-/// Looks whether attributes or an item are next. It takes nothing.
-fn at_item<S: Source>(
+/// Looks whether attributes or an item are next in a module. It takes nothing.
+///
+/// # Errors
+/// As `read_item`, where the next token is no token of Verilog or is not to be had.
+pub fn at_item<S: Source>(
     alloc: Global,
     cursor: &mut VCursor,
     source: &mut S,
@@ -119,7 +123,7 @@ fn at_item_token<S: Source>(
 
 /// Reads the items of a module up to `endmodule`.
 #[tactic(auto, using(crate::proofs::Items::item_loops))]
-fn read_items<S: Source>(
+pub(crate) fn read_items<S: Source>(
     alloc: Global,
     cursor: &mut VCursor,
     source: &mut S,
@@ -139,9 +143,18 @@ fn read_items<S: Source>(
     Ok(items)
 }
 
-/// Reads a module, behind `module`.
-#[tactic(auto, using(readers::proofs::Reading::sequences), unfolding(crate::specs::Grammar::module_rest))]
-fn read_module_rest<S: Source>(
+/// The module with these items, in a list without spare room.
+pub(crate) fn with_items(heading: Module, items: Seq<ItemV>) -> Module
+    ensures { result ≡ with_items heading items }
+{
+    let mut module = heading;
+    module.items = fitted(items);
+    module
+}
+
+/// Reads a module up to its items, behind `module`.
+#[tactic(auto, using(readers::proofs::Reading::sequences), unfolding(crate::specs::Beginnings::heading_rest))]
+fn read_heading_rest<S: Source>(
     alloc: Global,
     cursor: &mut VCursor,
     implicit: bool,
@@ -149,7 +162,7 @@ fn read_module_rest<S: Source>(
     source: &mut S,
 ) -> Result<Module, ReadError>
     requires { AreAttrs attrs }
-    ensures reads { Reads vlog same (module_rest implicit attrs) result cursor.old cursor.new
+    ensures reads { Reads vlog same (heading_rest implicit attrs) result cursor.old cursor.new
         (S.supply source.old) (S.supply source.new) }
     ensures value { IfOk result IsModule }
     ensures size { IfOk result
@@ -159,20 +172,19 @@ fn read_module_rest<S: Source>(
     let params = read_params(alloc, cursor, source)?;
     let header = read_header(alloc, cursor, source)?;
     cursor.mark(alloc, b';', source)?;
-    let items = read_items(alloc, cursor, source)?;
     Ok(Module {
         attrs,
         name,
         implicit,
         params,
         header,
-        items: fitted(items),
+        items: Seq::empty(alloc),
     })
 }
 
-/// Reads a module, behind its attributes.
-#[tactic(auto, using(readers::proofs::Reading::sequences), unfolding(crate::specs::Grammar::module_of))]
-pub(crate) fn read_module<S: Source>(
+/// Reads a module up to its items, behind its attributes.
+#[tactic(auto, using(readers::proofs::Reading::sequences), unfolding(crate::specs::Beginnings::heading_of))]
+pub(crate) fn read_heading<S: Source>(
     alloc: Global,
     cursor: &mut VCursor,
     implicit: bool,
@@ -180,13 +192,13 @@ pub(crate) fn read_module<S: Source>(
     source: &mut S,
 ) -> Result<Module, ReadError>
     requires { AreAttrs attrs }
-    ensures reads { Reads vlog same (module_of implicit attrs) result cursor.old cursor.new
+    ensures reads { Reads vlog same (heading_of implicit attrs) result cursor.old cursor.new
         (S.supply source.old) (S.supply source.new) }
     ensures value { IfOk result IsModule }
     ensures size { IfOk result
         (λ m. module_size m + 1 + room cursor.new < room cursor.old + length attrs) }
 {
     cursor.keyword(alloc, b"module", source)?;
-    let parts = read_module_rest(alloc, cursor, implicit, attrs, source)?;
-    Ok(parts)
+    let heading = read_heading_rest(alloc, cursor, implicit, attrs, source)?;
+    Ok(heading)
 }

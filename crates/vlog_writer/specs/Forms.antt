@@ -259,9 +259,13 @@ abbrev pub attribute_lines : Forms → Lines
 attribute_lines none = nothing
 attribute_lines (more f fs) = line 0 (Attributes (more f fs))
 
+-- the last line of a module (12.1)
+abbrev pub end_line : Lines
+end_line = line 0 (Word (codes "endmodule"))
+
 -- a module (12.1)
 abbrev pub module_lines : Module → Lines
-module_lines m = attribute_lines (each attr_form m.attrs) below header_lines m m.header below all item_lines m.items below line 0 (Word (codes "endmodule"))
+module_lines m = attribute_lines (each attr_form m.attrs) below header_lines m m.header below all item_lines m.items below end_line
 
 -- the net type of names without a declaration: `wire`, or `none` where there is none (19.2)
 abbrev pub nettype_form : Bool → Form
@@ -278,6 +282,10 @@ nettype_lines true true = nothing
 nettype_lines true false = nettype_line false
 nettype_lines false true = nettype_line true
 nettype_lines false false = nothing
+
+-- the lines of a module up to its items, behind modules for the last of which that was so
+abbrev pub start_lines : Bool → Module → Lines
+start_lines before m = nettype_lines before m.implicit below attribute_lines (each attr_form m.attrs) below header_lines m m.header
 
 -- modules behind one for which that was so
 abbrev pub file_lines : Bool → List Module → Lines

@@ -1,5 +1,5 @@
 ghost use Rattle.std.specs.Prelude.{◌∷◌, ◌++◌, codes, true};
-ghost use Rattle.vlog_writer.specs.Forms.{attr_form, attribute_lines, decl_lines, file_lines, group_form, hashed, header_lines, module_lines, names_form, nettype_line, nettype_lines, round, vlog_text};
+ghost use Rattle.vlog_writer.specs.Forms.{attr_form, attribute_lines, decl_lines, end_line, file_lines, group_form, hashed, header_lines, module_lines, names_form, nettype_line, nettype_lines, round, start_lines, vlog_text};
 ghost use Rattle.vlog_writer.specs.Layout.{Mark, Name, Row, Word, both, each, inline, laid, part, ◌below◌, ◌▸◌};
 ghost use Rattle.vlog_writer.specs.Pending.{break_where, end_where};
 ghost use Rattle.nl_output.specs.Writing.{state, Puts, Writes};
@@ -100,14 +100,11 @@ fn lay_header<O: Sink>(module: &Module, output: &mut Output, sink: &mut O)
     }
 }
 
-/// A module (IEEE 1364-2005, 12.1).
-fn lay_module<O: Sink>(module: &Module, output: &mut Output, sink: &mut O)
-    ensures { Puts (laid (module_lines «module».now))
+/// The last line of a module (IEEE 1364-2005, 12.1).
+pub fn lay_module_end<O: Sink>(output: &mut Output, sink: &mut O)
+    ensures { Puts (laid end_line)
         (state O.receipt sink.old output.old) (state O.receipt sink.new output.new) }
 {
-    lay_attributes(module.attrs.items(), output, sink);
-    lay_header(module, output, sink);
-    lay_items(module.items.items(), output, sink);
     output.put(b"endmodule\n", sink);
 }
 
@@ -139,15 +136,26 @@ fn lay_nettype<O: Sink>(before: bool, implicit: bool, output: &mut Output, sink:
     }
 }
 
-/// A module behind others, and before it the line that says whether names may stand without a declaration, where the module changes what was
-/// so before.
-pub fn lay_next_module<O: Sink>(before: bool, module: &Module, output: &mut Output, sink: &mut O)
+/// The lines of a module behind others up to its items: the line that says whether names may stand without a declaration, where the module
+/// changes what was so before, its attributes and its header.
+pub fn lay_module_start<O: Sink>(before: bool, module: &Module, output: &mut Output, sink: &mut O)
+    ensures { Puts (laid (start_lines before «module».now))
+        (state O.receipt sink.old output.old) (state O.receipt sink.new output.new) }
+{
+    lay_nettype(before, module.implicit, output, sink);
+    lay_attributes(module.attrs.items(), output, sink);
+    lay_header(module, output, sink);
+}
+
+/// A module behind others (IEEE 1364-2005, 12.1).
+fn lay_next_module<O: Sink>(before: bool, module: &Module, output: &mut Output, sink: &mut O)
     ensures { Puts
         (laid (nettype_lines before «module».now.implicit below module_lines «module».now))
         (state O.receipt sink.old output.old) (state O.receipt sink.new output.new) }
 {
-    lay_nettype(before, module.implicit, output, sink);
-    lay_module(module, output, sink);
+    lay_module_start(before, module, output, sink);
+    lay_items(module.items.items(), output, sink);
+    lay_module_end(output, sink);
 }
 
 /// Modules, of which the first stands behind no other.

@@ -23,8 +23,8 @@ impl OnLine for ItemV {
     }
 }
 
-/// An item on a line of its own.
-fn lay_item<O: Sink>(item: &ItemV, output: &mut Output, sink: &mut O)
+/// An item on a line of its own, in a module.
+pub fn lay_item<O: Sink>(item: &ItemV, output: &mut Output, sink: &mut O)
     ensures { Puts (laid (item_lines item.now))
         (state O.receipt sink.old output.old) (state O.receipt sink.new output.new) }
 {

@@ -6,8 +6,8 @@
 // A based literal has its normal spelling. A string has the bytes 32 to 126 other than `"` and `\` as themselves, and escapes for all others. A line
 // with `default_nettype` stands before each module at which it changes whether nets may stand without a declaration.
 //
-// `lay_next_module` puts the lines of one module of such a text, for a text that is made module by module: the lines of the modules, one behind
-// another from `true` on, are the text of their file.
+// `lay_module_start`, `lay_item` and `lay_module_end` put the lines of one module of such a text, for a text that is made item by item: the lines of
+// the modules, one behind another from `true` on, are the text of their file.
 //
 // It answers `Ok` exactly where the sink took the whole text; else a put of the sink failed, and the sink took a front of the text. It takes no
 // memory.
@@ -23,4 +23,5 @@ pub mod name;
 pub mod statement;
 pub mod string;
 
-pub use file::{lay_next_module, write_vlog};
+pub use file::{lay_module_end, lay_module_start, write_vlog};
+pub use item::lay_item;
