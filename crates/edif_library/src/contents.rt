@@ -1,5 +1,5 @@
 // The reader of contents.
-ghost use Rattle.std.specs.Prelude.{◌+◌, ◌<◌, [], ◌∷◌, IfOk};
+ghost use Rattle.std.specs.Prelude.{◌≡◌, ◌+◌, ◌<◌, [], ◌∷◌, IfOk};
 ghost use Rattle.std.specs.List.{AllByRecursion};
 ghost use Rattle.readers.specs.Readers.{same, Reads, room};
 ghost use Rattle.edif_keywords.specs.Language.{edif};
@@ -34,7 +34,16 @@ pub(crate) fn read_contents<S: Source>(
         cursor.add(&mut items, item)?;
     }
     cursor.finish_form(alloc, source)?;
-    Ok(items)
+    Ok(without_spare_room(items))
+}
+
+/// The same parts, in a list that has given back its spare room: there may be many small cells.
+fn without_spare_room(items: Seq<ContentsItem>) -> Seq<ContentsItem>
+    ensures { result ≡ items }
+{
+    let mut items = items.into_vec();
+    items.shrink_to_fit();
+    Seq::of(items)
 }
 
 /// Reads a part of contents, from its `(` on.

@@ -49,8 +49,8 @@ returns-in_err-finish_form g c =
 
 pub returns : goal.returns
 unfolding contents_rest
-returns g c = record {
+returns g c = rw c.without_spare_room.ensures (record {
   reads = ended _ _ (AllByRecursion IsContentsItem) (list_size contents_item_size) _ c.loop-items.invariant (rw c.if-branch.false at c.in_ok-at_form.ensures.looks) c.in_ok-finish_form.ensures;
   value = c.loop-items.invariant.good;
   size = fewer _ _ (AllByRecursion IsContentsItem) (list_size contents_item_size) _ c.loop-items.invariant (rw c.if-branch.false at c.in_ok-at_form.ensures.looks) c.in_ok-finish_form.ensures;
-}
+})
