@@ -9,7 +9,7 @@ use Rattle.vlog_modules.specs.Beginnings.{with_items}
 use Rattle.vlog_writer.specs.Forms.{attr_form, attribute_lines, end_line, file_lines, header_lines, item_lines, module_lines, nettype_lines, start_lines}
 use Rattle.vlog_writer.specs.Layout.{◌below◌, all, each, laid}
 use Rattle.vlog_format.specs.declared.text.FileText.{FileText}
-use Rattle.vlog_format.specs.Taken.{untaken, in_memory}
+use Rattle.nl_memory.specs.Taken.{untaken, in_memory}
 use Rattle.vlog_format.specs.Texts.{implicit_in_last, IsTextOf, IsTextUpTo}
 
 -- the lines of a module behind others

@@ -3,6 +3,7 @@ use Rattle.std.specs.Prelude.{◌≡◌, ℕ, Result, Ok, Err, Vec}
 use Rattle.std.proofs.Common.{Global}
 use Rattle.nl_base.specs.declared.fault.ReadError.{ReadError}
 use Rattle.nl_io.specs.Sources.{Supply}
+use Rattle.nl_memory.specs.Made.{IsTextOfRead}
 use Rattle.readers.specs.Readers.{Reader, ReadsWhole, same}
 use Rattle.readers.specs.Texts.{ReadsText}
 use Rattle.vlog_values.specs.declared.module.VlogFile.{VlogFile}
@@ -15,16 +16,9 @@ use Rattle.vlog_writer.specs.Forms.{vlog_text}
 use Rattle.vlog_format.specs.declared.text.FileText.{FileText}
 use Rattle.vlog_format.specs.Texts.{IsTextOf}
 
--- of a file that was read its text is answered, and of an error the same error
-abbrev pub IsTextOfRead : Result VlogFile ReadError → Result (Vec ℕ Global) ReadError → Type 0
-IsTextOfRead (Ok v) (Ok text) = text.items ≡ vlog_text v
-IsTextOfRead (Err e) (Err f) = e ≡ f
-IsTextOfRead (Ok v) (Err f) = ⊥
-IsTextOfRead (Err e) (Ok text) = ⊥
-
 -- The source is read to its end as a file, as `read_vlog` reads it, and the normal text of the file is answered.
 abbrev pub Formats : Result (Vec ℕ Global) ReadError → Supply → Supply → Type 0
-Formats result i j = (read : Result VlogFile ReadError) × ReadsText vlog trailing tt same file read i j × IsTextOfRead read result
+Formats result i j = (read : Result VlogFile ReadError) × ReadsText vlog trailing tt same file read i j × IsTextOfRead vlog_text read result
 
 -- the same of the text of the modules that were read
 abbrev pub IsTextOfPieces : Result VlogFile ReadError → Result FileText ReadError → Type 0

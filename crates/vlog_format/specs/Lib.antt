@@ -1,4 +1,3 @@
-pub mod Taken
 pub mod Texts
 pub mod Formats
 pub mod Pieces

@@ -5,7 +5,7 @@ use Rattle.vlog_values.specs.declared.module.ItemV.{ItemV}
 use Rattle.vlog_values.specs.declared.module.Module.{Module}
 use Rattle.vlog_writer.specs.Forms.{file_lines, item_lines, start_lines}
 use Rattle.vlog_writer.specs.Layout.{all, laid}
-use Rattle.vlog_format.specs.Taken.{untaken, in_memory}
+use Rattle.nl_memory.specs.Taken.{untaken, in_memory}
 use Rattle.vlog_format.specs.declared.text.FileText.{FileText}
 
 -- whether names may stand without a declaration in the last of the modules; what was so before where there is none

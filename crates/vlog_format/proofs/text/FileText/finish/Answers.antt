@@ -3,7 +3,7 @@ use Rattle.nl_output.specs.Writing.{state}
 use Rattle.nl_output.proofs.Whole.{writes_whole}
 use Rattle.vlog_writer.specs.Forms.{file_lines}
 use Rattle.vlog_writer.specs.Layout.{laid}
-use Rattle.vlog_format.specs.Taken.{untaken, in_memory}
+use Rattle.nl_memory.specs.Taken.{untaken, in_memory}
 use Rattle.vlog_format.proofs.text.FileText.finish.Goals as goal
 
 pub returns-in-Ok : goal.returns-in-Ok
