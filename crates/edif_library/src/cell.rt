@@ -37,7 +37,7 @@ pub(crate) fn read_cell<S: Source>(
 
 /// Reads a `cellType`.
 #[tactic(auto, using(readers::proofs::Reading::sequences), unfolding(crate::specs::Grammar::cell_type))]
-fn cell_type<S: Source>(
+pub fn cell_type<S: Source>(
     alloc: Global,
     cursor: &mut Cursor,
     source: &mut S,
@@ -113,7 +113,7 @@ fn cell_item<S: Source>(
 
 /// The keywords that may stand in a cell, which has a view already or not.
 #[tactic(auto, unfolding(crate::specs::Grammar::cell_keywords))]
-fn cell_keywords(viewed: bool) -> &'static [Keyword]
+pub fn cell_keywords(viewed: bool) -> &'static [Keyword]
     ensures { result.now ≡ cell_keywords viewed }
 {
     if viewed {
@@ -134,7 +134,7 @@ fn cell_keywords(viewed: bool) -> &'static [Keyword]
 }
 
 /// Reads on after the keyword of a part of a cell.
-fn cell_form<S: Source>(
+pub fn cell_form<S: Source>(
     alloc: Global,
     cursor: &mut Cursor,
     keyword: Keyword,

@@ -48,7 +48,7 @@ fn without_spare_room(items: Seq<ContentsItem>) -> Seq<ContentsItem>
 
 /// Reads a part of contents, from its `(` on.
 #[tactic(auto, using(readers::proofs::Reading::sequences))]
-fn contents_item<S: Source>(
+pub fn contents_item<S: Source>(
     alloc: Global,
     cursor: &mut Cursor,
     source: &mut S,

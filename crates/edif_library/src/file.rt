@@ -126,7 +126,7 @@ fn file_item<S: Source>(
 }
 
 /// Reads on after the keyword of a part of a file.
-fn file_form<S: Source>(
+pub fn file_form<S: Source>(
     alloc: Global,
     cursor: &mut Cursor,
     keyword: Keyword,

@@ -18,7 +18,7 @@ use nl_io::Source;
 use std::alloc::Global;
 
 /// Reads an interface, from its `(` on (EDIF 2 0 0, interface).
-pub(crate) fn read_interface<S: Source>(
+pub fn read_interface<S: Source>(
     alloc: Global,
     cursor: &mut Cursor,
     source: &mut S,

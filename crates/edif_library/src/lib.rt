@@ -8,20 +8,29 @@
 // bytes, a file that is answered can be written and has at most 268,435,456 items in all its lists: each reader of a part says that its value
 // can be written, and that the items in all its lists are fewer than the tokens that it took. The types and `edif_size` are those of
 // `edif_values`.
+//
+// The readers of parts are for a text of which no file is kept: each reads as its production in `specs/Grammar.antt` says, and answers an error
+// only where the tokens so far have it, or where the source fails or memory runs out; the cursor is spent then.
 #![tactic(auto)]
 
 pub mod cell;
-mod contents;
+pub mod contents;
 mod design;
 pub mod file;
-mod interface;
+pub mod interface;
 pub mod laws;
 pub mod library;
-mod technology;
+pub mod technology;
 pub mod view;
 
+pub use cell::{cell_form, cell_keywords, cell_type};
+pub use contents::contents_item;
 pub use edif_values::{
     Cell, CellItem, CellKind, ContentsItem, Design, DesignItem, EdifFile, FileItem, InterfaceItem,
     Library, LibraryItem, Scale, View, ViewItem, edif_size,
 };
-pub use file::read_edif;
+pub use file::{file_form, read_edif};
+pub use interface::read_interface;
+pub use library::library_form;
+pub use technology::read_technology;
+pub use view::{netlist, view_form, view_keywords};

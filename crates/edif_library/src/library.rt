@@ -89,7 +89,7 @@ fn library_item<S: Source>(
 }
 
 /// Reads on after the keyword of a part of a library.
-fn library_form<S: Source>(
+pub fn library_form<S: Source>(
     alloc: Global,
     cursor: &mut Cursor,
     keyword: Keyword,

@@ -19,7 +19,7 @@ use nl_io::Source;
 use std::alloc::Global;
 
 /// Reads a `technology`, from its `(` on: its scales and its notes.
-pub(crate) fn read_technology<S: Source>(
+pub fn read_technology<S: Source>(
     alloc: Global,
     cursor: &mut Cursor,
     source: &mut S,

@@ -43,7 +43,11 @@ pub(crate) fn read_view<S: Source>(
 
 /// Reads `viewType`, which is NETLIST.
 #[tactic(auto, using(readers::proofs::Reading::sequences), unfolding(crate::specs::Grammar::netlist))]
-fn netlist<S: Source>(alloc: Global, cursor: &mut Cursor, source: &mut S) -> Result<(), ReadError>
+pub fn netlist<S: Source>(
+    alloc: Global,
+    cursor: &mut Cursor,
+    source: &mut S,
+) -> Result<(), ReadError>
     ensures { Reads edif same netlist result cursor.old cursor.new
         (S.supply source.old) (S.supply source.new) }
 {
@@ -106,7 +110,7 @@ fn view_item<S: Source>(
 
 /// The keywords that may stand in a view, which has contents already or not.
 #[tactic(auto, unfolding(crate::specs::Grammar::view_keywords))]
-fn view_keywords(filled: bool) -> &'static [Keyword]
+pub fn view_keywords(filled: bool) -> &'static [Keyword]
     ensures { result.now ≡ view_keywords filled }
 {
     if filled {
@@ -128,7 +132,7 @@ fn view_keywords(filled: bool) -> &'static [Keyword]
 
 /// Reads on after the keyword of a part of a view.
 #[tactic(auto, using(readers::proofs::Reading::sequences))]
-fn view_form<S: Source>(
+pub fn view_form<S: Source>(
     alloc: Global,
     cursor: &mut Cursor,
     keyword: Keyword,

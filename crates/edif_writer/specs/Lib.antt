@@ -1,3 +1,4 @@
 pub mod Strings
 pub mod Layout
 pub mod Forms
+pub mod Starts

@@ -1,5 +1,6 @@
 ghost use Rattle.edif_writer.specs.Forms.{cell_block, cell_item_block, contents_item_block, interface_item_block, kind_form, view_block, view_item_block, with_part};
 ghost use Rattle.edif_writer.specs.Layout.{Deep, Flat, all, laid, none};
+ghost use Rattle.edif_writer.specs.Starts.{cell_start, contents_start, view_start};
 ghost use Rattle.edif_values.specs.declared.keyword.Keyword.TheVariants as k;
 ghost use Rattle.std.specs.Prelude.{◌≤◌, ◌+◌};
 ghost use Rattle.nl_output.specs.Writing.{state, Puts};
@@ -41,6 +42,15 @@ impl OnLines for ContentsItem {
     }
 }
 
+/// The first line of the contents of a view.
+pub fn lay_contents_start<O: Sink>(indent: usize, output: &mut Output, sink: &mut O)
+    requires { indent ≤ 16 }
+    ensures { Puts (contents_start indent)
+        (state O.receipt sink.old output.old) (state O.receipt sink.new output.new) }
+{
+    put_line(indent, b"(contents\n", output, sink);
+}
+
 /// The contents of a view.
 fn lay_contents<O: Sink>(
     items: &Seq<ContentsItem>,
@@ -52,7 +62,7 @@ fn lay_contents<O: Sink>(
     ensures { Puts (laid indent (Deep k.Contents none (all contents_item_block items.now)))
         (state O.receipt sink.old output.old) (state O.receipt sink.new output.new) }
 {
-    put_line(indent, b"(contents\n", output, sink);
+    lay_contents_start(indent, output, sink);
     lay_each(items.items(), indent + 2, output, sink);
     put_close(indent, output, sink);
 }
@@ -88,15 +98,24 @@ impl OnLines for ViewItem {
     }
 }
 
+/// The lines of a view up to the parts behind its interface.
+pub fn lay_view_start<O: Sink>(view: &View, indent: usize, output: &mut Output, sink: &mut O)
+    requires { indent + 4 ≤ 16 }
+    ensures { Puts (view_start indent view.now)
+        (state O.receipt sink.old output.old) (state O.receipt sink.new output.new) }
+{
+    open_block(indent, b"(view ", &view.name, output, sink);
+    put_line(indent + 2, b"(viewType NETLIST)\n", output, sink);
+    lay_interface(&view.interface, indent + 2, output, sink);
+}
+
 impl OnLines for View {
     ghost block = { view_block };
 
     ghost depth = { 8 };
 
     fn lay<O: Sink>(&self, indent: usize, output: &mut Output, sink: &mut O) {
-        open_block(indent, b"(view ", &self.name, output, sink);
-        put_line(indent + 2, b"(viewType NETLIST)\n", output, sink);
-        lay_interface(&self.interface, indent + 2, output, sink);
+        lay_view_start(self, indent, output, sink);
         lay_each(self.items.items(), indent + 2, output, sink);
         put_close(indent, output, sink);
     }
@@ -130,14 +149,23 @@ fn lay_kind<O: Sink>(kind: CellKind, indent: usize, output: &mut Output, sink: &
     }
 }
 
+/// The lines of a cell up to the parts behind its type.
+pub fn lay_cell_start<O: Sink>(cell: &Cell, indent: usize, output: &mut Output, sink: &mut O)
+    requires { indent + 2 ≤ 16 }
+    ensures { Puts (cell_start indent cell.now)
+        (state O.receipt sink.old output.old) (state O.receipt sink.new output.new) }
+{
+    open_block(indent, b"(cell ", &cell.name, output, sink);
+    lay_kind(cell.kind, indent + 2, output, sink);
+}
+
 impl OnLines for Cell {
     ghost block = { cell_block };
 
     ghost depth = { 10 };
 
     fn lay<O: Sink>(&self, indent: usize, output: &mut Output, sink: &mut O) {
-        open_block(indent, b"(cell ", &self.name, output, sink);
-        lay_kind(self.kind, indent + 2, output, sink);
+        lay_cell_start(self, indent, output, sink);
         lay_each(self.items.items(), indent + 2, output, sink);
         put_close(indent, output, sink);
     }

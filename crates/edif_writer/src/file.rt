@@ -1,6 +1,7 @@
 ghost use Rattle.edif_values.specs.Keywords.{spelling};
 ghost use Rattle.edif_writer.specs.Forms.{library_keyword, name_form, design_form, design_item_form, edif_text, file_block, file_item_block, level_form, library_block, library_item_block, map_form, scale_form, technology_form, version_form};
 ghost use Rattle.edif_writer.specs.Layout.{Flat, blanks, inline, laid};
+ghost use Rattle.edif_writer.specs.Starts.{file_start, library_start};
 ghost use Rattle.std.specs.Prelude.{◌≤◌, ◌+◌, ◌++◌, ◌∷◌};
 ghost use Rattle.nl_output.specs.Writing.{state, Puts, Writes};
 
@@ -77,15 +78,29 @@ fn open_library<O: Sink>(library: &Library, indent: usize, output: &mut Output, 
     open_block(indent, b"(library ", &library.name, output, sink);
 }
 
+/// The lines of a library up to its parts.
+pub fn lay_library_start<O: Sink>(
+    library: &Library,
+    indent: usize,
+    output: &mut Output,
+    sink: &mut O,
+)
+    requires { indent + 2 ≤ 16 }
+    ensures { Puts (library_start indent library.now)
+        (state O.receipt sink.old output.old) (state O.receipt sink.new output.new) }
+{
+    open_library(library, indent, output, sink);
+    lay_level(indent + 2, output, sink);
+    lay_technology(library, indent + 2, output, sink);
+}
+
 impl OnLines for Library {
     ghost block = { library_block };
 
     ghost depth = { 12 };
 
     fn lay<O: Sink>(&self, indent: usize, output: &mut Output, sink: &mut O) {
-        open_library(self, indent, output, sink);
-        lay_level(indent + 2, output, sink);
-        lay_technology(self, indent + 2, output, sink);
+        lay_library_start(self, indent, output, sink);
         lay_each(self.items.items(), indent + 2, output, sink);
         put_close(indent, output, sink);
     }
@@ -146,14 +161,23 @@ fn lay_header<O: Sink>(indent: usize, output: &mut Output, sink: &mut O)
     put_line(indent, b"(keywordMap (keywordLevel 0))\n", output, sink);
 }
 
+/// The lines of a file up to its parts.
+pub fn lay_file_start<O: Sink>(file: &EdifFile, indent: usize, output: &mut Output, sink: &mut O)
+    requires { indent + 2 ≤ 16 }
+    ensures { Puts (file_start indent file.now)
+        (state O.receipt sink.old output.old) (state O.receipt sink.new output.new) }
+{
+    open_block(indent, b"(edif ", &file.name, output, sink);
+    lay_header(indent + 2, output, sink);
+}
+
 impl OnLines for EdifFile {
     ghost block = { file_block };
 
     ghost depth = { 14 };
 
     fn lay<O: Sink>(&self, indent: usize, output: &mut Output, sink: &mut O) {
-        open_block(indent, b"(edif ", &self.name, output, sink);
-        lay_header(indent + 2, output, sink);
+        lay_file_start(self, indent, output, sink);
         lay_each(self.items.items(), indent + 2, output, sink);
         put_close(indent, output, sink);
     }

@@ -64,7 +64,7 @@ pub(crate) fn put_indent<O: Sink>(indent: usize, output: &mut Output, sink: &mut
 
 /// The line that ends a block.
 #[inline(always)]
-pub(crate) fn put_close<O: Sink>(indent: usize, output: &mut Output, sink: &mut O)
+pub fn put_close<O: Sink>(indent: usize, output: &mut Output, sink: &mut O)
     requires { indent ≤ 16 }
     ensures { Puts (λ rest. blanks indent ++ (codes ")\n" ++ rest))
         (state O.receipt sink.old output.old) (state O.receipt sink.new output.new) }

@@ -6,8 +6,11 @@
 // design's line. A string has the bytes 32 to 126 other than `"` and `%` as themselves, and each longest run of other bytes is one escape.
 // A number is decimal; a scaled number is its mantissa where the exponent is 0, else `(e M E)`. No aliases are written.
 //
-// It answers `Ok` exactly where the sink took the whole text; else a put of the sink failed, and the sink took a front of the text. It takes no
-// memory.
+// A block may also be put part by part: `lay_file_start`, `lay_library_start`, `lay_cell_start`, `lay_view_start` and `lay_contents_start` put its
+// lines up to its parts, `lay` each part, and `put_close` its last line.
+//
+// `write_edif` answers `Ok` exactly where the sink took the whole text; else a put of the sink failed, and the sink took a front of the text. It
+// takes no memory.
 #![tactic(auto)]
 
 pub mod cell;
@@ -20,4 +23,6 @@ pub mod status;
 pub mod string;
 pub mod value;
 
-pub use file::write_edif;
+pub use cell::{lay_cell_start, lay_contents_start, lay_view_start};
+pub use file::{lay_file_start, lay_library_start, write_edif};
+pub use forms::{OnLines, put_close};

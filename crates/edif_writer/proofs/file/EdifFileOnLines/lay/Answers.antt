@@ -3,4 +3,4 @@ use Rattle.edif_writer.proofs.file.EdifFileOnLines.lay.Goals as goal
 pub returns : goal.returns
 returns g c b rest s =
     let items = rw c.items.ensures at c.lay_each.ensures in
-    c.put_close.ensures b rest (items b _ (c.lay_header.ensures b _ (c.open_block.ensures b _ s)))
+    c.put_close.ensures b rest (items b _ (c.lay_file_start.ensures b _ s))
