@@ -3,14 +3,12 @@ ghost use Rattle.netlist_cli.specs.Meanings.{meaning_of};
 ghost use Rattle.netlist_cli.specs.Runs.{Does, TakesFrom};
 
 use crate::failure::{Failure, after_writing};
-use edif_library::read_edif;
-use edif_writer::write_edif;
+use edif_format::format_edif;
 use nl_io::{Sink, Source, put_all};
 use std::alloc::Global;
-use std::mem::forget;
 use vlog_format::format_vlog;
 
-/// Reads an EDIF file and writes its text.
+/// Reads an EDIF file and writes its text, which is made as its parts are read, so that no more than one of them is kept.
 pub fn format<S: Source, O: Sink>(
     alloc: Global,
     input: &mut S,
@@ -22,10 +20,9 @@ pub fn format<S: Source, O: Sink>(
     ensures taken { TakesFrom
         (S.supply input.old) (S.supply input.new) }
 {
-    match read_edif(alloc, input) {
-        Ok(file) => {
-            let written = write_edif(&file, output);
-            forget(file);
+    match format_edif(alloc, input) {
+        Ok(text) => {
+            let written = put_all(output, text.as_slice());
             after_writing(written)
         }
         Err(error) => Err(Failure::of_read_error(error)),

@@ -8,15 +8,15 @@ returns-in-Ok g c =
     let put = c.put_all-written.ensures in
     let writes = put_writes g.O.Sink.receipt c.args.output.now c.put_all-written.new.sink c.in-Ok.text.items c.put_all-written.result (rw c.as_slice.ensures.value at put.all) (rw c.as_slice.ensures.value at put.front) put.cause (rw c.as_slice.ensures.value at put.accepted) in
     record {
-      does = rw c.after_writing.ensures (formatted_is_put g.O.Sink.receipt _ _ c.args.output.now c.put_all-written.new.sink c.in-Ok.text c.put_all-written.result formats writes);
-      taken = format_takes _ _ c.format_vlog.result c.format_vlog.ensures;
+      does = rw c.after_writing.ensures (formatted_is_put _ _ _ _ _ g.O.Sink.receipt _ _ c.args.output.now c.put_all-written.new.sink c.in-Ok.text c.put_all-written.result formats writes);
+      taken = format_takes _ _ _ _ _ _ _ c.format_vlog.result c.format_vlog.ensures;
     }
 
 pub of_read_error-requires : goal.of_read_error-requires
-of_read_error-requires g c = format_unspent c.in-Err.error _ _ (rw c.in-Err.is at c.format_vlog.ensures)
+of_read_error-requires g c = format_unspent _ _ _ _ _ c.in-Err.error _ _ (rw c.in-Err.is at c.format_vlog.ensures)
 
 pub returns-in-Err : goal.returns-in-Err
 returns-in-Err g c = record {
-  does = rw c.of_read_error.ensures (unformatted_is_told g.O.Sink.receipt _ _ c.args.output.now c.args.output.now c.in-Err.error (rw c.in-Err.is at c.format_vlog.ensures) refl);
-  taken = format_takes _ _ c.format_vlog.result c.format_vlog.ensures;
+  does = rw c.of_read_error.ensures (unformatted_is_told _ _ _ _ _ g.O.Sink.receipt _ _ c.args.output.now c.args.output.now c.in-Err.error (rw c.in-Err.is at c.format_vlog.ensures) refl);
+  taken = format_takes _ _ _ _ _ _ _ c.format_vlog.result c.format_vlog.ensures;
 }

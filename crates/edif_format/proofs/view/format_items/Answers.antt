@@ -1,0 +1,47 @@
+use Rattle.std.proofs.Common.{◌≡◌, ◌∙◌, ◌||◌, ap, sym, [], ◌∷◌, ◌++◌}
+use Rattle.std.proofs.lemmas.Result.{err_from_is_err_and}
+use Rattle.edif_library.specs.Grammar.{view_rest, has_contents}
+use Rattle.edif_writer.specs.Forms.{view_item_block}
+use Rattle.edif_format.proofs.Steps.{then_put}
+use Rattle.edif_format.proofs.Rounds.{goes_first, look_failed, ended, keyword_unread, item_failed, turn, smaller}
+use Rattle.edif_library.proofs.Once.{filled_more, none_filled}
+use Rattle.edif_values.specs.Keywords.{same_keyword}
+use Rattle.edif_values.specs.Values.{is_contents}
+use Rattle.edif_values.specs.declared.keyword.Keyword.TheVariants as k
+use Rattle.edif_format.proofs.view.format_items.Goals as goal
+
+pub loop-cursor-init : goal.loop-cursor-init
+unfolding view_rest
+loop-cursor-init g c = ([], sym none_filled, (λ b rest s. s), goes_first _ _)
+
+pub returns-in_err-at_form : goal.returns-in_err-at_form
+unfolding view_rest
+returns-in_err-at_form g c =
+    let p = err_from_is_err_and c.from_residual.result c.from_residual.ensures.1 in
+    rw (p.1, p.2) (look_failed _ _ 8 view_item_block c.loop-cursor.invariant.0 c.loop-cursor.invariant.3 c.in_err-at_form.ensures.looks)
+
+pub returns-in_err-keyword : goal.returns-in_err-keyword
+unfolding view_rest
+returns-in_err-keyword g c =
+    let p = err_from_is_err_and c.from_residual-in_err-keyword.result c.from_residual-in_err-keyword.ensures.1 in
+    rw (p.1, p.2) (keyword_unread _ _ 8 view_item_block c.loop-cursor.invariant.0 c.loop-cursor.invariant.3 (rw c.if-branch.true at c.in_ok-at_form.ensures.looks) (rw (c.view_keywords.ensures, c.loop-cursor.invariant.1) at c.in_err-keyword.ensures.reads))
+
+pub returns-in_err-format_form : goal.returns-in_err-format_form
+unfolding view_rest
+returns-in_err-format_form g c =
+    let p = err_from_is_err_and c.from_residual-in_err-format_form.result c.from_residual-in_err-format_form.ensures.1 in
+    rw (p.1, p.2) (item_failed _ _ 8 view_item_block c.loop-cursor.invariant.0 c.loop-cursor.invariant.3 (λ i. is_contents i ≡ same_keyword c.in_ok-keyword.keyword k.Contents) (rw c.if-branch.true at c.in_ok-at_form.ensures.looks) (then_put (λ i. is_contents i ≡ same_keyword c.in_ok-keyword.keyword k.Contents) _ _ _ (rw (c.view_keywords.ensures, c.loop-cursor.invariant.1) at c.in_ok-keyword.ensures.reads) c.in_err-format_form.ensures))
+
+pub loop-cursor-smaller : goal.loop-cursor-smaller
+unfolding view_rest
+loop-cursor-smaller g c = smaller _ _ 8 view_item_block c.loop-cursor.invariant.0 c.loop-cursor.invariant.3 (λ i. is_contents i ≡ same_keyword c.in_ok-keyword.keyword k.Contents) (rw c.if-branch.true at c.in_ok-at_form.ensures.looks) (then_put (λ i. is_contents i ≡ same_keyword c.in_ok-keyword.keyword k.Contents) _ _ _ (rw (c.view_keywords.ensures, c.loop-cursor.invariant.1) at c.in_ok-keyword.ensures.reads) c.in_ok-format_form.ensures)
+
+pub loop-cursor-preserved : goal.loop-cursor-preserved
+unfolding view_rest
+loop-cursor-preserved g c =
+    let next = turn _ _ 8 view_item_block c.loop-cursor.invariant.0 c.loop-cursor.invariant.3 (λ i. is_contents i ≡ same_keyword c.in_ok-keyword.keyword k.Contents) (rw c.if-branch.true at c.in_ok-at_form.ensures.looks) _ _ _ c.loop-cursor.invariant.2 (then_put (λ i. is_contents i ≡ same_keyword c.in_ok-keyword.keyword k.Contents) _ _ _ (rw (c.view_keywords.ensures, c.loop-cursor.invariant.1) at c.in_ok-keyword.ensures.reads) c.in_ok-format_form.ensures) in
+    (c.loop-cursor.invariant.0 ++ next.0 ∷ [], c.is_filled-filled.ensures ∙ (ap (λ b. b || same_keyword c.in_ok-keyword.keyword k.Contents) c.loop-cursor.invariant.1 ∙ (ap (λ b. has_contents c.loop-cursor.invariant.0 || b) (sym next.1) ∙ sym (filled_more c.loop-cursor.invariant.0 next.0))), next.2, next.3)
+
+pub returns : goal.returns
+unfolding view_rest
+returns g c = ended _ _ 8 view_item_block c.loop-cursor.invariant.0 c.loop-cursor.invariant.3 (rw c.if-branch.false at c.in_ok-at_form.ensures.looks) c.loop-cursor.invariant.2 c.finish_form.ensures

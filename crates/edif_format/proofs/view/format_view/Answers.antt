@@ -1,0 +1,34 @@
+use Rattle.std.proofs.lemmas.Result.{err_from_is_err_and}
+use Rattle.edif_library.specs.Grammar.{view}
+use Rattle.edif_format.specs.Parts.{Any}
+use Rattle.edif_format.proofs.Steps.{then_put, not_read, last_put, last_failed}
+use Rattle.edif_format.proofs.view.format_view.Goals as goal
+
+pub returns-in_err-name : goal.returns-in_err-name
+unfolding view
+returns-in_err-name g c =
+    let p = err_from_is_err_and c.from_residual.result c.from_residual.ensures.1 in
+    rw (p.1, p.2) (not_read Any _ _ _ c.in_err-name.ensures.reads)
+
+pub returns-in_err-netlist : goal.returns-in_err-netlist
+unfolding view
+returns-in_err-netlist g c =
+    let p = err_from_is_err_and c.from_residual-in_err-netlist.result c.from_residual-in_err-netlist.ensures.1 in
+    rw (p.1, p.2) (then_put Any _ _ _ c.in_ok-name.ensures.reads (not_read Any _ _ _ c.in_err-netlist.ensures))
+
+pub returns-in_err-interface : goal.returns-in_err-interface
+unfolding view
+returns-in_err-interface g c =
+    let p = err_from_is_err_and c.from_residual-in_err-interface.result c.from_residual-in_err-interface.ensures.1 in
+    rw (p.1, p.2) (then_put Any _ _ _ c.in_ok-name.ensures.reads (then_put Any _ _ _ c.in_ok-netlist.ensures (not_read Any _ _ _ c.in_err-interface.ensures.reads)))
+
+pub returns-in_err-format_items : goal.returns-in_err-format_items
+unfolding view
+returns-in_err-format_items g c =
+    let p = err_from_is_err_and c.from_residual-in_err-format_items.result c.from_residual-in_err-format_items.ensures.1 in
+    rw (p.1, p.2) (then_put Any _ _ _ c.in_ok-name.ensures.reads (then_put Any _ _ _ c.in_ok-netlist.ensures (then_put Any _ _ _ c.in_ok-interface.ensures.reads (last_failed Any Any _ _ _ _ c.in_err-format_items.ensures))))
+
+pub returns : goal.returns
+unfolding view
+returns g c =
+    then_put Any _ _ _ c.in_ok-name.ensures.reads (then_put Any _ _ _ c.in_ok-netlist.ensures (then_put Any _ _ _ c.in_ok-interface.ensures.reads (last_put Any Any _ _ _ _ c.in_ok-format_items.ensures (λ _ _. tt) (λ _ lines b rest s. c.put_close.ensures b rest (lines b _ (c.put_start.ensures b _ s))))))
