@@ -5,5 +5,6 @@ pub mod ScopeLaws
 pub mod NetTurns
 pub mod SizeLaws
 pub mod TableTurns
+pub mod FirstIdents
 pub mod WalkLaws
 pub mod InstanceLaws

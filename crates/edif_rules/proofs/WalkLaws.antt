@@ -1,10 +1,10 @@
 -- The walk of a cell's contents.
-use Rattle.std.proofs.Common.{◌≡◌, ℕ, ◌+◌, ◌<◌, Bool, true, false, ◌||◌, List, [], ◌∷◌, ◌++◌, map, length, take, get_or, Option, Some, None, option_map, refl, sym, ap, ◌∙◌, subst}
-use Rattle.std.specs.Prelude.{codes, slice_get, option_to_list}
+use Rattle.std.proofs.Common.{◌≡◌, ℕ, zero-add, ◌+◌, ◌<◌, Bool, true, false, ◌||◌, List, [], ◌∷◌, ◌++◌, map, length, drop, take, get_or, Option, Some, None, option_map, refl, sym, ap, ◌∙◌}
+use Rattle.std.specs.Prelude.{codes, slice_get}
 use Rattle.std.specs.List.{filter_map, flat_map, list_any}
 use Rattle.std.specs.Option.{option_and_then}
 use Rattle.std.specs.Borrow.{Bor}
-use Rattle.std.proofs.lemmas.List.{append-nil, map-append, take_more}
+use Rattle.std.proofs.lemmas.List.{append-nil, length-append, map-append, take-append-drop, take_more}
 use Rattle.std.proofs.lemmas.List.Elements.{filter_map-append}
 use Rattle.std.proofs.lemmas.List.Folds.{list_any-append}
 use Rattle.std.proofs.lemmas.Option.{slice_get-map}
@@ -13,6 +13,7 @@ use Rattle.nl_base.specs.Case.{same_bytes}
 use Rattle.nl_base.specs.declared.rule.Refusal.{Refusal}
 use Rattle.nl_base.specs.declared.rule.Rule.TheVariants.{E5, E11}
 use Rattle.edif_lookup.specs.Refusals.{broken, if_some, is_in, lower, lowest}
+use Rattle.edif_lookup.proofs.ListLaws.{drop_more}
 use Rattle.edif_lookup.proofs.NameLaws.{or_comm}
 use Rattle.edif_lookup.proofs.Orders.{lowest-append}
 use Rattle.edif_values.specs.Names.{original, port_original}
@@ -26,19 +27,20 @@ use Rattle.edif_values.specs.declared.cell.Cell.{Cell}
 use Rattle.edif_values.specs.declared.file.EdifFile.{EdifFile}
 use Rattle.edif_values.specs.declared.view.ContentsItem.{ContentsItem}
 use Rattle.edif_values.specs.declared.view.ContentsItem.TheVariants as contents_items
-use Rattle.edif_design.specs.CellRules.{bit_meant, bit_of, bits_of_nets, contents_refusals, index_names, member_refusals, net_refusals, port_name, ref_refusals, same_node, size_of}
-use Rattle.edif_design.specs.Parts.{instance_in, instances, net_in, ports}
+use Rattle.edif_design.specs.CellRules.{bit_meant, bit_of, bits_of_nets, contents_refusals, index_names, member_refusals, port_name, same_node, size_of}
+use Rattle.edif_design.specs.Parts.{cell_contents, instance_in, instances, net_in, ports}
 use Rattle.edif_design.specs.References.{LinkedCell, linked_by, linked_cell, place_in, with_number}
 use Rattle.edif_rules.specs.RefRefusals.{found_refusals, names_of, port_refusals_at, ref_refusals_by, ref_node}
 use Rattle.edif_rules.specs.Idents.{instance_ident}
-use Rattle.edif_rules.specs.Scopes.{IsScope, ScopeLists, found_of, inner_ports, port_at}
+use Rattle.edif_rules.specs.Scopes.{IsScope, ScopeLists, found_of, port_at}
 use Rattle.edif_rules.specs.Spots.{node_of_bit}
-use Rattle.edif_rules.specs.Walks.{AddsBits, AddsName, HasMet, instance_refusals_by, instance_original, net_refusals_by, net_ident}
+use Rattle.edif_rules.specs.Walks.{AddsBits, AddsName, HasMet, has_ident_before, instance_refusals_by, instance_original, is_name_taken, is_renamed, net_refusals_by, net_ident}
 use Rattle.edif_rules.specs.declared.found.Target.{Target}
 use Rattle.edif_rules.specs.declared.found.Target.TheVariants as founds
 use Rattle.edif_rules.specs.declared.walk.Met.{Met}
 use Rattle.edif_rules.proofs.ScopeLaws.{refusals_alike, node_alike}
 use Rattle.edif_rules.specs.Lists.{seen}
+use Rattle.edif_rules.proofs.FirstIdents.{other_where_before, plain_names}
 use Rattle.edif_rules.proofs.TableTurns.{seen_at, seen_within}
 use Rattle.edif_rules.proofs.Turns.{filter_grows, flat_grows}
 
@@ -76,26 +78,29 @@ same_met : {A : Type 0} (f : A → List ℕ) (xs : List A) (old new : List (List
 same_met f xs old new same holds name = ap (is_in name) same ∙ (holds name ∙ ap (λ ys. is_in name (map f ys)) (sym (append-nil xs)))
 
 module _ (linked : LinkedCell) (before : List ContentsItem) (old new : Met) (met : HasMet linked before old) where
-  pub instance_met : (instance : Instance) → AddsName old.instances (instance_ident instance) new.instances → AddsName old.originals (instance_original instance) new.originals → new.nets ≡ old.nets → new.taken ≡ old.taken
+  pub instance_met : (instance : Instance) → new.instances ≡ old.instances + 1 → new.renamed ≡ old.renamed → (old.renamed ≡ true → AddsName old.originals (instance_original instance) new.originals) → new.nets ≡ old.nets → new.taken ≡ old.taken
       → HasMet linked (before ++ contents_items.Instance instance ∷ []) new
-  instance_met instance idents originals nets taken =
+  instance_met instance number renamed originals nets taken =
       let us = filter_grows instance_in before (contents_items.Instance instance) in
       let ns = filter_grows net_in before (contents_items.Instance instance) in
       record {
-        instances_met = λ name. name_met instance_ident (filter_map instance_in before) instance old.instances new.instances met.instances_met idents name ∙ ap (λ xs. is_in name (map instance_ident xs)) (sym us);
-        originals_met = λ name. name_met instance_original (filter_map instance_in before) instance old.originals new.originals met.originals_met originals name ∙ ap (λ xs. is_in name (map instance_original xs)) (sym us);
+        instances_met = number ∙ (ap (λ n. n + 1) met.instances_met ∙ (sym (length-append (filter_map instance_in before) (instance ∷ [])) ∙ ap length (sym us)));
+        renamed_is = renamed ∙ met.renamed_is;
+        originals_met = λ is name. name_met instance_original (filter_map instance_in before) instance old.originals new.originals (met.originals_met (sym renamed ∙ is)) (originals (sym renamed ∙ is)) name ∙ ap (λ xs. is_in name (map instance_original xs)) (sym us);
         nets_met = λ name. same_met net_ident (filter_map net_in before) old.nets new.nets nets met.nets_met name ∙ ap (λ xs. is_in name (map net_ident xs)) (sym ns);
         bits_met = λ node. ap (list_any (same_node node)) taken ∙ (met.bits_met node ∙ ap (λ xs. list_any (same_node node) (bits_of_nets linked xs)) (sym (append-nil (filter_map net_in before)) ∙ sym ns));
       }
 
-  pub net_met : (lists : ScopeLists) → IsScope linked lists → (net : Net) → AddsName old.nets (net_ident net) new.nets → AddsBits old.taken (filter_map (ref_node lists) net.joined) new.taken → new.instances ≡ old.instances → new.originals ≡ old.originals
+  pub net_met : (lists : ScopeLists) → IsScope linked lists → (net : Net) → AddsName old.nets (net_ident net) new.nets → AddsBits old.taken (filter_map (ref_node lists) net.joined) new.taken → new.instances ≡ old.instances → new.renamed ≡ old.renamed → new.originals ≡ old.originals
       → HasMet linked (before ++ contents_items.Net net ∷ []) new
-  net_met lists is net idents bits us originals =
+  net_met lists is net idents bits us renamed originals =
       let instances_kept = filter_grows instance_in before (contents_items.Net net) in
       let nets_more = filter_grows net_in before (contents_items.Net net) in
       record {
-        instances_met = λ name. same_met instance_ident (filter_map instance_in before) old.instances new.instances us met.instances_met name ∙ ap (λ xs. is_in name (map instance_ident xs)) (sym instances_kept);
-        originals_met = λ name. same_met instance_original (filter_map instance_in before) old.originals new.originals originals met.originals_met name ∙ ap (λ xs. is_in name (map instance_original xs)) (sym instances_kept);
+        instances_met = us ∙ (met.instances_met ∙ ap length (sym (append-nil (filter_map instance_in before)) ∙ sym instances_kept));
+        renamed_is = renamed ∙ met.renamed_is;
+        originals_met = λ is name.
+            same_met instance_original (filter_map instance_in before) old.originals new.originals originals (met.originals_met (sym renamed ∙ is)) name ∙ ap (λ xs. is_in name (map instance_original xs)) (sym instances_kept);
         nets_met = λ name. name_met net_ident (filter_map net_in before) net old.nets new.nets met.nets_met idents name ∙ ap (λ xs. is_in name (map net_ident xs)) (sym nets_more);
         bits_met = λ node. bits node ∙ (more node ∙ ap (λ xs. list_any (same_node node) (bits_of_nets linked xs)) (sym nets_more));
       }
@@ -112,8 +117,9 @@ module _ (linked : LinkedCell) (before : List ContentsItem) (old new : Met) (met
       let us = filter_grows instance_in before (contents_items.Note note) in
       let ns = filter_grows net_in before (contents_items.Note note) in
       record {
-        instances_met = λ name. same_met instance_ident (filter_map instance_in before) old.instances old.instances refl met.instances_met name ∙ ap (λ xs. is_in name (map instance_ident xs)) (sym us);
-        originals_met = λ name. same_met instance_original (filter_map instance_in before) old.originals old.originals refl met.originals_met name ∙ ap (λ xs. is_in name (map instance_original xs)) (sym us);
+        instances_met = met.instances_met ∙ ap length (sym (append-nil (filter_map instance_in before)) ∙ sym us);
+        renamed_is = met.renamed_is;
+        originals_met = λ is name. same_met instance_original (filter_map instance_in before) old.originals old.originals refl (met.originals_met is) name ∙ ap (λ xs. is_in name (map instance_original xs)) (sym us);
         nets_met = λ name. same_met net_ident (filter_map net_in before) old.nets old.nets refl met.nets_met name ∙ ap (λ xs. is_in name (map net_ident xs)) (sym ns);
         bits_met = λ node. met.bits_met node ∙ ap (λ xs. list_any (same_node node) (bits_of_nets linked xs)) (sym (append-nil (filter_map net_in before)) ∙ sym ns);
       }
@@ -137,9 +143,30 @@ module _ (lists : ScopeLists) (cell net : List ℕ) (taken bits : List Node) (sa
   taken_alike founds.SeveralPorts = refl
 
 module _ (file : EdifFile) (home : ℕ) (cell : Cell) (before : List ContentsItem) (old : Met) (met : HasMet (linked_cell file (place_in home cell)) before old) where
-  pub instance_refused : (instance : Instance) → lowest (instance_refusals_by file home (original cell.name) (is_in (instance_ident instance) old.instances) (is_in (instance_original instance) old.originals) instance)
+  pub instance_refused : (lists : ScopeLists) → IsScope (linked_cell file (place_in home cell)) lists → (instance : Instance) (after : List ContentsItem) → before ++ contents_items.Instance instance ∷ after ≡ cell_contents cell
+      → lowest (instance_refusals_by file home (original cell.name) (has_ident_before lists.instances old.instances instance) (is_name_taken (has_ident_before lists.instances old.instances instance) old.renamed old.originals instance) instance)
       ≡ lowest (contents_refusals file (place_in home cell) before (contents_items.Instance instance))
-  instance_refused instance = λ j. lowest (instance_refusals_by file home (original cell.name) (met.instances_met (instance_ident instance) j) (met.originals_met (instance_original instance) j) instance)
+  instance_refused lists is instance after whole =
+      λ j. lowest (instance_refusals_by file home (original cell.name) (ident_known j) (name_known old.renamed refl j) instance)
+    where
+      earlier : List Instance
+      earlier = filter_map instance_in before
+
+      later : List Instance
+      later = filter_map instance_in after
+
+      all : instances cell ≡ earlier ++ instance ∷ later
+      all = ap (filter_map instance_in) (sym whole) ∙ filter_map-append instance_in before (contents_items.Instance instance ∷ after)
+
+      ident_known : has_ident_before lists.instances old.instances instance ≡ is_in (instance_ident instance) (map instance_ident earlier)
+      ident_known =
+          let number : old.instances ≡ 0 + length earlier = met.instances_met ∙ sym (zero-add (length earlier)) in
+          (λ j. has_ident_before ((is.instances_are ∙ all) j) (number j) instance) ∙ other_where_before instance_ident earlier later instance 0 _
+
+      name_known : (renamed : Bool) → old.renamed ≡ renamed
+          → is_name_taken (has_ident_before lists.instances old.instances instance) renamed old.originals instance ≡ is_in (instance_original instance) (map instance_original earlier)
+      name_known true e = met.originals_met e (instance_original instance)
+      name_known false e = ident_known ∙ plain_names earlier later instance (ap (list_any is_renamed) (sym all) ∙ (sym met.renamed_is ∙ e))
 
   pub net_refused : (lists : ScopeLists) → IsScope (linked_cell file (place_in home cell)) lists → (net : Net) → lowest (net_refusals_by lists (original cell.name) (is_in (net_ident net) old.nets) old.taken net)
       ≡ lowest (contents_refusals file (place_in home cell) before (contents_items.Net net))
@@ -163,3 +190,9 @@ net_found lists cell nets taken net ident named joined ident_taken second first 
 pub part_more : (items : List (Bor ContentsItem)) (i : ℕ) (x : Bor ContentsItem) → i < length items → x ≡ get_or items i x → take i (seen items) ++ x.now ∷ [] ≡ take (i + 1) (seen items)
 part_more items i x within at =
     ap (λ y. take i (seen items) ++ y ∷ []) (sym (seen_at items i x within at)) ∙ sym (take_more (seen items) i x.now (seen_within items i x within at))
+
+-- the whole contents are the parts before, this part and the parts after it
+pub part_of : (items : List (Bor ContentsItem)) (i : ℕ) (x : Bor ContentsItem) → i < length items → x ≡ get_or items i x → take i (seen items) ++ x.now ∷ drop (i + 1) (seen items) ≡ seen items
+part_of items i x within at =
+    ap (λ y. take i (seen items) ++ y ∷ drop (i + 1) (seen items)) (sym (seen_at items i x within at))
+    ∙ (ap (λ ys. take i (seen items) ++ ys) (sym (drop_more (seen items) i x.now (seen_within items i x within at))) ∙ take-append-drop i (seen items))

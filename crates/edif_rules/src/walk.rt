@@ -1,17 +1,16 @@
 // What the parts of a cell break.
-ghost use Rattle.std.specs.Prelude.{◌≡◌, ◌≤◌, ◌∷◌, ◌++◌, List, [], map, IfOk, OnOk};
-ghost use Rattle.std.specs.List.{filter_map};
+ghost use Rattle.std.specs.Prelude.{◌≡◌, ◌≤◌, ◌<◌, ◌+◌, ◌∷◌, ◌++◌, true, List, [], length, map, IfOk, OnOk};
+ghost use Rattle.std.specs.List.{filter_map, list_any};
 ghost use Rattle.edif_lookup.specs.Refusals.{in_order, is_in, lowest};
 ghost use Rattle.edif_values.specs.Sizes.{cell_size};
 ghost use Rattle.edif_values.specs.declared.view.ContentsItem.{ContentsItem};
 ghost use Rattle.edif_design.specs.CellRules.{cell_refusals, contents_refusals};
-ghost use Rattle.edif_design.specs.Parts.{ports};
+ghost use Rattle.edif_design.specs.Parts.{cell_contents, ports};
 ghost use Rattle.edif_design.specs.References.{file_cells, linked_cell, numbers_meant, place_in};
 ghost use Rattle.edif_rules.specs.RefRefusals.{ref_node};
 ghost use Rattle.edif_rules.specs.Lists.{seen};
-ghost use Rattle.edif_rules.specs.Idents.{instance_ident};
 ghost use Rattle.edif_rules.specs.Scopes.{IsScope, lists_of};
-ghost use Rattle.edif_rules.specs.Walks.{AddsBits, AddsName, HasMet, instance_refusals_by, instance_original, net_refusals_by, net_ident};
+ghost use Rattle.edif_rules.specs.Walks.{AddsBits, AddsName, HasMet, has_ident_before, instance_refusals_by, instance_original, is_name_taken, is_renamed, means_other, net_refusals_by, net_ident};
 
 use crate::bits::TakenBits;
 use crate::found::CellScope;
@@ -22,44 +21,106 @@ use crate::ports::ports_refusal;
 use crate::references::{NetNames, unbroken};
 use crate::tables::{InstanceTable, PortTable};
 use edif_design::FileTables;
-use edif_lookup::{NameSet, lower};
+use edif_lookup::{Meaning, NameSet, lower};
 use edif_values::{Cell, ContentsItem, Instance, Net, original};
 use nl_base::{NoMemory, Refusal, Rule};
 use std::alloc::Global;
 
-/// What a walk of a cell's contents has met: the identifiers and the original names of instances, the identifiers of nets, and the bits that
-/// nets have.
+/// What a walk of a cell's contents has met: the number of instances, the identifiers of nets, the bits that nets have, and the original
+/// names of instances where some instance of the cell is renamed. Where none is, original names are identifiers, and these are looked up.
 #[derive(Drop)]
 struct Met<'a> {
-    instances: NameSet<'a>,
+    instances: u32,
+    renamed: bool,
     originals: NameSet<'a>,
     nets: NameSet<'a>,
     taken: TakenBits,
+}
+
+/// Whether some instance is renamed.
+fn any_renamed(instances: &[&Instance]) -> bool
+    ensures { result ≡ list_any (λ reference. is_renamed reference.now) instances.now }
+{
+    instances.iter().any(|instance| is_renamed(instance))
+}
+
+/// Whether the instance has a name other than its identifier.
+fn is_renamed(instance: &Instance) -> bool
+    ensures { result ≡ is_renamed instance.now }
+{
+    instance.name.text.is_some()
+}
+
+/// Whether this is a definition with a number other than this one.
+fn means_other(meaning: Meaning, number: u32) -> bool
+    ensures { result ≡ means_other number meaning }
+{
+    match meaning {
+        Meaning::One(first) => first != number,
+        _ => false,
+    }
+}
+
+/// Whether an earlier instance has the identifier of the instance of this number. An identifier means the first instance that has it.
+fn has_ident_before(
+    alloc: Global,
+    instances: &InstanceTable<'_>,
+    number: u32,
+    instance: &Instance,
+) -> Result<bool, NoMemory>
+    ensures { IfOk result
+        (λ taken. taken ≡ has_ident_before instances.now number instance.now) }
+{
+    let meaning = instances.find(alloc, instance.name.ident.bytes())?;
+    Ok(means_other(meaning, number))
+}
+
+/// Whether an earlier instance has the original name of the instance; notes the name where some instance of the cell is renamed.
+fn note_original<'a>(
+    renamed: bool,
+    originals: &mut NameSet<'a>,
+    instance: &'a Instance,
+    ident_taken: bool,
+) -> Result<bool, NoMemory>
+    ensures taken { IfOk result
+        (λ taken. taken ≡ is_name_taken ident_taken renamed originals.old instance.now) }
+    ensures noted { OnOk result (renamed ≡ true
+        → AddsName originals.old (instance_original instance.now) originals.new) }
+{
+    if renamed {
+        let taken = originals.note(original(&instance.name))?;
+        return Ok(taken);
+    }
+    Ok(ident_taken)
 }
 
 /// What an instance breaks.
 fn meet_instance<'a>(
     alloc: Global,
     tables: &FileTables<'_>,
+    scope: &CellScope<'_, '_>,
     home: u32,
     cell: &[u8],
     met: &mut Met<'a>,
     instance: &'a Instance,
 ) -> Result<Option<Refusal>, NoMemory>
+    requires { met.old.instances < 4294967295 }
     ensures refusal { IfOk result
-        (λ found. found ≡ lowest
-        (instance_refusals_by tables.now home cell.now
-        (is_in (instance_ident instance.now) met.old.instances)
-        (is_in (instance_original instance.now) met.old.originals) instance.now)) }
-    ensures ident { OnOk result
-        (AddsName met.old.instances (instance_ident instance.now) met.new.instances) }
-    ensures original { OnOk result
-        (AddsName met.old.originals (instance_original instance.now) met.new.originals) }
+        (λ found. found ≡ lowest (instance_refusals_by tables.now home cell.now
+        (has_ident_before (lists_of scope.now).instances met.old.instances instance.now)
+        (is_name_taken
+        (has_ident_before (lists_of scope.now).instances met.old.instances instance.now)
+        met.old.renamed met.old.originals instance.now) instance.now)) }
+    ensures number { OnOk result (met.new.instances ≡ met.old.instances + 1) }
+    ensures renamed { OnOk result (met.new.renamed ≡ met.old.renamed) }
+    ensures original { OnOk result (met.old.renamed ≡ true
+        → AddsName met.old.originals (instance_original instance.now) met.new.originals) }
     ensures nets { OnOk result (met.new.nets ≡ met.old.nets) }
     ensures taken { OnOk result (met.new.taken ≡ met.old.taken) }
 {
-    let ident_taken = met.instances.note(instance.name.ident.bytes())?;
-    let name_taken = met.originals.note(original(&instance.name))?;
+    let ident_taken = has_ident_before(alloc, scope.instances, met.instances, instance)?;
+    let name_taken = note_original(met.renamed, &mut met.originals, instance, ident_taken)?;
+    met.instances += 1;
     let found = instance_refusal(alloc, tables, home, cell, instance, ident_taken, name_taken)?;
     Ok(found)
 }
@@ -81,6 +142,7 @@ fn meet_net<'a>(
         (AddsBits met.old.taken
         (filter_map (ref_node (lists_of scope.now)) net.now.joined) met.new.taken) }
     ensures instances { OnOk result (met.new.instances ≡ met.old.instances) }
+    ensures renamed { OnOk result (met.new.renamed ≡ met.old.renamed) }
     ensures originals { OnOk result (met.new.originals ≡ met.old.originals) }
 {
     let ident = net.name.ident.bytes();
@@ -105,9 +167,12 @@ fn meet_item<'a>(
     met: &mut Met<'a>,
     item: &'a ContentsItem,
 ) -> Result<Option<Refusal>, NoMemory>
-    requires { IsScope (linked_cell tables.now (place_in home cell.now)) (lists_of scope.now) }
+    requires scope { IsScope (linked_cell tables.now (place_in home cell.now))
+        (lists_of scope.now) }
+    requires few { met.old.instances < 4294967295 }
     ensures refusal { IfOk result
-        (λ found. (before : List ContentsItem)
+        (λ found. (before after : List ContentsItem)
+        → before ++ item.now ∷ after ≡ cell_contents cell.now
         → HasMet (linked_cell tables.now (place_in home cell.now)) before met.old
         → found ≡ lowest (contents_refusals tables.now (place_in home cell.now) before item.now)) }
     ensures met { OnOk result ((before : List ContentsItem)
@@ -117,7 +182,8 @@ fn meet_item<'a>(
 {
     match item {
         ContentsItem::Instance(instance) => {
-            let found = meet_instance(alloc, tables, home, original(&cell.name), met, instance)?;
+            let name = original(&cell.name);
+            let found = meet_instance(alloc, tables, scope, home, name, met, instance)?;
             Ok(found)
         }
         ContentsItem::Net(net) => {
@@ -137,14 +203,18 @@ fn contents_refusal(
     cell: &Cell,
     items: &[&ContentsItem],
 ) -> Result<Option<Refusal>, NoMemory>
-    requires { IsScope (linked_cell tables.now (place_in home cell.now)) (lists_of scope.now) }
+    requires scope { IsScope (linked_cell tables.now (place_in home cell.now))
+        (lists_of scope.now) }
+    requires items { seen items.now ≡ cell_contents cell.now }
+    requires few { length items.now ≤ 268435456 }
     ensures { IfOk result (λ found. found
         ≡ lowest (in_order (contents_refusals tables.now (place_in home cell.now))
         (seen items.now))) }
 {
     let mut best = unbroken();
     let mut met = Met {
-        instances: NameSet::new(alloc),
+        instances: 0,
+        renamed: any_renamed(scope.instances.instances()),
         originals: NameSet::new(alloc),
         nets: NameSet::new(alloc),
         taken: TakenBits::new(alloc),

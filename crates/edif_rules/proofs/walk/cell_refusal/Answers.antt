@@ -1,4 +1,4 @@
-use Rattle.std.proofs.Common.{◌∙◌, ap, arith, length, map, sym}
+use Rattle.std.proofs.Common.{◌∙◌, ap, arith, length, sym}
 use Rattle.std.specs.List.{filter_map}
 use Rattle.std.proofs.lemmas.List.{length-map}
 use Rattle.edif_lookup.specs.Refusals.{in_order, lower, lowest}
@@ -28,10 +28,23 @@ of-requires-2 c =
       ap length c.in_ok-items.ensures,
     )
 
-pub contents_refusal-requires : goal.contents_refusal-requires
-contents_refusal-requires c =
+pub contents_refusal-requires-clause-scope : goal.contents_refusal-requires-clause-scope
+contents_refusal-requires-clause-scope c =
     scope_is (file_cells c.args.tables.now) c.args.cell.now (numbers_meant c.args.tables.now (place_in c.args.home c.args.cell.now)) _ c.in_ok-own.ensures
     (c.in_ok-instances.ensures ∙ (c.in_ok-instances_in.ensures ∙ ap (filter_map instance_in) (ap seen c.as_slice.ensures.value ∙ c.in_ok-items.ensures))) c.requires.below c.requires.port_tables
+
+pub contents_refusal-requires-clause-items : goal.contents_refusal-requires-clause-items
+contents_refusal-requires-clause-items c = ap seen c.as_slice-2.ensures.value ∙ c.in_ok-items.ensures
+
+pub contents_refusal-requires-clause-few : goal.contents_refusal-requires-clause-few
+contents_refusal-requires-clause-few c =
+    omega (
+      arith,
+      c.requires.few,
+      few_contents c.args.cell.now,
+      length-map c.as_slice-2.result.now (λ r. r.now),
+      ap length (ap seen c.as_slice-2.ensures.value ∙ c.in_ok-items.ensures),
+    )
 
 pub returns : goal.returns
 unfolding cell_refusals
