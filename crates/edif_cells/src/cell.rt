@@ -13,7 +13,7 @@ use crate::joins::joins_made;
 use crate::parts::{instances_made, nets_made, ports_made};
 use crate::properties::all_properties;
 use edif_design::FileTables;
-use edif_rules::parts::{contents_of, instances_in, nets_in, ports_of};
+use edif_rules::parts::{contents_of, instances_in, instances_of, nets_in, ports_of};
 use edif_rules::{CellScope, InstanceTable, PortTable};
 use edif_values::{Cell, original};
 use net_hier::{HCell, HInst, HNet, HPort, Join};
@@ -41,8 +41,7 @@ fn cell_instances(
     ensures { IfOk result (λ made. made
         ≡ map (instance_at numbers.now below.now cells) (numbered (instances cell.now))) }
 {
-    let items = contents_of(alloc, cell)?;
-    let instances = instances_in(alloc, items.as_slice())?;
+    let instances = instances_of(alloc, cell)?;
     let made = instances_made(alloc, numbers, below, cells, instances.as_slice())?;
     Ok(made)
 }

@@ -6,7 +6,7 @@ ghost use Rattle.edif_design.specs.References.{numbers_meant, place_in};
 
 use edif_design::links::linked_number;
 use edif_design::tables::FileTables;
-use edif_rules::parts::{contents_of, instances_in};
+use edif_rules::parts::instances_of;
 use edif_values::{Cell, Instance};
 use nl_base::{NoMemory, Seq};
 use std::alloc::Global;
@@ -31,8 +31,7 @@ pub(crate) fn numbers_meant(
     ensures { IfOk result (λ numbers. numbers.items
         ≡ numbers_meant tables.now (place_in library cell.now)) }
 {
-    let contents = contents_of(alloc, cell)?;
-    let instances = instances_in(alloc, contents.as_slice())?;
+    let instances = instances_of(alloc, cell)?;
     let mut numbers = Vec::new(alloc);
     for instance in instances.as_slice() {
         let named = library_named(instance);

@@ -7,4 +7,5 @@ pub mod SizeLaws
 pub mod TableTurns
 pub mod FirstIdents
 pub mod WalkLaws
+pub mod WalkTurns
 pub mod InstanceLaws

@@ -34,6 +34,15 @@ flat_grows f xs x = flat_map-append f xs (x ∷ []) ∙ ap (λ l. flat_map f xs 
 pub inner_grows : {A B C : Type 0} (f : A → Option B) (k : B → List C) (xs : List A) (x : A) → flat_map k (filter_map f (xs ++ x ∷ [])) ≡ flat_map k (filter_map f xs) ++ flat_map k (option_to_list (f x))
 inner_grows f k xs x = ap (flat_map k) (filter_grows f xs x) ∙ flat_map-append k (filter_map f xs) (option_to_list (f x))
 
+-- what some of the things in the lists are
+pub some_grow : {A B C : Type 0} (f : B → Option C) (k : A → List B) (xs : List A) (x : A) → filter_map f (flat_map k (xs ++ x ∷ [])) ≡ filter_map f (flat_map k xs) ++ filter_map f (k x)
+some_grow f k xs x = ap (filter_map f) (flat_grows k xs x) ∙ filter_map-append f (flat_map k xs) (k x)
+
+-- what some of the things in the lists of the parts of what items are
+pub some_inner_grow : {A B C D : Type 0} (f : C → Option D) (p : A → Option B) (k : B → List C) (xs : List A) (x : A)
+    → filter_map f (flat_map k (filter_map p (xs ++ x ∷ []))) ≡ filter_map f (flat_map k (filter_map p xs)) ++ filter_map f (flat_map k (option_to_list (p x)))
+some_inner_grow f p k xs x = ap (filter_map f) (inner_grows p k xs x) ∙ filter_map-append f (flat_map k (filter_map p xs)) (flat_map k (option_to_list (p x)))
+
 -- what the things that references lead to are
 pub seen_grows : {A B : Type 0} (f : A → Option B) (xs : List (Bor A)) (x : Bor A) → filter_map f (seen (xs ++ x ∷ [])) ≡ filter_map f (seen xs) ++ option_to_list (f x.now)
 seen_grows f xs x = ap (filter_map f) (map-append (λ r. r.now) xs (x ∷ [])) ∙ filter_grows f (seen xs) x.now

@@ -1,10 +1,9 @@
 -- The walk of a cell's contents.
-use Rattle.std.proofs.Common.{◌≡◌, ℕ, zero-add, ◌+◌, ◌<◌, Bool, true, false, ◌||◌, List, [], ◌∷◌, ◌++◌, map, length, drop, take, get_or, Option, Some, None, option_map, refl, sym, ap, ◌∙◌}
+use Rattle.std.proofs.Common.{◌≡◌, ℕ, zero-add, ◌+◌, Bool, true, false, ◌||◌, List, [], ◌∷◌, ◌++◌, map, length, get_or, Option, Some, None, option_map, refl, sym, ap, ◌∙◌}
 use Rattle.std.specs.Prelude.{codes, slice_get}
 use Rattle.std.specs.List.{filter_map, flat_map, list_any}
 use Rattle.std.specs.Option.{option_and_then}
-use Rattle.std.specs.Borrow.{Bor}
-use Rattle.std.proofs.lemmas.List.{append-nil, length-append, map-append, take-append-drop, take_more}
+use Rattle.std.proofs.lemmas.List.{append-nil, length-append, map-append}
 use Rattle.std.proofs.lemmas.List.Elements.{filter_map-append}
 use Rattle.std.proofs.lemmas.List.Folds.{list_any-append}
 use Rattle.std.proofs.lemmas.Option.{slice_get-map}
@@ -13,7 +12,6 @@ use Rattle.nl_base.specs.Case.{same_bytes}
 use Rattle.nl_base.specs.declared.rule.Refusal.{Refusal}
 use Rattle.nl_base.specs.declared.rule.Rule.TheVariants.{E5, E11}
 use Rattle.edif_lookup.specs.Refusals.{broken, if_some, is_in, lower, lowest}
-use Rattle.edif_lookup.proofs.ListLaws.{drop_more}
 use Rattle.edif_lookup.proofs.NameLaws.{or_comm}
 use Rattle.edif_lookup.proofs.Orders.{lowest-append}
 use Rattle.edif_values.specs.Names.{original, port_original}
@@ -39,9 +37,7 @@ use Rattle.edif_rules.specs.declared.found.Target.{Target}
 use Rattle.edif_rules.specs.declared.found.Target.TheVariants as founds
 use Rattle.edif_rules.specs.declared.walk.Met.{Met}
 use Rattle.edif_rules.proofs.ScopeLaws.{refusals_alike, node_alike}
-use Rattle.edif_rules.specs.Lists.{seen}
 use Rattle.edif_rules.proofs.FirstIdents.{other_where_before, plain_names}
-use Rattle.edif_rules.proofs.TableTurns.{seen_at, seen_within}
 use Rattle.edif_rules.proofs.Turns.{filter_grows, flat_grows}
 
 -- the lists of a cell, of the numbers of the cells that its instances are of, and of the ports of all cells
@@ -185,14 +181,3 @@ net_found lists cell nets taken net ident named joined ident_taken second first 
     ∙ ((λ j. lower (is_second j) (is_first j))
     ∙ ((λ j. lower (lowest (broken ((known ∙ ap (λ s. is_in s nets) is_ident) j) E5 cell (codes "net" ∷ (is_ident j ∷ [])))) (lowest (flat_map (ref_refusals_by lists cell (is_named j) taken) (is_joined j))))
     ∙ sym (lowest-append (broken (is_in (net_ident net) nets) E5 cell (codes "net" ∷ (net_ident net ∷ []))) (flat_map (ref_refusals_by lists cell (original net.name) taken) net.joined))))
-
--- one more part of the contents
-pub part_more : (items : List (Bor ContentsItem)) (i : ℕ) (x : Bor ContentsItem) → i < length items → x ≡ get_or items i x → take i (seen items) ++ x.now ∷ [] ≡ take (i + 1) (seen items)
-part_more items i x within at =
-    ap (λ y. take i (seen items) ++ y ∷ []) (sym (seen_at items i x within at)) ∙ sym (take_more (seen items) i x.now (seen_within items i x within at))
-
--- the whole contents are the parts before, this part and the parts after it
-pub part_of : (items : List (Bor ContentsItem)) (i : ℕ) (x : Bor ContentsItem) → i < length items → x ≡ get_or items i x → take i (seen items) ++ x.now ∷ drop (i + 1) (seen items) ≡ seen items
-part_of items i x within at =
-    ap (λ y. take i (seen items) ++ y ∷ drop (i + 1) (seen items)) (sym (seen_at items i x within at))
-    ∙ (ap (λ ys. take i (seen items) ++ ys) (sym (drop_more (seen items) i x.now (seen_within items i x within at))) ∙ take-append-drop i (seen items))

@@ -1,5 +1,5 @@
 -- What the walk of a cell's contents finds and keeps.
-use Rattle.std.specs.Prelude.{◌≡◌, ℕ, ◌==◌, ◌||◌, Bool, true, false, not, cond, List, [], ◌∷◌, ◌++◌, map, length, is_some, codes}
+use Rattle.std.specs.Prelude.{◌≡◌, ◌≤◌, ℕ, ◌+◌, ◌==◌, ◌||◌, Bool, true, false, not, cond, List, [], ◌∷◌, ◌++◌, map, length, Option, is_some, codes}
 use Rattle.std.specs.List.{filter_map, flat_map, list_any}
 use Rattle.nl_base.specs.Case.{same_bytes}
 use Rattle.nl_base.specs.declared.rule.Refusal.{Refusal}
@@ -8,14 +8,14 @@ use Rattle.edif_values.specs.Names.{original}
 use Rattle.edif_values.specs.declared.instance.Instance.{Instance}
 use Rattle.edif_values.specs.declared.net.Net.{Net}
 use Rattle.net_hier.specs.declared.nodes.Node.{Node}
-use Rattle.edif_lookup.specs.Refusals.{broken, is_in}
+use Rattle.edif_lookup.specs.Refusals.{broken, each_after, is_in, lowest}
 use Rattle.edif_lookup.specs.declared.definitions.Meaning.{Meaning}
 use Rattle.edif_lookup.specs.declared.definitions.Meaning.TheVariants as meanings
 use Rattle.edif_values.specs.declared.file.EdifFile.{EdifFile}
 use Rattle.edif_values.specs.declared.view.ContentsItem.{ContentsItem}
-use Rattle.edif_design.specs.CellRules.{bits_of_nets, inner_cell, link_refusals, same_node, view_refusals}
-use Rattle.edif_design.specs.Parts.{instance_in, instances, net_in}
-use Rattle.edif_design.specs.References.{LinkedCell}
+use Rattle.edif_design.specs.CellRules.{bits_of_nets, contents_refusals, inner_cell, link_refusals, same_node, view_refusals}
+use Rattle.edif_design.specs.Parts.{cell_contents, instance_in, instances, net_in}
+use Rattle.edif_design.specs.References.{CellPlace, LinkedCell, linked_cell}
 use Rattle.edif_rules.specs.RefRefusals.{ref_refusals_by}
 use Rattle.edif_rules.specs.Idents.{instance_ident, instances_meaning}
 use Rattle.edif_rules.specs.Scopes.{ScopeLists}
@@ -67,6 +67,13 @@ pub record HasMet (linked : LinkedCell) (before : List ContentsItem) (met : Met)
   pub originals_met : met.renamed ≡ true → (name : List ℕ) → is_in name met.originals ≡ is_in name (map instance_original (filter_map instance_in before))
   pub nets_met : (name : List ℕ) → is_in name met.nets ≡ is_in name (map net_ident (filter_map net_in before))
   pub bits_met : (node : Node) → list_any (same_node node) met.taken ≡ list_any (same_node node) (bits_of_nets linked (filter_map net_in before))
+
+-- a walk of these parts of a cell's contents: whatever parts stand and were met before them, the first refusal of these after those was found,
+-- those and these are met then, and of instances at most as many more as these are
+pub record Walks (file : EdifFile) (place : CellPlace) (items : List ContentsItem) (old : Met) (found : Option Refusal) (new : Met) : Type 0 where
+  pub refused : (before after : List ContentsItem) → before ++ (items ++ after) ≡ cell_contents place.cell → HasMet (linked_cell file place) before old → found ≡ lowest (each_after (contents_refusals file place) before items)
+  pub all_met : (before : List ContentsItem) → HasMet (linked_cell file place) before old → HasMet (linked_cell file place) (before ++ items) new
+  pub few_met : new.instances ≤ old.instances + length items
 
 -- one more name
 abbrev pub AddsName : List (List ℕ) → List ℕ → List (List ℕ) → Type 0

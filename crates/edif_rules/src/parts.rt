@@ -1,7 +1,7 @@
 // The ports, instances and nets of a cell, in the order of the text.
 ghost use Rattle.std.specs.Prelude.{◌≡◌, ◌++◌, option_to_list, IfOk, OnOk};
 ghost use Rattle.std.specs.List.{filter_map, flat_map};
-ghost use Rattle.edif_design.specs.Parts.{cell_contents, contents, contents_in, instance_in, net_in, port_in, ports, view_in};
+ghost use Rattle.edif_design.specs.Parts.{cell_contents, contents, contents_in, instance_in, instances, net_in, port_in, ports, view_in};
 ghost use Rattle.edif_rules.specs.Lists.{interface_ports, seen};
 
 use edif_values::{
@@ -139,6 +139,73 @@ fn push_instance<'a>(
         }
         _ => Ok(()),
     }
+}
+
+/// Adds the instances among the items.
+fn push_instances<'a>(
+    list: &mut Vec<&'a Instance>,
+    items: &'a [ContentsItem],
+) -> Result<(), NoMemory>
+    ensures { OnOk result (seen list.new.items
+        ≡ seen list.old.items ++ filter_map instance_in items.now) }
+{
+    for item in items {
+        push_instance(list, item)?;
+    }
+    Ok(())
+}
+
+/// Adds the instances in the contents that the item is, where it is some.
+fn push_contents_instances<'a>(
+    list: &mut Vec<&'a Instance>,
+    item: &'a ViewItem,
+) -> Result<(), NoMemory>
+    ensures { OnOk result (seen list.new.items
+        ≡ seen list.old.items ++ filter_map instance_in (contents_in item.now)) }
+{
+    match item {
+        ViewItem::Contents(items) => {
+            push_instances(list, items.items())?;
+            Ok(())
+        }
+        _ => Ok(()),
+    }
+}
+
+/// Adds the instances of a view.
+fn push_view_instances<'a>(list: &mut Vec<&'a Instance>, view: &'a View) -> Result<(), NoMemory>
+    ensures { OnOk result (seen list.new.items
+        ≡ seen list.old.items ++ filter_map instance_in (contents view.now)) }
+{
+    for item in view.items.items() {
+        push_contents_instances(list, item)?;
+    }
+    Ok(())
+}
+
+/// Adds the instances of the view that the item is, where it is one.
+fn push_cell_instances<'a>(list: &mut Vec<&'a Instance>, item: &'a CellItem) -> Result<(), NoMemory>
+    ensures { OnOk result (seen list.new.items ≡ seen list.old.items
+        ++ filter_map instance_in (flat_map contents (option_to_list (view_in item.now)))) }
+{
+    match item {
+        CellItem::View(view) => {
+            push_view_instances(list, view)?;
+            Ok(())
+        }
+        _ => Ok(()),
+    }
+}
+
+/// The instances of a cell, with no list of all parts of its contents.
+pub fn instances_of<'a>(alloc: Global, cell: &'a Cell) -> Result<Vec<&'a Instance>, NoMemory>
+    ensures { IfOk result (λ made. seen made.items ≡ instances cell.now) }
+{
+    let mut made = Vec::new(alloc);
+    for item in cell.items.items() {
+        push_cell_instances(&mut made, item)?;
+    }
+    Ok(made)
 }
 
 /// The instances among the parts of contents.

@@ -21,7 +21,7 @@ fn port_entries<'a>(alloc: Global, ports: &[&'a Port]) -> Result<Vec<(u32, &'a [
     ensures { IfOk result (λ made. written made.items
         ≡ named port_ident (numbered (seen ports.now))) }
 {
-    let mut made = Vec::new(alloc);
+    let mut made = Vec::with_capacity(alloc, ports.len())?;
     for (number, port) in ports.iter().enumerate() {
         made.push((number as u32, port_ident(port)))?;
     }
@@ -102,7 +102,7 @@ fn instance_entries<'a>(
     ensures { IfOk result (λ made. written made.items
         ≡ named instance_ident (numbered (seen instances.now))) }
 {
-    let mut made = Vec::new(alloc);
+    let mut made = Vec::with_capacity(alloc, instances.len())?;
     for (number, instance) in instances.iter().enumerate() {
         made.push((number as u32, instance.name.ident.bytes()))?;
     }
@@ -137,10 +137,14 @@ impl<'a> Model for InstanceTable<'a> {
 
 impl<'a> InstanceTable<'a> {
     /// These instances.
-    pub fn of(alloc: Global, instances: Vec<&'a Instance>) -> Result<InstanceTable<'a>, NoMemory>
+    pub fn of(
+        alloc: Global,
+        mut instances: Vec<&'a Instance>,
+    ) -> Result<InstanceTable<'a>, NoMemory>
         requires { length instances.items ≤ 268435456 }
         ensures { IfOk result (λ table. table ≡ seen instances.entry.items) }
     {
+        instances.shrink_to_fit();
         let entries = instance_entries(alloc, instances.as_slice())?;
         let definitions = Definitions::build(alloc, entries)?;
         Ok(InstanceTable {

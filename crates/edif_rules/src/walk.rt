@@ -1,28 +1,27 @@
 // What the parts of a cell break.
-ghost use Rattle.std.specs.Prelude.{◌≡◌, ◌≤◌, ◌<◌, ◌+◌, ◌∷◌, ◌++◌, true, List, [], length, map, IfOk, OnOk};
-ghost use Rattle.std.specs.List.{filter_map, list_any};
+ghost use Rattle.std.specs.Prelude.{◌≡◌, ◌≤◌, ◌<◌, ◌+◌, ◌∷◌, ◌++◌, true, List, [], length, map, option_to_list, IfOk, OnOk};
+ghost use Rattle.std.specs.List.{filter_map, flat_map, list_any};
 ghost use Rattle.edif_lookup.specs.Refusals.{in_order, is_in, lowest};
 ghost use Rattle.edif_values.specs.Sizes.{cell_size};
 ghost use Rattle.edif_values.specs.declared.view.ContentsItem.{ContentsItem};
 ghost use Rattle.edif_design.specs.CellRules.{cell_refusals, contents_refusals};
-ghost use Rattle.edif_design.specs.Parts.{cell_contents, ports};
+ghost use Rattle.edif_design.specs.Parts.{cell_contents, contents, contents_in, ports, view_in};
 ghost use Rattle.edif_design.specs.References.{file_cells, linked_cell, numbers_meant, place_in};
 ghost use Rattle.edif_rules.specs.RefRefusals.{ref_node};
-ghost use Rattle.edif_rules.specs.Lists.{seen};
 ghost use Rattle.edif_rules.specs.Scopes.{IsScope, lists_of};
-ghost use Rattle.edif_rules.specs.Walks.{AddsBits, AddsName, HasMet, has_ident_before, instance_refusals_by, instance_original, is_name_taken, is_renamed, means_other, net_refusals_by, net_ident};
+ghost use Rattle.edif_rules.specs.Walks.{AddsBits, AddsName, HasMet, Walks, has_ident_before, instance_refusals_by, instance_original, is_name_taken, is_renamed, means_other, net_refusals_by, net_ident};
 
 use crate::bits::TakenBits;
 use crate::found::CellScope;
 use crate::instances::{instance_refusal, second_refusal};
 use crate::joined::meet_joined;
-use crate::parts::{contents_of, instances_in};
+use crate::parts::instances_of;
 use crate::ports::ports_refusal;
 use crate::references::{NetNames, unbroken};
 use crate::tables::{InstanceTable, PortTable};
 use edif_design::FileTables;
 use edif_lookup::{Meaning, NameSet, lower};
-use edif_values::{Cell, ContentsItem, Instance, Net, original};
+use edif_values::{Cell, CellItem, ContentsItem, Instance, Net, View, ViewItem, original};
 use nl_base::{NoMemory, Refusal, Rule};
 use std::alloc::Global;
 
@@ -179,6 +178,7 @@ fn meet_item<'a>(
         → HasMet (linked_cell tables.now (place_in home cell.now)) before met.old
         → HasMet (linked_cell tables.now (place_in home cell.now)) (before ++ item.now
         ∷ []) met.new) }
+    ensures number { OnOk result (met.new.instances ≤ met.old.instances + 1) }
 {
     match item {
         ContentsItem::Instance(instance) => {
@@ -194,6 +194,128 @@ fn meet_item<'a>(
     }
 }
 
+/// What some parts of the contents break.
+fn meet_items<'a>(
+    alloc: Global,
+    tables: &FileTables<'_>,
+    scope: &CellScope<'_, '_>,
+    home: u32,
+    cell: &Cell,
+    met: &mut Met<'a>,
+    items: &'a [ContentsItem],
+) -> Result<Option<Refusal>, NoMemory>
+    requires scope { IsScope (linked_cell tables.now (place_in home cell.now))
+        (lists_of scope.now) }
+    requires few { met.old.instances + length items.now ≤ 268435456 }
+    ensures { IfOk result (λ found.
+        Walks tables.now (place_in home cell.now) items.now met.old found met.new) }
+{
+    let mut best = unbroken();
+    for item in items {
+        let next = meet_item(alloc, tables, scope, home, cell, met, item)?;
+        best = lower(best, next);
+    }
+    Ok(best)
+}
+
+/// What the contents that the part of a view is break, where it is some.
+fn meet_contents<'a>(
+    alloc: Global,
+    tables: &FileTables<'_>,
+    scope: &CellScope<'_, '_>,
+    home: u32,
+    cell: &Cell,
+    met: &mut Met<'a>,
+    item: &'a ViewItem,
+) -> Result<Option<Refusal>, NoMemory>
+    requires scope { IsScope (linked_cell tables.now (place_in home cell.now))
+        (lists_of scope.now) }
+    requires few { met.old.instances + length (contents_in item.now) ≤ 268435456 }
+    ensures { IfOk result (λ found.
+        Walks tables.now (place_in home cell.now) (contents_in item.now) met.old found met.new) }
+{
+    match item {
+        ViewItem::Contents(items) => {
+            let found = meet_items(alloc, tables, scope, home, cell, met, items.items())?;
+            Ok(found)
+        }
+        _ => Ok(unbroken()),
+    }
+}
+
+/// What the contents of a view break.
+fn meet_view<'a>(
+    alloc: Global,
+    tables: &FileTables<'_>,
+    scope: &CellScope<'_, '_>,
+    home: u32,
+    cell: &Cell,
+    met: &mut Met<'a>,
+    view: &'a View,
+) -> Result<Option<Refusal>, NoMemory>
+    requires scope { IsScope (linked_cell tables.now (place_in home cell.now))
+        (lists_of scope.now) }
+    requires few { met.old.instances + length (contents view.now) ≤ 268435456 }
+    ensures { IfOk result (λ found.
+        Walks tables.now (place_in home cell.now) (contents view.now) met.old found met.new) }
+{
+    let mut best = unbroken();
+    for item in view.items.items() {
+        let next = meet_contents(alloc, tables, scope, home, cell, met, item)?;
+        best = lower(best, next);
+    }
+    Ok(best)
+}
+
+/// What the contents of the view that the part of a cell is break, where it is one.
+fn meet_cell_item<'a>(
+    alloc: Global,
+    tables: &FileTables<'_>,
+    scope: &CellScope<'_, '_>,
+    home: u32,
+    cell: &Cell,
+    met: &mut Met<'a>,
+    item: &'a CellItem,
+) -> Result<Option<Refusal>, NoMemory>
+    requires scope { IsScope (linked_cell tables.now (place_in home cell.now))
+        (lists_of scope.now) }
+    requires few { met.old.instances
+        + length (flat_map contents (option_to_list (view_in item.now))) ≤ 268435456 }
+    ensures { IfOk result (λ found. Walks tables.now (place_in home cell.now)
+        (flat_map contents (option_to_list (view_in item.now))) met.old found met.new) }
+{
+    match item {
+        CellItem::View(view) => {
+            let found = meet_view(alloc, tables, scope, home, cell, met, view)?;
+            Ok(found)
+        }
+        _ => Ok(unbroken()),
+    }
+}
+
+/// What the contents of a cell break, which are walked where they stand: a list of them would be as long as the cell.
+fn meet_cell<'a>(
+    alloc: Global,
+    tables: &FileTables<'_>,
+    scope: &CellScope<'_, '_>,
+    home: u32,
+    cell: &'a Cell,
+    met: &mut Met<'a>,
+) -> Result<Option<Refusal>, NoMemory>
+    requires scope { IsScope (linked_cell tables.now (place_in home cell.now))
+        (lists_of scope.now) }
+    requires few { met.old.instances + length (cell_contents cell.now) ≤ 268435456 }
+    ensures { IfOk result (λ found.
+        Walks tables.now (place_in home cell.now) (cell_contents cell.now) met.old found met.new) }
+{
+    let mut best = unbroken();
+    for item in cell.items.items() {
+        let next = meet_cell_item(alloc, tables, scope, home, cell, met, item)?;
+        best = lower(best, next);
+    }
+    Ok(best)
+}
+
 /// The first refusal of the contents of a cell.
 fn contents_refusal(
     alloc: Global,
@@ -201,17 +323,14 @@ fn contents_refusal(
     scope: &CellScope<'_, '_>,
     home: u32,
     cell: &Cell,
-    items: &[&ContentsItem],
 ) -> Result<Option<Refusal>, NoMemory>
     requires scope { IsScope (linked_cell tables.now (place_in home cell.now))
         (lists_of scope.now) }
-    requires items { seen items.now ≡ cell_contents cell.now }
-    requires few { length items.now ≤ 268435456 }
+    requires few { cell_size cell.now ≤ 268435456 }
     ensures { IfOk result (λ found. found
         ≡ lowest (in_order (contents_refusals tables.now (place_in home cell.now))
-        (seen items.now))) }
+        (cell_contents cell.now))) }
 {
-    let mut best = unbroken();
     let mut met = Met {
         instances: 0,
         renamed: any_renamed(scope.instances.instances()),
@@ -219,11 +338,8 @@ fn contents_refusal(
         nets: NameSet::new(alloc),
         taken: TakenBits::new(alloc),
     };
-    for item in items {
-        let next = meet_item(alloc, tables, scope, home, cell, &mut met, item)?;
-        best = lower(best, next);
-    }
-    Ok(best)
+    let found = meet_cell(alloc, tables, scope, home, cell, &mut met)?;
+    Ok(found)
 }
 
 /// The first refusal of the parts of a cell in the library of this number, by the ports of each cell of the file, and the numbers of the
@@ -242,9 +358,8 @@ pub fn cell_refusal(
     ensures { IfOk result (λ found. found
         ≡ lowest (cell_refusals tables.now (place_in home cell.now))) }
 {
-    let items = contents_of(alloc, cell)?;
     let own = PortTable::of(alloc, cell)?;
-    let instances = InstanceTable::of(alloc, instances_in(alloc, items.as_slice())?)?;
+    let instances = InstanceTable::of(alloc, instances_of(alloc, cell)?)?;
     let scope = CellScope {
         own: &own,
         instances: &instances,
@@ -252,6 +367,6 @@ pub fn cell_refusal(
         port_tables,
     };
     let first = ports_refusal(alloc, original(&cell.name), own.ports())?;
-    let next = contents_refusal(alloc, tables, &scope, home, cell, items.as_slice())?;
+    let next = contents_refusal(alloc, tables, &scope, home, cell)?;
     Ok(lower(first, next))
 }

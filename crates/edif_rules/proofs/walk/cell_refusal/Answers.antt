@@ -1,5 +1,4 @@
 use Rattle.std.proofs.Common.{◌∙◌, ap, arith, length, sym}
-use Rattle.std.specs.List.{filter_map}
 use Rattle.std.proofs.lemmas.List.{length-map}
 use Rattle.edif_lookup.specs.Refusals.{in_order, lower, lowest}
 use Rattle.edif_lookup.proofs.Orders.{lowest-append}
@@ -7,7 +6,6 @@ use Rattle.edif_values.specs.Names.{original}
 use Rattle.edif_design.specs.CellRules.{cell_refusals, contents_refusals, port_refusals}
 use Rattle.edif_design.specs.Parts.{cell_contents, instance_in, ports}
 use Rattle.edif_design.specs.References.{file_cells, numbers_meant, place_in}
-use Rattle.edif_rules.specs.Lists.{seen}
 use Rattle.edif_rules.proofs.SizeLaws.{few_contents, few_of}
 use Rattle.edif_rules.proofs.WalkLaws.{scope_is}
 use Rattle.edif_rules.proofs.walk.cell_refusal.Goals as goal
@@ -21,30 +19,18 @@ of-requires-2 c =
       arith,
       c.requires.few,
       few_contents c.args.cell.now,
-      few_of instance_in (seen c.as_slice.result.now),
-      ap length c.in_ok-instances_in.ensures,
-      length-map c.in_ok-instances_in.field-0.items (λ r. r.now),
-      ap (λ xs. length (seen xs)) c.as_slice.ensures.value,
-      ap length c.in_ok-items.ensures,
+      few_of instance_in (cell_contents c.args.cell.now),
+      ap length c.in_ok-instances_of.ensures,
+      length-map c.in_ok-instances_of.field-0.items (λ r. r.now),
     )
 
 pub contents_refusal-requires-clause-scope : goal.contents_refusal-requires-clause-scope
 contents_refusal-requires-clause-scope c =
     scope_is (file_cells c.args.tables.now) c.args.cell.now (numbers_meant c.args.tables.now (place_in c.args.home c.args.cell.now)) _ c.in_ok-own.ensures
-    (c.in_ok-instances.ensures ∙ (c.in_ok-instances_in.ensures ∙ ap (filter_map instance_in) (ap seen c.as_slice.ensures.value ∙ c.in_ok-items.ensures))) c.requires.below c.requires.port_tables
-
-pub contents_refusal-requires-clause-items : goal.contents_refusal-requires-clause-items
-contents_refusal-requires-clause-items c = ap seen c.as_slice-2.ensures.value ∙ c.in_ok-items.ensures
+    (c.in_ok-instances.ensures ∙ c.in_ok-instances_of.ensures) c.requires.below c.requires.port_tables
 
 pub contents_refusal-requires-clause-few : goal.contents_refusal-requires-clause-few
-contents_refusal-requires-clause-few c =
-    omega (
-      arith,
-      c.requires.few,
-      few_contents c.args.cell.now,
-      length-map c.as_slice-2.result.now (λ r. r.now),
-      ap length (ap seen c.as_slice-2.ensures.value ∙ c.in_ok-items.ensures),
-    )
+contents_refusal-requires-clause-few c = c.requires.few
 
 pub returns : goal.returns
 unfolding cell_refusals
@@ -53,5 +39,5 @@ returns c =
     c.lower.ensures
     ∙ ((λ j. lower
     ((c.in_ok-first.ensures ∙ (λ k. lowest (in_order (port_refusals (c.original.ensures k)) ((c.ports.ensures ∙ c.in_ok-own.ensures) k)))) j)
-    ((c.in_ok-next.ensures ∙ ap (λ items. lowest (in_order (contents_refusals c.args.tables.now place) items)) (ap seen c.as_slice-2.ensures.value ∙ c.in_ok-items.ensures)) j))
+    (c.in_ok-next.ensures j))
     ∙ sym (lowest-append (in_order (port_refusals (original c.args.cell.now.name)) (ports c.args.cell.now)) (in_order (contents_refusals c.args.tables.now place) (cell_contents c.args.cell.now))))
