@@ -43,11 +43,11 @@ first_behind (z ∷ xs) ys h = cc
 
 -- the first declaration that clashes
 
-clash_named : (cell : List ℕ) (o : Option Declaration) → option_map (refused G4 cell) (option_map (λ (d : Declaration). d.name ∷ []) o) ≡ option_map (λ (d : Declaration). refused G4 cell (d.name ∷ [])) o
+clash_named : (cell : List ℕ) (o : Option Declaration) → option_map (refused G4 cell) (option_map (λ (d : Declaration). d.name ∷ []) o) ≡ option_map (λ name. refused G4 cell (name ∷ [])) (option_map (λ (d : Declaration). d.name) o)
 clash_named cell None = refl
 clash_named cell (Some d) = refl
 
-pub clash_first : (m : Module) (ds : List Declaration) → ds ≡ declarations m →
-    first_of (map (refused G4 m.name) (declared_twice m)) ≡ option_map (λ d. refused G4 m.name (d.name ∷ [])) (first_of (clashing clash [] ds))
+pub clash_first : (m : Module) (found : Option (List ℕ)) → found ≡ option_map (λ d. d.name) (first_of (clashing clash [] (declarations m))) →
+    first_of (map (refused G4 m.name) (declared_twice m)) ≡ option_map (λ name. refused G4 m.name (name ∷ [])) found
 unfolding declared_twice
-clash_first m ds e = rw (e, first_map, first_map) (clash_named m.name _)
+clash_first m found e = rw (e, first_map, first_map) (clash_named m.name _)

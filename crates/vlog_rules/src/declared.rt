@@ -1,36 +1,17 @@
 // Names that are declared twice.
-ghost use Rattle.std.specs.Prelude.{◌≡◌, [], ◌++◌, ◌∷◌, IfOk, OnOk, map, flat_map, option_map};
+ghost use Rattle.std.specs.Prelude.{◌≡◌, ◌++◌, IfOk, OnOk, map, flat_map};
 ghost use Rattle.nl_base.specs.declared.rule.Rule.TheVariants.{G4};
 ghost use Rattle.vlog_design.specs.declared.signals.Kind.TheVariants.{Parameter, Instance};
-ghost use Rattle.vlog_design.specs.Names.{clashing, declarations, declared_as, declared_in_header, declared_in_item, declared_params, declared_port};
-ghost use Rattle.vlog_design.specs.Rules.{clash, declared_twice, first_of, refused};
-ghost use Rattle.vlog_rules.specs.Seen.{declaration_of, declarations_of};
+ghost use Rattle.vlog_design.specs.Names.{declarations, declared_as, declared_in_header, declared_in_item, declared_params, declared_port};
+ghost use Rattle.vlog_design.specs.Rules.{declared_twice, first_of, refused};
+ghost use Rattle.vlog_rules.specs.Seen.{declarations_of};
 
-use crate::kinds::Met;
+use crate::noting::first_clash;
 use crate::refusals::refuse;
 use nl_base::{NoMemory, Refusal, Rule, Text};
 use std::alloc::Global;
 use vlog_design::signals::Kind;
 use vlog_values::{Header, ItemV, Module, ParamDecl, ParamSet, PortDecl, VInst};
-
-/// The first declaration that clashes with one before it.
-pub fn first_clash<'a>(
-    alloc: Global,
-    declarations: &[(Kind, &'a [u8])],
-) -> Result<Option<(Kind, &'a [u8])>, NoMemory>
-    ensures { IfOk result (λ found. option_map declaration_of found
-        ≡ first_of (clashing clash [] (declarations_of declarations.now))) }
-{
-    let mut met = Met::nothing(alloc);
-    for declaration in declarations {
-        let (kind, name) = *declaration;
-        let clashes = met.note(kind, name)?;
-        if clashes {
-            return Ok(Some(*declaration));
-        }
-    }
-    Ok(None)
-}
 
 fn push_names<'a>(
     kind: Kind,
@@ -150,10 +131,9 @@ pub fn declared_twice(alloc: Global, m: &Module) -> Result<Option<Refusal>, NoMe
     ensures { IfOk result (λ found. found
         ≡ first_of (map (refused G4 m.now.name) (declared_twice m.now))) }
 {
-    let declarations = declarations_in(alloc, m)?;
-    let clash = first_clash(alloc, &declarations)?;
+    let clash = first_clash(alloc, m)?;
     match clash {
         None => Ok(None),
-        Some(declaration) => Ok(Some(refuse(alloc, Rule::G4, m.name.bytes(), declaration.1)?)),
+        Some(name) => Ok(Some(refuse(alloc, Rule::G4, m.name.bytes(), name)?)),
     }
 }

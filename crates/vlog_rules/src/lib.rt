@@ -7,6 +7,7 @@
 #![tactic(auto)]
 
 pub mod connections;
+pub mod counts;
 pub mod declared;
 pub mod defparams;
 pub mod directions;
@@ -15,6 +16,7 @@ pub mod library;
 pub mod lists;
 pub mod module_rules;
 pub mod modules;
+pub mod noting;
 pub mod passes;
 pub mod redeclared;
 pub mod refusals;
