@@ -1,9 +1,8 @@
 -- What is found in the tables of a file.
-use Rattle.std.proofs.Common.{◌≡◌, ℕ, zero, suc, ◌<◌, ◌≤◌, Bool, true, false, List, [], ◌∷◌, map, length, get_or, slice_get, Option, Some, None, refl, sym, ap, ◌∙◌, subst, arith}
-use Rattle.std.specs.Prelude.{nat_lt, option_map}
-use Rattle.std.proofs.lemmas.Bool.Decides.{nat_tests}
+use Rattle.std.proofs.Common.{◌≡◌, ℕ, zero, suc, ◌<◌, ◌≤◌, Bool, List, [], ◌∷◌, map, length, get_or, slice_get, Option, Some, None, refl, sym, ap, ◌∙◌, arith}
+use Rattle.std.specs.Prelude.{option_map}
 use Rattle.std.proofs.lemmas.Option.{slice_get-get_or, slice_get-map, slice_get_past}
-use Rattle.edif_lookup.specs.Tables.{meaning, meant_by, named}
+use Rattle.edif_lookup.specs.Tables.{meaning, meant_by}
 use Rattle.edif_lookup.specs.declared.definitions.Meaning.TheVariants.{Nothing}
 use Rattle.edif_lookup.proofs.Naming.{meaning-named}
 use Rattle.edif_values.specs.declared.cell.Cell.{Cell}
@@ -11,7 +10,7 @@ use Rattle.edif_values.specs.declared.file.EdifFile.{EdifFile}
 use Rattle.edif_values.specs.declared.library.Library.{Library}
 use Rattle.edif_design.specs.CellRules.{means_view}
 use Rattle.edif_design.specs.Parts.{libraries, numbered}
-use Rattle.edif_design.specs.References.{CellPlace, all_cells, cell_candidates, cells_of_library, file_cells, library_candidates}
+use Rattle.edif_design.specs.References.{CellPlace, cell_candidates, cells_of_library, file_cells, library_candidates}
 use Rattle.edif_design.specs.Tables.{HasTables, library_ident, place_of}
 use Rattle.edif_design.specs.Views.{means_one, view_names}
 use Rattle.edif_design.specs.declared.tables.PlacedCell.{PlacedCell}

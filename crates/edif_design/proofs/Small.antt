@@ -5,11 +5,9 @@ use Rattle.std.specs.List.{cons_option, filter_map, flat_map}
 use Rattle.std.proofs.lemmas.List.{length-append}
 use Rattle.std.proofs.lemmas.List.Sums.{sum_by-cons}
 use Rattle.edif_values.specs.Sizes.{file_item_size, library_item_size, library_size, list_size}
-use Rattle.edif_values.specs.declared.cell.Cell.{Cell}
 use Rattle.edif_values.specs.declared.file.FileItem.{FileItem}
 use Rattle.edif_values.specs.declared.file.FileItem.TheVariants as file_items
 use Rattle.edif_values.specs.declared.library.Library.{Library}
-use Rattle.edif_values.specs.declared.library.LibraryItem.{LibraryItem}
 use Rattle.edif_design.specs.Parts.{cell_in, cells_in, libraries_in, library_in}
 
 one_less : {Y : Type 0} (o : Option Y) (ys : List Y) (n : ℕ) → length ys ≤ n → length (cons_option o ys) ≤ suc n

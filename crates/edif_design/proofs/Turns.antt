@@ -3,7 +3,7 @@ use Rattle.std.proofs.Common.{◌≡◌, ℕ, ◌+◌, ◌<◌, ◌≤◌, List,
 use Rattle.std.specs.Prelude.{option_to_list}
 use Rattle.std.specs.Borrow.{Bor}
 use Rattle.std.specs.List.{cons_option, enumerate_from, filter_map, flat_map}
-use Rattle.std.proofs.lemmas.List.{append-nil, map-append, length-append, length-map, get_or-map}
+use Rattle.std.proofs.lemmas.List.{map-append, length-append, length-map, get_or-map}
 use Rattle.edif_lookup.specs.Tables.{named, written}
 use Rattle.edif_lookup.proofs.ListLaws.{drop_more, enumerate_from-append, filter_map_more}
 use Rattle.edif_values.specs.declared.cell.Cell.{Cell}

@@ -1,10 +1,9 @@
 -- What the identifiers of the views of a cell say of a viewRef is what it means.
-use Rattle.std.proofs.Common.{◌≡◌, ℕ, suc, ◌+◌, ◌<◌, ◌≤◌, Bool, true, false, cond, ◌||◌, ◌==◌, List, [], ◌∷◌, ◌++◌, map, length, take, get_or, Option, Some, None, is_some, filter, refl, sym, ap, ◌∙◌, arith}
-use Rattle.std.specs.Prelude.{nat_lt, option_to_list, slice_get}
+use Rattle.std.proofs.Common.{◌≡◌, ℕ, suc, ◌+◌, ◌<◌, Bool, true, false, cond, ◌||◌, ◌==◌, List, [], ◌∷◌, ◌++◌, map, length, take, get_or, is_some, filter, refl, sym, ap, ◌∙◌, arith}
+use Rattle.std.specs.Prelude.{option_to_list}
 use Rattle.std.specs.Borrow.{Bor}
 use Rattle.std.specs.List.{enumerate_from, filter_map, list_any}
-use Rattle.std.specs.Option.{option_copied}
-use Rattle.std.proofs.lemmas.Bool.{false≢true, ne_eqb}
+use Rattle.std.proofs.lemmas.Bool.{ne_eqb}
 use Rattle.std.proofs.lemmas.List.{map-append, map-id}
 use Rattle.std.proofs.lemmas.Slice.Eq.{bytes_eq-Decides}
 use Rattle.nl_base.specs.Case.{same_bytes, same_up_to_case, small}
@@ -13,10 +12,9 @@ use Rattle.edif_lookup.specs.Tables.{meaning, meant_by, written}
 use Rattle.edif_lookup.proofs.ListLaws.{filter_map_more}
 use Rattle.edif_values.specs.declared.cell.Cell.{Cell}
 use Rattle.edif_values.specs.declared.cell.CellItem.{CellItem}
-use Rattle.edif_values.specs.declared.view.View.{View}
 use Rattle.edif_design.specs.CellRules.{means_view}
 use Rattle.edif_design.specs.Parts.{numbered, view_in, views}
-use Rattle.edif_design.specs.Views.{entry_names, held_names, is_one, means_one, view_ident, view_names}
+use Rattle.edif_design.specs.Views.{entry_names, is_one, means_one, view_ident, view_names}
 
 -- ---- whether a spelling means one of some definitions depends on their names alone
 
@@ -97,24 +95,6 @@ means_only name spelling = by (same_bytes name spelling) (same_up_to_case name s
 pub written_names : (entries : List (ℕ × Bor (List ℕ))) → map (λ entry. entry.1) (written entries) ≡ entry_names entries
 written_names [] = refl
 written_names (entry ∷ entries) = ap (λ names. entry.1.now ∷ names) (written_names entries)
-
--- the names of a table
-pub held_table : (entries : List (ℕ × Bor (List ℕ))) (old new : List (List (ℕ × List ℕ))) (table : List (ℕ × List ℕ)) → old ≡ [] → new ≡ old ++ table ∷ [] → table ≡ written entries → held_names None new ≡ entry_names entries
-held_table entries old new table is_old is_new is_table = ap (held_names None) (is_new ∙ (λ j. is_old j ++ is_table j ∷ [])) ∙ written_names entries
-
--- one name, or none, needs no table
-pub held_few : (entries : List (ℕ × Bor (List ℕ))) (only : Option (Bor (List ℕ))) → length entries ≤ 1 → option_copied only ≡ slice_get (entry_names entries) 0 → held_names only [] ≡ entry_names entries
-held_few [] None few is = refl
-held_few [] (Some name) few is = absurd (let e : Some name.now ≡ None = is in cc)
-held_few (entry ∷ []) None few is = absurd (let e : None ≡ Some entry.1.now = is in cc)
-held_few (entry ∷ []) (Some name) few is = let e : Some name.now ≡ Some entry.1.now = is in let same : name.now ≡ entry.1.now = cc in ap (λ n. n ∷ []) same
-held_few (entry ∷ (other ∷ rest)) only few is = absurd (omega (arith, few))
-
--- the first table says what is meant
-pub first_held : (several : List (List (ℕ × List ℕ))) (table : List (ℕ × List ℕ)) (spelling : List ℕ) → true ≡ nat_lt 0 (length several) → table ≡ get_or several 0 table
-    → is_one (meaning table spelling) ≡ means_one (held_names None several) spelling
-first_held [] table spelling within is = absurd (false≢true (sym within))
-first_held (first ∷ rest) table spelling within is = ap (λ t. is_one (meaning t spelling)) is ∙ means_table first spelling
 
 -- one more of the names of the views of a cell
 pub viewed : (items : List CellItem) (i : ℕ) (x : CellItem) → i < length items → x ≡ get_or items i x → (old new : List (List ℕ)) → old ≡ map view_ident (filter_map view_in (take i items))

@@ -20,7 +20,7 @@ use Rattle.edif_values.specs.declared.file.EdifFile.{EdifFile}
 use Rattle.edif_values.specs.declared.view.ContentsItem.{ContentsItem}
 use Rattle.edif_values.specs.declared.view.ContentsItem.TheVariants as contents_items
 use Rattle.edif_lookup.specs.Candidates.{candidates, the_only}
-use Rattle.edif_design.specs.Parts.{cell_contents, instance_in, instances, net_in, nets, numbered, ports, views}
+use Rattle.edif_design.specs.Parts.{cell_contents, instance_in, instances, net_in, numbered, ports, views}
 use Rattle.edif_design.specs.References.{CellPlace, LinkedCell, cell_candidates, cell_meant, library_candidates, library_meant, linked_cell}
 use Rattle.edif_lookup.specs.Refusals.{broken, broken_reference, if_some, in_order, is_in}
 

@@ -1,5 +1,5 @@
 -- The parts of a file, in the order of the text (EDIF 2 0 0, edif, library, cell, view, interface, contents).
-use Rattle.std.specs.Prelude.{ℕ, List, [], ◌∷◌, Option, Some, None, map}
+use Rattle.std.specs.Prelude.{ℕ, List, [], Option, Some, None}
 use Rattle.std.specs.List.{filter_map, flat_map, enumerate_from}
 use Rattle.edif_values.specs.declared.instance.Instance.{Instance}
 use Rattle.edif_values.specs.declared.net.Net.{Net}

@@ -1,11 +1,13 @@
 -- The identifiers of the views of a cell, and what they say of a viewRef.
-use Rattle.std.specs.Prelude.{ℕ, Bool, true, false, List, [], ◌∷◌, map, Option, Some, None, is_some}
+use Rattle.std.specs.Prelude.{ℕ, Bool, true, false, List, [], ◌∷◌, map, is_some}
 use Rattle.std.specs.Borrow.{Bor}
 use Rattle.edif_lookup.specs.Candidates.{candidates, the_only}
 use Rattle.edif_lookup.specs.declared.definitions.Meaning.{Meaning}
 use Rattle.edif_lookup.specs.declared.definitions.Meaning.TheVariants.{Nothing, One, Several}
 use Rattle.edif_values.specs.declared.cell.Cell.{Cell}
 use Rattle.edif_values.specs.declared.view.View.{View}
+use Rattle.edif_design.specs.declared.views.Held.{Held}
+use Rattle.edif_design.specs.declared.views.Held.TheVariants as held
 use Rattle.edif_design.specs.Parts.{numbered, views}
 
 -- the identifier of a view, and the identifiers of the views of a cell
@@ -19,11 +21,11 @@ view_names cell = map view_ident (views cell)
 abbrev pub entry_names : List (ℕ × Bor (List ℕ)) → List (List ℕ)
 entry_names = map (λ entry. entry.1.now)
 
--- the identifiers that are held: the only one, or those of a table
-abbrev pub held_names : Option (Bor (List ℕ)) → List (List (ℕ × List ℕ)) → List (List ℕ)
-held_names (Some name) tables = name.now ∷ []
-held_names None [] = []
-held_names None (table ∷ rest) = map (λ entry. entry.1) table
+-- the identifiers that are held: none, the only one, or those of a table
+abbrev pub held_names : Held → List (List ℕ)
+held_names held.Nothing = []
+held_names (held.One name) = name.now ∷ []
+held_names (held.Several table) = map (λ entry. entry.1) table.value
 
 -- whether one definition is meant
 abbrev pub is_one : Meaning → Bool

@@ -1,9 +1,8 @@
 // The views of a cell, among which a viewRef is looked up.
-ghost use Rattle.std.specs.Prelude.{◌≡◌, ◌++◌, map, option_to_list, slice_get, IfOk, OnOk};
-ghost use Rattle.std.specs.Option.{option_copied};
+ghost use Rattle.std.specs.Prelude.{◌≡◌, ◌≤◌, ◌++◌, length, map, option_to_list, IfOk, OnOk};
 ghost use Rattle.edif_lookup.specs.Tables.{meaning};
 ghost use Rattle.edif_design.specs.Parts.{view_in};
-ghost use Rattle.edif_design.specs.Views.{entry_names, is_one, means_one, view_ident, view_names};
+ghost use Rattle.edif_design.specs.Views.{entry_names, held_names, is_one, means_one, view_ident, view_names};
 
 use edif_lookup::{Definitions, Meaning};
 use edif_values::{Cell, CellItem};
@@ -11,11 +10,18 @@ use nl_base::{NoMemory, fold_eq};
 use std::alloc::Global;
 use std::marker::Model;
 
-/// The identifiers of the views of a cell. Nearly every cell has one view: that needs no table.
+/// Where the identifiers of the views of a cell are. Nearly every cell has one view: that needs no table.
+#[derive(Drop)]
+enum Held<'a> {
+    Nothing,
+    One(&'a [u8]),
+    Several(Box<Definitions<'a>>),
+}
+
+/// The identifiers of the views of a cell.
 #[derive(Drop)]
 pub struct CellViews<'a> {
-    only: Option<&'a [u8]>,
-    several: Vec<Definitions<'a>>,
+    held: Held<'a>,
 }
 
 impl<'a> Model for CellViews<'a> {
@@ -24,7 +30,7 @@ impl<'a> Model for CellViews<'a> {
 
     ghost Value = { List (List ℕ) };
 
-    ghost view = { λ v. held_names v.only v.several.items };
+    ghost view = { λ v. held_names v.held };
 }
 
 // Adds the identifier of the view that a part of a cell is. It is only asked whether a view is meant, so that its number is always 0.
@@ -70,13 +76,14 @@ fn means_in(alloc: Global, table: &Definitions<'_>, spelling: &[u8]) -> Result<b
     Ok(is_one(found))
 }
 
-// The first of the identifiers in some entries.
-fn first_name<'a>(entries: &[(u32, &'a [u8])]) -> Option<&'a [u8]>
-    ensures { option_copied result ≡ slice_get (entry_names entries.now) 0 }
+// The identifier in some entries, of which there are no two.
+fn held_name<'a>(entries: &[(u32, &'a [u8])]) -> Held<'a>
+    requires { length entries.now ≤ 1 }
+    ensures { held_names result ≡ entry_names entries.now }
 {
-    match entries.get(0) {
-        Some(entry) => Some(entry.1),
-        None => None,
+    match entries {
+        [entry] => Held::One(entry.1),
+        _ => Held::Nothing,
     }
 }
 
@@ -85,16 +92,15 @@ impl<'a> CellViews<'a> {
     fn of(alloc: Global, entries: Vec<(u32, &'a [u8])>) -> Result<CellViews<'a>, NoMemory>
         ensures { IfOk result (λ made. made ≡ entry_names entries.entry.items) }
     {
-        let mut several = Vec::new(alloc);
         if entries.len() > 1 {
-            several.push(Definitions::build(alloc, entries)?)?;
+            let table = Definitions::build(alloc, entries)?;
             return Ok(CellViews {
-                only: None,
-                several,
+                held: Held::Several(Box::new(alloc, table)?),
             });
         }
-        let only = first_name(entries.as_slice());
-        Ok(CellViews { only, several })
+        Ok(CellViews {
+            held: held_name(entries.as_slice()),
+        })
     }
 
     /// The views of a cell.
@@ -110,15 +116,13 @@ impl<'a> CellViews<'a> {
     pub(crate) fn means(&self, alloc: Global, spelling: &[u8]) -> Result<bool, NoMemory>
         ensures { IfOk result (λ means. means ≡ means_one self.now spelling.now) }
     {
-        if let Some(name) = self.only {
-            return Ok(fold_eq(name, spelling));
-        }
-        match self.several.get(0) {
-            Some(table) => {
+        match &self.held {
+            Held::Nothing => Ok(false),
+            Held::One(name) => Ok(fold_eq(*name, spelling)),
+            Held::Several(table) => {
                 let means = means_in(alloc, table, spelling)?;
                 Ok(means)
             }
-            None => Ok(false),
         }
     }
 }

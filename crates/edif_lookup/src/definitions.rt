@@ -2,7 +2,7 @@
 ghost use Rattle.std.specs.Prelude.{◌≡◌, ◌||◌, ℕ, List, [], Some, cond, false, true, is_some, map, IfOk, OnOk};
 ghost use Rattle.nl_base.specs.Case.{same_bytes, small};
 ghost use Rattle.std.specs.Option.{option_copied};
-ghost use Rattle.edif_lookup.specs.Tables.{HoldsSpellings, HoldsSmall, at_small, first_number, is_several, meaning, meant_in, one_more, small_so, spelled_or_several, spelled_so, summary, written};
+ghost use Rattle.edif_lookup.specs.Tables.{HasTables, HoldsSpellings, HoldsSmall, at_small, first_number, is_several, meaning, meant_in, one_more, small_so, spelled_or_several, spelled_so, summary, written};
 
 use crate::keys::{Folded, are_alike};
 use indexmap::IndexMap;
@@ -170,24 +170,59 @@ fn find_among(entries: &[(u32, &[u8])], spelling: &[u8]) -> Meaning
 /// Up to how many definitions are looked through one by one.
 const FEW: usize = 8;
 
-/// A list of definitions, each a number and a spelling, in which references are looked up. A few have no table.
+/// The tables of definitions that are not few.
 #[derive(Drop)]
-pub struct Definitions<'a> {
-    entries: Vec<(u32, &'a [u8])>,
-    few: bool,
+struct Tables<'a> {
     by_spelling: IndexMap<&'a [u8], u32>,
     by_small: IndexMap<Folded<'a>, Alike>,
 }
 
+/// A list of definitions, each a number and a spelling, in which references are looked up. A few have no tables.
+#[derive(Drop)]
+pub struct Definitions<'a> {
+    entries: Vec<(u32, &'a [u8])>,
+    // None, or one. A list, since a borrow in a `Box` is not taken for a shorter one.
+    tables: Vec<Tables<'a>>,
+}
+
 impl<'a> Model for Definitions<'a> {
-    ghost use Rattle.std.specs.Prelude.{◌≡◌, false, List, ℕ};
+    ghost use Rattle.std.specs.Prelude.{IfSome, List, ℕ, slice_get};
     ghost use Rattle.edif_lookup.specs.Tables.{HasTables, written};
 
     ghost Value = { List (ℕ × List ℕ) };
 
     ghost view = { λ d. written d.entries.items };
 
-    ghost invariant = { λ d. d.few ≡ false → HasTables (written d.entries.items) d.by_spelling d.by_small };
+    ghost invariant = { λ d. IfSome (slice_get d.tables.items 0) (λ t. HasTables (written d.entries.items) t.by_spelling t.by_small) };
+}
+
+/// The tables of these definitions.
+fn tables_of<'a>(alloc: Global, entries: &[(u32, &'a [u8])]) -> Result<Tables<'a>, NoMemory>
+    ensures { IfOk result
+        (λ tables. HasTables (written entries.now) tables.by_spelling tables.by_small) }
+{
+    let mut by_small = IndexMap::with_capacity(alloc, entries.len())?;
+    let several = fill_small(&mut by_small, entries)?;
+    let by_spelling = needed_spellings(alloc, entries, several)?;
+    Ok(Tables {
+        by_spelling,
+        by_small,
+    })
+}
+
+impl<'a> Tables<'a> {
+    /// What a reference with this spelling means.
+    fn find(&self, spelling: &[u8]) -> Meaning
+        ensures { (entries : List (ℕ × List ℕ))
+            → HasTables entries self.now.by_spelling self.now.by_small
+            → result ≡ meaning entries spelling.now }
+    {
+        let known = self.by_small.get(&Folded { bytes: spelling });
+        if is_several(known) {
+            return spelled_or_several(self.by_spelling.get(spelling));
+        }
+        meaning_of(known)
+    }
 }
 
 impl<'a> Definitions<'a> {
@@ -198,44 +233,22 @@ impl<'a> Definitions<'a> {
         if entries.len() <= FEW {
             return Ok(Definitions {
                 entries,
-                few: true,
-                by_spelling: IndexMap::new(alloc),
-                by_small: IndexMap::new(alloc),
+                tables: Vec::new(alloc),
             });
         }
-        Definitions::with_tables(alloc, entries)
-    }
-
-    /// The definitions, with tables that are filled.
-    fn with_tables(
-        alloc: Global,
-        entries: Vec<(u32, &'a [u8])>,
-    ) -> Result<Definitions<'a>, NoMemory>
-        ensures { IfOk result (λ definitions. definitions ≡ written entries.entry.items) }
-    {
-        let mut by_small = IndexMap::new(alloc);
-        let several = fill_small(&mut by_small, entries.as_slice())?;
-        let by_spelling = needed_spellings(alloc, entries.as_slice(), several)?;
-        Ok(Definitions {
-            entries,
-            few: false,
-            by_spelling,
-            by_small,
-        })
+        let mut tables = Vec::with_capacity(alloc, 1)?;
+        tables.push(tables_of(alloc, entries.as_slice())?)?;
+        Ok(Definitions { entries, tables })
     }
 
     /// What a reference with this spelling means.
     pub fn find(&self, alloc: Global, spelling: &[u8]) -> Result<Meaning, NoMemory>
         ensures { IfOk result (λ found. found ≡ meaning self.now spelling.now) }
     {
-        if self.few {
-            return Ok(find_among(self.entries.as_slice(), spelling));
+        match self.tables.get(0) {
+            None => Ok(find_among(self.entries.as_slice(), spelling)),
+            Some(tables) => Ok(tables.find(spelling)),
         }
-        let known = self.by_small.get(&Folded { bytes: spelling });
-        if is_several(known) {
-            return Ok(spelled_or_several(self.by_spelling.get(spelling)));
-        }
-        Ok(meaning_of(known))
     }
 }
 

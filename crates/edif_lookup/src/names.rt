@@ -24,12 +24,22 @@ impl<'a> Model for NameSet<'a> {
 }
 
 impl<'a> NameSet<'a> {
+    /// No names; it takes no memory.
     pub fn new(alloc: Global) -> NameSet<'a>
         ensures { (name : List ℕ) → is_in name result ≡ false }
     {
         NameSet {
             set: IndexSet::new(alloc),
         }
+    }
+
+    /// No names, with room for so many.
+    pub fn with_room(alloc: Global, names: usize) -> Result<NameSet<'a>, NoMemory>
+        ensures { IfOk result (λ made. (name : List ℕ) → is_in name made ≡ false) }
+    {
+        Ok(NameSet {
+            set: IndexSet::with_capacity(alloc, names)?,
+        })
     }
 
     /// Notes a name, and answers whether it was there.

@@ -41,10 +41,10 @@ pub(crate) fn first_in_file(
 
 /// The first object of the reached modules that breaks a rule on what statements name, on declarations or on directions, by the names
 /// of all modules.
-pub(crate) fn first_in_reached(
+pub(crate) fn first_in_reached<'a>(
     alloc: Global,
-    names: NameSet,
-    all: &[Module],
+    names: NameSet<'a>,
+    all: &'a [Module],
     modules: &[&Module],
 ) -> Result<Option<Refusal>, NoMemory>
     requires { names ≡ map (λ m. m.name) all.now }

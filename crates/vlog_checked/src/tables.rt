@@ -37,7 +37,7 @@ pub fn scopes_of<'a>(
     requires small { AllByRecursion (λ m. module_size m ≤ 268435456) (modules_of modules.now) }
     ensures { IfOk result (λ scopes. modules_in scopes.items ≡ modules_of modules.now) }
 {
-    let mut scopes = Vec::new(alloc);
+    let mut scopes = Vec::with_capacity(alloc, modules.len())?;
     for m in modules {
         scopes.push(scope_of(alloc, *m)?)?;
     }

@@ -63,11 +63,11 @@ fn unknown_port<'a>(library: &ModulePorts, of: &[u8], conns: &'a Conns) -> Optio
 
 /// Connections by name are to ports that the instance's module has.
 #[derive(Clone, Copy)]
-pub struct UnknownPorts<'a> {
-    pub library: &'a ModulePorts<'a>,
+pub struct UnknownPorts<'a, 'm> {
+    pub library: &'a ModulePorts<'m>,
 }
 
-impl<'a> InstanceRule for UnknownPorts<'a> {
+impl<'a, 'm> InstanceRule for UnknownPorts<'a, 'm> {
     ghost use Rattle.nl_base.specs.declared.rule.Rule.TheVariants.{G9};
     ghost use Rattle.vlog_design.specs.Rules.{unknown_ports_in};
     ghost use Rattle.vlog_design.specs.Tables.{modules_of};
@@ -136,11 +136,11 @@ fn has_extra(library: &ModulePorts, of: &[u8], conns: &Conns) -> bool
 
 /// There are no more connections in order than the instance's module has ports.
 #[derive(Clone, Copy)]
-pub struct ExtraConnections<'a> {
-    pub library: &'a ModulePorts<'a>,
+pub struct ExtraConnections<'a, 'm> {
+    pub library: &'a ModulePorts<'m>,
 }
 
-impl<'a> InstanceRule for ExtraConnections<'a> {
+impl<'a, 'm> InstanceRule for ExtraConnections<'a, 'm> {
     ghost use Rattle.nl_base.specs.declared.rule.Rule.TheVariants.{G11};
     ghost use Rattle.vlog_design.specs.Rules.{extra_connections};
     ghost use Rattle.vlog_design.specs.Tables.{modules_of};

@@ -27,7 +27,7 @@ fn port_sets<'a>(alloc: Global, modules: &[&'a Module]) -> Result<Vec<NameSet<'a
     requires { AreDeclaredOnce (modules_of modules.now) }
     ensures { IfOk result (λ ports. ports.items ≡ map port_names (modules_of modules.now)) }
 {
-    let mut ports = Vec::new(alloc);
+    let mut ports = Vec::with_capacity(alloc, modules.len())?;
     for m in modules {
         ports.push(port_set(alloc, *m)?)?;
     }

@@ -1,4 +1,4 @@
-use Rattle.std.proofs.Common.{◌≡◌, ◌+◌, ◌≤◌, ◌∙◌, ap, sym, length, drop, arith}
+use Rattle.std.proofs.Common.{◌≡◌, ◌≤◌, ◌∙◌, length, arith}
 use Rattle.std.specs.List.{flat_map}
 use Rattle.edif_design.specs.Parts.{cells_in}
 use Rattle.edif_design.specs.Tables.{seen, tables_from}

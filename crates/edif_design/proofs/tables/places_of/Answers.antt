@@ -1,4 +1,4 @@
-use Rattle.std.proofs.Common.{◌≡◌, ◌++◌, ◌∙◌, ap, sym, map, take, arith, get_or}
+use Rattle.std.proofs.Common.{◌++◌, ◌∙◌, ap, sym, map, take, arith}
 use Rattle.edif_design.specs.Parts.{cells_in}
 use Rattle.edif_design.specs.References.{place_in}
 use Rattle.edif_design.specs.Tables.{places_from, seen}

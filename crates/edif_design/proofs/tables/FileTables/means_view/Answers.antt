@@ -1,4 +1,4 @@
-use Rattle.std.proofs.Common.{◌≡◌, ◌<◌, ◌≤◌, length, false, true, ◌∙◌, ap, sym, arith, slice_get, get_or}
+use Rattle.std.proofs.Common.{◌≡◌, length, false, true, ◌∙◌, ap, arith, slice_get, get_or}
 use Rattle.std.specs.Prelude.{nat_lt, option_map}
 use Rattle.std.proofs.lemmas.Bool.Decides.{nat_tests}
 use Rattle.edif_design.specs.CellRules.{means_view}

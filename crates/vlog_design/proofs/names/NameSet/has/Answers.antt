@@ -1,7 +1,6 @@
-use Rattle.std.proofs.Common.{ap, refl, ◌∙◌}
-use Rattle.vlog_design.specs.Names.{has_name}
-use Rattle.vlog_design.proofs.NameSets.{any_name}
+use Rattle.std.proofs.Common.{ap, bytes_eq, is_some, ◌∙◌}
+use Rattle.vlog_design.proofs.NameSets.{any_place}
 use Rattle.vlog_design.proofs.names.NameSet.has.Goals as goal
 
 pub returns : goal.returns
-returns c = c.contains.ensures ∙ (any_name c.self.inside.set.keys _ c.args.name.now (λ k. refl) ∙ ap (λ names. has_name names c.args.name.now) c.self.view_is)
+returns c = c.is_some.ensures ∙ (ap is_some c.place.ensures ∙ any_place (bytes_eq c.args.name.now) c.args.self.now)
