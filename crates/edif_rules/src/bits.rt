@@ -1,5 +1,5 @@
 // The bits that the nets of a cell have.
-ghost use Rattle.std.specs.Prelude.{◌≡◌, ◌||◌, List, [], OnOk, OnErr};
+ghost use Rattle.std.specs.Prelude.{◌≡◌, ◌||◌, List, [], IfOk, OnOk, OnErr};
 ghost use Rattle.std.specs.List.{list_any};
 ghost use Rattle.net_hier.specs.declared.nodes.Node.{Node};
 ghost use Rattle.edif_design.specs.CellRules.{same_node};
@@ -36,13 +36,13 @@ impl Model for TakenBits {
 }
 
 impl TakenBits {
-    /// No bits; it takes no memory.
-    pub fn new(alloc: Global) -> TakenBits
-        ensures { result ≡ [] }
+    /// No bits, with room for so many.
+    pub fn with_room(alloc: Global, bits: usize) -> Result<TakenBits, NoMemory>
+        ensures { IfOk result (λ made. made ≡ []) }
     {
-        TakenBits {
-            set: IndexSet::new(alloc),
-        }
+        Ok(TakenBits {
+            set: IndexSet::with_capacity(alloc, bits)?,
+        })
     }
 
     /// Whether the bit is there.

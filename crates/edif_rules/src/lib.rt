@@ -17,6 +17,7 @@ pub mod parts;
 pub mod port_names;
 pub mod ports;
 pub mod references;
+mod room;
 pub mod sizes;
 pub mod tables;
 pub mod walk;

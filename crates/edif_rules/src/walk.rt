@@ -18,6 +18,7 @@ use crate::joined::meet_joined;
 use crate::parts::instances_of;
 use crate::ports::ports_refusal;
 use crate::references::{NetNames, unbroken};
+use crate::room::room_of;
 use crate::tables::{InstanceTable, PortTable};
 use edif_design::FileTables;
 use edif_lookup::{Meaning, NameSet, lower};
@@ -331,12 +332,13 @@ fn contents_refusal(
         ≡ lowest (in_order (contents_refusals tables.now (place_in home cell.now))
         (cell_contents cell.now))) }
 {
+    let room = room_of(cell);
     let mut met = Met {
         instances: 0,
         renamed: any_renamed(scope.instances.instances()),
         originals: NameSet::new(alloc),
-        nets: NameSet::new(alloc),
-        taken: TakenBits::new(alloc),
+        nets: NameSet::with_room(alloc, room.nets)?,
+        taken: TakenBits::with_room(alloc, room.references)?,
     };
     let found = meet_cell(alloc, tables, scope, home, cell, &mut met)?;
     Ok(found)

@@ -20,6 +20,6 @@ returns c =
       instances_met = refl;
       renamed_is = c.any_renamed.ensures ∙ (any_seen is_renamed c.instances.result.now ∙ ap (list_any is_renamed) (c.instances.ensures ∙ c.requires.scope.instances_are));
       originals_met = λ is name. c.new.ensures name;
-      nets_met = λ name. c.new-2.ensures name;
-      bits_met = λ node. ap (list_any (same_node node)) c.new-3.ensures;
+      nets_met = λ name. c.in_ok-with_room.ensures name;
+      bits_met = λ node. ap (list_any (same_node node)) c.in_ok-with_room-2.ensures;
     })
