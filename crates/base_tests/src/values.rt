@@ -1,7 +1,7 @@
 // Values from outside, and calls that take memory, of which no clause can say that they succeed.
 use nl_base::{
-    Ident, Int, Place, PropValue, Range, Reason, Refusal, Rule, Seq, Text, fold_eq, is_identifier,
-    spell_u64, split_range,
+    BoxedList, Ident, InlineList, Int, OptionalIdent, OptionalInt, OptionalText, Place, PropValue,
+    Range, Reason, Refusal, Rule, Seq, Text, fold_eq, is_identifier, spell_u64, split_range,
 };
 use std::test::Fail;
 
@@ -28,6 +28,59 @@ fn texts_and_lists_take_memory(rt: HostRuntime) -> Result<(), Fail> {
     assert_eq!(rt; texts[1].bytes(), b"p_x".as_slice());
     let numbers = Seq::of([1u32, 2].to_vec(rt.alloc())?);
     assert_eq!(rt; numbers.items(), [1, 2].as_slice());
+    Ok(())
+}
+
+#[test]
+fn lists_of_few(rt: HostRuntime) -> Result<(), Fail> {
+    let mut inline = InlineList::empty();
+    let mut boxed = BoxedList::empty();
+    for want in [
+        [].as_slice(),
+        &[1],
+        &[1, 2],
+        &[1, 2, 3],
+        &[1, 2, 3, 4],
+        &[1, 2, 3, 4, 5],
+    ] {
+        if let [.., last] = want {
+            inline.push(rt.alloc(), *last)?;
+            boxed.push(rt.alloc(), *last)?;
+        }
+        assert_eq!(rt; inline.items(), want);
+        assert_eq!(rt; boxed.items(), want);
+        assert_eq!(rt; inline.len(), want.len());
+        assert_eq!(rt; boxed.len(), want.len());
+        assert_eq!(rt; inline.is_empty(), want.is_empty());
+        assert_eq!(rt; boxed.is_empty(), want.is_empty());
+    }
+    assert_eq!(rt; InlineList::one(7u32).items(), [7].as_slice());
+    Ok(())
+}
+
+#[test]
+fn values_left_out(rt: HostRuntime) -> Result<(), Fail> {
+    assert!(rt; OptionalText::none().bytes().is_none());
+    assert!(rt; !OptionalText::none().is_some());
+    assert!(rt; OptionalIdent::none().bytes().is_none());
+    for bytes in [b"".as_slice(), b"a", b"fourteen_bytes", b"fifteen_bytes__"] {
+        let text = OptionalText::some(Text::copy(rt.alloc(), bytes)?);
+        assert!(rt; text.is_some());
+        assert_eq!(rt; text.bytes(), Some(bytes));
+    }
+    let ident = Ident::check(Text::copy(rt.alloc(), b"q_reg")?)
+        .ok()
+        .ok_or("an Ident")?;
+    assert_eq!(rt;
+        OptionalIdent::some(ident).bytes(),
+        Some(b"q_reg".as_slice())
+    );
+    assert!(rt; OptionalInt::of(None).get().is_none());
+    for number in [0, -1, i64::MAX, -i64::MAX] {
+        let int = Int::check(number).ok_or("an Int")?;
+        let kept = OptionalInt::of(Some(int)).get().ok_or("a number")?;
+        assert_eq!(rt; kept.value(), number);
+    }
     Ok(())
 }
 

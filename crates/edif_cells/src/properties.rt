@@ -51,7 +51,7 @@ fn push_of_port(alloc: Global, props: &mut Seq<HProp>, item: &PortItem) -> Resul
 {
     match item {
         PortItem::Property(property) => {
-            push_property(alloc, props, property)?;
+            push_property(alloc, props, property.get())?;
             Ok(())
         }
         _ => Ok(()),
@@ -158,7 +158,7 @@ fn push_of_view(alloc: Global, props: &mut Seq<HProp>, item: &ViewItem) -> Resul
 {
     match item {
         ViewItem::Property(property) => {
-            push_property(alloc, props, property)?;
+            push_property(alloc, props, property.get())?;
             Ok(())
         }
         _ => Ok(()),

@@ -16,7 +16,7 @@ use edif_library::{contents_item, netlist, read_interface, view_form, view_keywo
 use edif_names::read_name;
 use edif_values::{Keyword, View, same_keyword};
 use edif_writer::{lay_contents_start, lay_view_start, put_close};
-use nl_base::{ReadError, Seq};
+use nl_base::{InlineList, ReadError};
 use nl_io::{Sink, Source};
 use nl_output::Output;
 use std::alloc::Global;
@@ -40,7 +40,7 @@ pub(crate) fn format_view<S: Source, O: Sink>(
         View {
             name,
             interface,
-            items: Seq::empty(alloc),
+            items: InlineList::empty(),
         },
         output,
         sink,

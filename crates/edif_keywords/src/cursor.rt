@@ -1,7 +1,7 @@
 ghost use Rattle.std.specs.Prelude.{◌≡◌, ◌<◌, ◌≤◌, ℕ, length, None, Some, [], IfOk, IfSome, IsSome, IsNone, IsTrue, IsFalse, option_map};
 ghost use Rattle.readers.specs.Parts.{any};
 ghost use Rattle.nl_bytes.specs.Tokens.{IsNear};
-ghost use Rattle.readers.specs.Readers.{same, fault_at, end_fault, spoilt, Reads, Looks, Adds};
+ghost use Rattle.readers.specs.Readers.{same, fault_at, end_fault, spoilt, Reads, Looks};
 ghost use Rattle.grammar.specs.Whole.{proper};
 ghost use Rattle.edif_values.specs.Proper.{IsProper};
 ghost use Rattle.edif_keywords.specs.Calls.{is_unlooked, held_mark, past_mark, held_word, past_word, form_at, form_word, past_form, open_at, answer, left_after};
@@ -10,7 +10,7 @@ ghost use Rattle.edif_keywords.specs.Language.{edif};
 
 use crate::aliases::Aliases;
 use edif_tokens::{FormAt, Found, OpenAt, Tokens};
-use nl_base::{Place, ReadError, Reason, Seq, TextFault};
+use nl_base::{Place, ReadError, Reason, TextFault};
 use nl_io::Source;
 use std::alloc::Global;
 use std::marker::Model;
@@ -303,17 +303,6 @@ impl Cursor {
         match self.ahead.take() {
             Some(found) => self.refuse_at(found.place, found.stop, reason),
             None => unreachable!(),
-        }
-    }
-
-    /// Adds an item to a list. Where memory runs out the cursor is spent from then on, and the list is as before.
-    pub fn add<T: Drop>(&mut self, list: &mut Seq<T>, item: T) -> Result<(), ReadError>
-        requires { IsFalse self.old.spent }
-        ensures { Adds item result self.old self.new list.old list.new }
-    {
-        match list.push(item) {
-            Ok(()) => Ok(()),
-            Err(_) => Err(self.no_memory()),
         }
     }
 

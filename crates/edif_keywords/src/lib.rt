@@ -14,6 +14,7 @@ pub mod comment;
 pub mod cursor;
 pub mod find;
 pub mod header;
+mod lists;
 pub mod next;
 pub mod parts;
 mod reasons;

@@ -15,7 +15,7 @@ use edif_keywords::Cursor;
 use edif_names::{read_name, read_property};
 use edif_status::{read_note, read_status};
 use edif_values::{Keyword, View, ViewItem, same_keyword};
-use nl_base::{ReadError, Seq};
+use nl_base::{InlineList, ReadError};
 use nl_io::Source;
 use std::alloc::Global;
 
@@ -61,7 +61,7 @@ fn view_rest<S: Source>(
     alloc: Global,
     cursor: &mut Cursor,
     source: &mut S,
-) -> Result<Seq<ViewItem>, ReadError>
+) -> Result<InlineList<ViewItem>, ReadError>
     ensures reads { Reads edif same (view_rest []) result cursor.old cursor.new
         (S.supply source.old) (S.supply source.new) }
     ensures value { IfOk result (λ is. AllByRecursion IsViewItem is) }
@@ -69,12 +69,12 @@ fn view_rest<S: Source>(
     ensures size { IfOk result
         (λ is. list_size view_item_size is + room cursor.new < room cursor.old) }
 {
-    let mut items = Seq::empty(alloc);
+    let mut items = InlineList::empty();
     let mut filled = false;
     while cursor.at_form(alloc, source)? {
         let item = view_item(alloc, cursor, filled, source)?;
         filled = is_filled(filled, &item);
-        cursor.add(&mut items, item)?;
+        cursor.add_inline(alloc, &mut items, item)?;
     }
     cursor.finish_form(alloc, source)?;
     Ok(items)
@@ -150,6 +150,7 @@ pub fn view_form<S: Source>(
     }
     if same_keyword(keyword, Keyword::Property) {
         let property = read_property(alloc, cursor, source)?;
+        let property = cursor.boxed(alloc, property)?;
         return Ok(ViewItem::Property(property));
     }
     if same_keyword(keyword, Keyword::Status) {
@@ -157,5 +158,6 @@ pub fn view_form<S: Source>(
         return Ok(ViewItem::Status(status));
     }
     let note = read_note(alloc, cursor, keyword, source)?;
+    let note = cursor.boxed(alloc, note)?;
     Ok(ViewItem::Note(note))
 }

@@ -19,19 +19,17 @@ use edif_values::{
 };
 use net_hier::{ConstName, HCell, HProp};
 use net_live::{add_props, last_values};
-use nl_base::{Ident, NoMemory, Seq};
+use nl_base::{Ident, InlineList, NoMemory, OptionalText, Seq};
 use std::alloc::Global;
 
 /// The parts of a view: its contents, where there are any.
-fn view_items(alloc: Global, contents: Seq<ContentsItem>) -> Result<Seq<ViewItem>, NoMemory>
-    ensures { IfOk result (λ items. items ≡ contents_items_of contents) }
+fn view_items(contents: Seq<ContentsItem>) -> InlineList<ViewItem>
+    ensures { result ≡ contents_items_of contents }
 {
-    let mut items = Seq::empty(alloc);
     if contents.is_empty() {
-        return Ok(items);
+        return InlineList::empty();
     }
-    items.push(ViewItem::Contents(contents))?;
-    Ok(items)
+    InlineList::one(ViewItem::Contents(contents))
 }
 
 /// The view with this interface and these contents.
@@ -48,9 +46,12 @@ fn view_of(
         }) }
 {
     let ident = view_ident(alloc)?;
-    let items = view_items(alloc, contents)?;
+    let items = view_items(contents);
     Ok(View {
-        name: NameDef { ident, text: None },
+        name: NameDef {
+            ident,
+            text: OptionalText::none(),
+        },
         interface,
         items,
     })

@@ -11,7 +11,7 @@ use edif_plans::{Head, Instances, Plan};
 use edif_values::PortRef;
 use net_hier::{HCell, HInst, HPort, Node};
 use net_live::end_count;
-use nl_base::{Ident, Int, NoMemory, Range, Seq};
+use nl_base::{Ident, Int, NoMemory, OptionalIdent, OptionalInt, Range, Seq};
 use std::alloc::Global;
 
 /// A cell that is written, with what its references name.
@@ -95,8 +95,8 @@ fn own_ref(
     let member = member_of(range_of(ports, port), bit);
     Ok(PortRef {
         port: ident,
-        member,
-        instance: None,
+        member: OptionalInt::of(member),
+        instance: OptionalIdent::none(),
     })
 }
 
@@ -125,8 +125,8 @@ fn inner_ref(
     let member = member_of(range_of(ports, port), bit);
     Ok(PortRef {
         port: ident,
-        member,
-        instance: Some(owner),
+        member: OptionalInt::of(member),
+        instance: OptionalIdent::some(owner),
     })
 }
 
@@ -151,8 +151,8 @@ fn scalar_ref(
     let owner = ident_at(alloc, instances, instance)?;
     Ok(PortRef {
         port: ident,
-        member: None,
-        instance: Some(owner),
+        member: OptionalInt::of(None),
+        instance: OptionalIdent::some(owner),
     })
 }
 

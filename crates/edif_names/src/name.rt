@@ -6,7 +6,7 @@ ghost use Rattle.edif_names.specs.Grammar.{renamed, plain, name, array, port_for
 
 use edif_keywords::Cursor;
 use edif_values::{Keyword, NameDef, PortName, same_keyword};
-use nl_base::ReadError;
+use nl_base::{OptionalText, ReadError};
 use nl_io::Source;
 use std::alloc::Global;
 
@@ -44,7 +44,7 @@ fn renamed<S: Source>(
     cursor.finish_form(alloc, source)?;
     Ok(NameDef {
         ident,
-        text: Some(text),
+        text: OptionalText::some(text),
     })
 }
 
@@ -59,7 +59,10 @@ fn plain<S: Source>(
     ensures value { IfOk result IsNameDef }
 {
     let ident = cursor.word(alloc, source)?;
-    Ok(NameDef { ident, text: None })
+    Ok(NameDef {
+        ident,
+        text: OptionalText::none(),
+    })
 }
 
 /// Reads the name of a port: a name, or an `array` with a name and a size.

@@ -9,7 +9,7 @@ use crate::name::read_name;
 use crate::value::read_value;
 use edif_keywords::{Cursor, read_comment};
 use edif_values::{Keyword, PropTail, Property, same_keyword};
-use nl_base::{ReadError, Seq};
+use nl_base::{BoxedList, ReadError};
 use nl_io::Source;
 use std::alloc::Global;
 
@@ -36,16 +36,16 @@ fn read_tails<S: Source>(
     alloc: Global,
     cursor: &mut Cursor,
     source: &mut S,
-) -> Result<Seq<PropTail>, ReadError>
+) -> Result<BoxedList<PropTail>, ReadError>
     ensures reads { Reads edif same (tails []) result cursor.old cursor.new
         (S.supply source.old) (S.supply source.new) }
     ensures value { IfOk result ArePropTails }
     ensures size { IfOk result (λ ts. list_size tail_size ts + room cursor.new < room cursor.old) }
 {
-    let mut tail = Seq::empty(alloc);
+    let mut tail = BoxedList::empty();
     while cursor.at_form(alloc, source)? {
         let item = tail_item(alloc, cursor, source)?;
-        cursor.add(&mut tail, item)?;
+        cursor.add_boxed(alloc, &mut tail, item)?;
     }
     cursor.finish_form(alloc, source)?;
     Ok(tail)

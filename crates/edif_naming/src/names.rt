@@ -10,7 +10,7 @@ ghost use Rattle.edif_written.specs.Sound.{IsShort};
 use edif_values::{NameDef, PortName};
 use itoa::Buffer;
 use net_hier::HPort;
-use nl_base::{Ident, Int, NoMemory, Range, Text};
+use nl_base::{Ident, Int, NoMemory, OptionalText, Range, Text};
 use std::alloc::Global;
 
 /// The most bytes of a range in brackets.
@@ -32,12 +32,15 @@ pub(crate) fn name_by(alloc: Global, ident: Ident, name: &[u8]) -> Result<NameDe
     ensures word { IsWord ident }
 {
     if ident.bytes() == name {
-        return Ok(NameDef { ident, text: None });
+        return Ok(NameDef {
+            ident,
+            text: OptionalText::none(),
+        });
     }
     let text = Text::copy(alloc, name)?;
     Ok(NameDef {
         ident,
-        text: Some(text),
+        text: OptionalText::some(text),
     })
 }
 
@@ -57,7 +60,10 @@ pub(crate) fn name_told(
     if is_own {
         // That an identifier is a word is a clause of `bytes`.
         let _bytes = ident.bytes();
-        return Ok(NameDef { ident, text: None });
+        return Ok(NameDef {
+            ident,
+            text: OptionalText::none(),
+        });
     }
     name_by(alloc, ident, name)
 }
@@ -125,7 +131,7 @@ fn array_named(
     let text = array_text(alloc, name, range)?;
     let name = NameDef {
         ident,
-        text: Some(text),
+        text: OptionalText::some(text),
     };
     Ok(PortName::Array(name, Int::signed(false, range.bits())))
 }

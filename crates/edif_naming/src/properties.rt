@@ -10,7 +10,7 @@ use crate::names::{copied, name_told};
 use edif_spaces::idents_of;
 use edif_values::Property;
 use net_hier::HProp;
-use nl_base::{Ident, NoMemory, PropValue, Seq, Text};
+use nl_base::{BoxedList, Ident, NoMemory, PropValue, Seq, Text};
 use std::alloc::Global;
 
 /// A value like this one.
@@ -46,7 +46,7 @@ pub(crate) fn property_by(
     Ok(Property {
         name,
         value,
-        tail: Seq::empty(alloc),
+        tail: BoxedList::empty(),
     })
 }
 

@@ -12,7 +12,7 @@ use edif_keywords::Cursor;
 use edif_names::{read_name, read_property};
 use edif_status::read_note;
 use edif_values::{Instance, InstanceItem, Keyword, same_keyword};
-use nl_base::{Ident, ReadError, Seq};
+use nl_base::{Ident, OptionalIdent, ReadError, Seq};
 use nl_io::Source;
 use std::alloc::Global;
 
@@ -46,7 +46,7 @@ fn view_ref<S: Source>(
     alloc: Global,
     cursor: &mut Cursor,
     source: &mut S,
-) -> Result<(Ident, Ident, Option<Ident>), ReadError>
+) -> Result<(Ident, Ident, OptionalIdent), ReadError>
     ensures reads { Reads edif same view_ref result cursor.old cursor.new
         (S.supply source.old) (S.supply source.new) }
     ensures value { IfOk result (λ v. IsWord v.0 × IsWord v.1 × IfSome v.2 IsWord) }
@@ -64,7 +64,7 @@ fn cell_ref<S: Source>(
     alloc: Global,
     cursor: &mut Cursor,
     source: &mut S,
-) -> Result<(Ident, Option<Ident>), ReadError>
+) -> Result<(Ident, OptionalIdent), ReadError>
     ensures reads { Reads edif same cell_ref result cursor.old cursor.new
         (S.supply source.old) (S.supply source.new) }
     ensures value { IfOk result (λ c. IsWord c.0 × IfSome c.1 IsWord) }
@@ -81,7 +81,7 @@ fn maybe_library<S: Source>(
     alloc: Global,
     cursor: &mut Cursor,
     source: &mut S,
-) -> Result<Option<Ident>, ReadError>
+) -> Result<OptionalIdent, ReadError>
     ensures reads { Reads edif same maybe_library result cursor.old cursor.new
         (S.supply source.old) (S.supply source.new) }
     ensures value { IfOk result (λ l. IfSome l IsWord) }
@@ -99,7 +99,7 @@ fn library_named<S: Source>(
     alloc: Global,
     cursor: &mut Cursor,
     source: &mut S,
-) -> Result<Option<Ident>, ReadError>
+) -> Result<OptionalIdent, ReadError>
     ensures reads { Reads edif same library_named result cursor.old cursor.new
         (S.supply source.old) (S.supply source.new) }
     ensures value { IfOk result (λ l. IfSome l IsWord) }
@@ -107,7 +107,7 @@ fn library_named<S: Source>(
     let library = cursor.word(alloc, source)?;
     cursor.finish_form(alloc, source)?;
     cursor.finish_form(alloc, source)?;
-    Ok(Some(library))
+    Ok(OptionalIdent::some(library))
 }
 
 #[tactic(auto, using(readers::proofs::Reading::sequences), unfolding(crate::specs::Grammar::no_library))]
@@ -115,13 +115,13 @@ fn no_library<S: Source>(
     alloc: Global,
     cursor: &mut Cursor,
     source: &mut S,
-) -> Result<Option<Ident>, ReadError>
+) -> Result<OptionalIdent, ReadError>
     ensures reads { Reads edif same no_library result cursor.old cursor.new
         (S.supply source.old) (S.supply source.new) }
     ensures value { IfOk result (λ l. IfSome l IsWord) }
 {
     cursor.finish_form(alloc, source)?;
-    Ok(None)
+    Ok(OptionalIdent::none())
 }
 
 #[tactic(auto, using(edif_keywords::proofs::Collected::item_lists), unfolding(crate::specs::Grammar::instance_rest))]

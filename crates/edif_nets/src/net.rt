@@ -11,7 +11,7 @@ use edif_keywords::Cursor;
 use edif_names::{read_name, read_property};
 use edif_status::read_note;
 use edif_values::{Keyword, Net, NetItem, PortRef, same_keyword};
-use nl_base::{Ident, Int, ReadError, Seq};
+use nl_base::{Ident, Int, OptionalIdent, OptionalInt, ReadError, Seq};
 use nl_io::Source;
 use std::alloc::Global;
 
@@ -104,7 +104,7 @@ fn port_ref<S: Source>(
     let instance = maybe_instance(alloc, cursor, source)?;
     Ok(PortRef {
         port,
-        member,
+        member: OptionalInt::of(member),
         instance,
     })
 }
@@ -164,7 +164,7 @@ fn maybe_instance<S: Source>(
     alloc: Global,
     cursor: &mut Cursor,
     source: &mut S,
-) -> Result<Option<Ident>, ReadError>
+) -> Result<OptionalIdent, ReadError>
     ensures reads { Reads edif same maybe_instance result cursor.old cursor.new
         (S.supply source.old) (S.supply source.new) }
     ensures value { IfOk result (λ l. IfSome l IsWord) }
@@ -182,7 +182,7 @@ fn instance_named<S: Source>(
     alloc: Global,
     cursor: &mut Cursor,
     source: &mut S,
-) -> Result<Option<Ident>, ReadError>
+) -> Result<OptionalIdent, ReadError>
     ensures reads { Reads edif same instance_named result cursor.old cursor.new
         (S.supply source.old) (S.supply source.new) }
     ensures value { IfOk result (λ l. IfSome l IsWord) }
@@ -190,7 +190,7 @@ fn instance_named<S: Source>(
     let instance = cursor.word(alloc, source)?;
     cursor.finish_form(alloc, source)?;
     cursor.finish_form(alloc, source)?;
-    Ok(Some(instance))
+    Ok(OptionalIdent::some(instance))
 }
 
 #[tactic(auto, using(readers::proofs::Reading::sequences), unfolding(crate::specs::Grammar::no_instance))]
@@ -198,13 +198,13 @@ fn no_instance<S: Source>(
     alloc: Global,
     cursor: &mut Cursor,
     source: &mut S,
-) -> Result<Option<Ident>, ReadError>
+) -> Result<OptionalIdent, ReadError>
     ensures reads { Reads edif same no_instance result cursor.old cursor.new
         (S.supply source.old) (S.supply source.new) }
     ensures value { IfOk result (λ l. IfSome l IsWord) }
 {
     cursor.finish_form(alloc, source)?;
-    Ok(None)
+    Ok(OptionalIdent::none())
 }
 
 #[tactic(auto, using(edif_keywords::proofs::Collected::item_lists), unfolding(crate::specs::Grammar::net_rest))]

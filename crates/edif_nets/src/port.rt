@@ -12,7 +12,7 @@ use edif_keywords::Cursor;
 use edif_names::{read_port_name, read_property};
 use edif_status::read_note;
 use edif_values::{Keyword, Port, PortItem, same_keyword};
-use nl_base::{Dir, ReadError, Seq, Text};
+use nl_base::{Dir, InlineList, ReadError, Text};
 use nl_io::Source;
 use std::alloc::Global;
 
@@ -54,19 +54,19 @@ fn port_rest<S: Source>(
     alloc: Global,
     cursor: &mut Cursor,
     source: &mut S,
-) -> Result<Seq<PortItem>, ReadError>
+) -> Result<InlineList<PortItem>, ReadError>
     ensures reads { Reads edif same (port_rest []) result cursor.old cursor.new
         (S.supply source.old) (S.supply source.new) }
     ensures value { IfOk result ArePortItems }
     ensures size { IfOk result
         (λ is. list_size port_item_size is + room cursor.new < room cursor.old) }
 {
-    let mut items = Seq::empty(alloc);
+    let mut items = InlineList::empty();
     let mut directed = false;
     while cursor.at_form(alloc, source)? {
         let item = port_item(alloc, cursor, directed, source)?;
         directed = is_directed(directed, &item);
-        cursor.add(&mut items, item)?;
+        cursor.add_inline(alloc, &mut items, item)?;
     }
     cursor.finish_form(alloc, source)?;
     Ok(items)
@@ -110,6 +110,7 @@ fn port_form<S: Source>(
     }
     if same_keyword(keyword, Keyword::Property) {
         let property = read_property(alloc, cursor, source)?;
+        let property = cursor.boxed(alloc, property)?;
         return Ok(PortItem::Property(property));
     }
     if same_keyword(keyword, Keyword::Designator) {
@@ -117,6 +118,7 @@ fn port_form<S: Source>(
         return Ok(PortItem::Designator(text));
     }
     let note = read_note(alloc, cursor, keyword, source)?;
+    let note = cursor.boxed(alloc, note)?;
     Ok(PortItem::Note(note))
 }
 

@@ -11,7 +11,7 @@ ghost use Rattle.edif_parts.specs.Instances.{instance_for};
 
 use edif_naming::{copied, named};
 use edif_values::{Instance, InstanceItem, Property};
-use nl_base::{Ident, NoMemory, Seq, Text};
+use nl_base::{Ident, NoMemory, OptionalIdent, Seq, Text};
 use std::alloc::Global;
 
 /// The parts of an instance: its properties.
@@ -63,7 +63,7 @@ fn instance_with(
         name,
         view,
         cell,
-        library: Some(library),
+        library: OptionalIdent::some(library),
         items,
     })
 }

@@ -16,20 +16,23 @@ ghost use Rattle.edif_plans.specs.Sound.{IsSoundPort};
 use edif_naming::{last_properties, port_named};
 use edif_values::{InterfaceItem, Port, PortItem, PortName, Property};
 use net_hier::HPort;
-use nl_base::{Dir, Ident, NoMemory, Seq};
+use nl_base::{Boxed, Dir, Ident, InlineList, NoMemory, Seq};
 use std::alloc::Global;
 
 /// The parts of a port: its direction and its properties.
-fn port_items(alloc: Global, dir: Dir, properties: Vec<Property>) -> Result<Seq<PortItem>, NoMemory>
+fn port_items(
+    alloc: Global,
+    dir: Dir,
+    properties: Vec<Property>,
+) -> Result<InlineList<PortItem>, NoMemory>
     ensures { IfOk result (λ items. items
         ≡ port_items.Direction dir ∷ map port_items.Property properties.items) }
 {
-    let mut items = Vec::with_capacity(alloc, properties.len().saturating_add(1))?;
-    items.push(PortItem::Direction(dir))?;
+    let mut items = InlineList::one(PortItem::Direction(dir));
     for property in properties {
-        items.push(PortItem::Property(property))?;
+        items.push(alloc, PortItem::Property(Boxed::new(alloc, property)?))?;
     }
-    Ok(Seq::of(items))
+    Ok(items)
 }
 
 /// The properties of a port, the last value of each name.

@@ -15,10 +15,7 @@ use std::alloc::Global;
 fn library_named(instance: &Instance) -> Option<&[u8]>
     ensures { option_copied result ≡ instance.now.library }
 {
-    match &instance.library {
-        Some(library) => Some(library.bytes()),
-        None => None,
-    }
+    instance.library.bytes()
 }
 
 /// The numbers of the cells that the instances of a cell in this library are of.
@@ -32,7 +29,7 @@ pub(crate) fn numbers_meant(
         ≡ numbers_meant tables.now (place_in library cell.now)) }
 {
     let instances = instances_of(alloc, cell)?;
-    let mut numbers = Vec::new(alloc);
+    let mut numbers = Vec::with_capacity(alloc, instances.len())?;
     for instance in instances.as_slice() {
         let named = library_named(instance);
         let linked = tables.link(alloc, library, b"", named, instance.cell.bytes())?;
@@ -69,7 +66,7 @@ fn those_meant(alloc: Global, numbers: &[Option<u32>]) -> Result<Seq<u32>, NoMem
 pub(crate) fn graph_of(alloc: Global, tables: &FileTables<'_>) -> Result<Vec<Seq<u32>>, NoMemory>
     ensures { IfOk result (λ graph. graph.items ≡ cells_below tables.now) }
 {
-    let mut graph = Vec::new(alloc);
+    let mut graph = Vec::with_capacity(alloc, tables.places().len())?;
     for place in tables.places() {
         let numbers = numbers_meant(alloc, tables, place.library, place.cell)?;
         graph.push(those_meant(alloc, numbers.as_slice())?)?;

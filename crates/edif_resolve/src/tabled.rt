@@ -51,7 +51,7 @@ fn port_tables_of<'a>(
     requires { edif_size tables.now ≤ count_limit }
     ensures { IfOk result (λ port_tables. port_tables.items ≡ map ports (file_cells tables.now)) }
 {
-    let mut port_tables = Vec::new(alloc);
+    let mut port_tables = Vec::with_capacity(alloc, tables.places().len())?;
     for place in tables.places() {
         port_tables.push(PortTable::of(alloc, place.cell)?)?;
     }

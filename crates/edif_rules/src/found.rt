@@ -85,14 +85,14 @@ fn find_inner(
 fn find_by_instance(
     alloc: Global,
     scope: &CellScope<'_, '_>,
-    instance: &Ident,
+    instance: &[u8],
     spelling: &Ident,
 ) -> Result<Target, NoMemory>
     ensures { IfOk result (λ found. found
         ≡ found_by (lists_of scope.now) spelling.now
         (instances_meaning (lists_of scope.now).instances instance.now)) }
 {
-    match scope.instances.find(alloc, instance.bytes())? {
+    match scope.instances.find(alloc, instance)? {
         Meaning::Nothing => Ok(Target::NoInstance),
         Meaning::Several => Ok(Target::SeveralInstances),
         Meaning::One(number) => {
@@ -110,7 +110,7 @@ pub fn find_port(
 ) -> Result<Target, NoMemory>
     ensures { IfOk result (λ found. found ≡ found_of (lists_of scope.now) reference.now) }
 {
-    match &reference.instance {
+    match reference.instance.bytes() {
         None => {
             let found = find_in(alloc, scope.own, None, &reference.port)?;
             Ok(found)
@@ -150,7 +150,7 @@ pub fn instance_name<'a>(scope: &CellScope<'a, '_>, instance: Option<u32>) -> Op
 pub fn member_of(reference: &PortRef) -> Option<i64>
     ensures { result ≡ reference.now.member }
 {
-    match reference.member {
+    match reference.member.get() {
         None => None,
         Some(member) => Some(member.value()),
     }

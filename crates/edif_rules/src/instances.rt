@@ -64,10 +64,7 @@ fn view_refusal(
 fn library_of(instance: &Instance) -> Option<&[u8]>
     ensures { option_copied result ≡ instance.now.library }
 {
-    match &instance.library {
-        None => None,
-        Some(library) => Some(library.bytes()),
-    }
+    instance.library.bytes()
 }
 
 /// The refusal of an instance in the cell of this name and in the library of this number, by whether an earlier instance has its identifier,

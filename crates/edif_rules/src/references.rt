@@ -14,7 +14,7 @@ use crate::port_names::{name_and_indexes, port_name, port_size};
 use crate::sizes::bit_of;
 use edif_lookup::{one_name, refusal, two_names};
 use edif_values::{Port, PortRef};
-use nl_base::{Ident, NoMemory, Refusal, Rule, Seq, Text};
+use nl_base::{Ident, NoMemory, OptionalIdent, Refusal, Rule, Seq, Text};
 use std::alloc::Global;
 
 /// The original names of a net and of its cell.
@@ -50,16 +50,16 @@ pub(crate) fn unbroken() -> Option<Refusal>
 fn no_instance(
     alloc: Global,
     names: &NetNames<'_>,
-    spelling: &Option<Ident>,
+    spelling: &OptionalIdent,
 ) -> Result<Option<Refusal>, NoMemory>
     ensures { IfOk result (λ found. found
         ≡ lowest (if_some spelling.now
         (λ s. broken true Rule.E7 names.now.cell.now (names.now.net.now ∷ (s ∷ []))))) }
 {
-    match spelling {
+    match spelling.bytes() {
         None => Ok(unbroken()),
         Some(spelling) => {
-            let told = two_names(alloc, names.net, spelling.bytes())?;
+            let told = two_names(alloc, names.net, spelling)?;
             let found = refused(alloc, Rule::E7, names.cell, told)?;
             Ok(found)
         }
@@ -70,15 +70,15 @@ fn no_instance(
 fn several_instances(
     alloc: Global,
     names: &NetNames<'_>,
-    spelling: &Option<Ident>,
+    spelling: &OptionalIdent,
 ) -> Result<Option<Refusal>, NoMemory>
     ensures { IfOk result (λ found. found
         ≡ lowest (if_some spelling.now (λ s. broken true Rule.E6 names.now.cell.now (s ∷ [])))) }
 {
-    match spelling {
+    match spelling.bytes() {
         None => Ok(unbroken()),
         Some(spelling) => {
-            let told = one_name(alloc, spelling.bytes())?;
+            let told = one_name(alloc, spelling)?;
             let found = refused(alloc, Rule::E6, names.cell, told)?;
             Ok(found)
         }

@@ -2,7 +2,7 @@
 use crate::name::NameDef;
 use crate::note::Note;
 use crate::property::Property;
-use nl_base::{Ident, Seq, Text};
+use nl_base::{Ident, OptionalIdent, Seq, Text};
 
 /// A part of an instance behind its reference.
 #[derive(Drop)]
@@ -18,6 +18,6 @@ pub struct Instance {
     pub name: NameDef,
     pub view: Ident,
     pub cell: Ident,
-    pub library: Option<Ident>,
+    pub library: OptionalIdent,
     pub items: Seq<InstanceItem>,
 }

@@ -2,14 +2,14 @@
 use crate::name::NameDef;
 use crate::note::Note;
 use crate::property::Property;
-use nl_base::{Ident, Int, Seq};
+use nl_base::{Ident, OptionalIdent, OptionalInt, Seq};
 
 /// A reference to a port, or to a member of an array of ports, of the cell or of an instance (EDIF 2 0 0, portRef, member, instanceRef).
 #[derive(Drop)]
 pub struct PortRef {
     pub port: Ident,
-    pub member: Option<Int>,
-    pub instance: Option<Ident>,
+    pub member: OptionalInt,
+    pub instance: OptionalIdent,
 }
 
 /// A part of a net behind what it joins.

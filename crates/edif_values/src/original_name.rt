@@ -9,8 +9,8 @@ use nl_base::{Range, split_range};
 pub fn original(name: &NameDef) -> &[u8]
     ensures { result.now ≡ original name.now }
 {
-    match &name.text {
-        Some(text) => text.bytes(),
+    match name.text.bytes() {
+        Some(text) => text,
         None => name.ident.bytes(),
     }
 }

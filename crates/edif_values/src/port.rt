@@ -2,20 +2,20 @@
 use crate::name::PortName;
 use crate::note::Note;
 use crate::property::Property;
-use nl_base::{Dir, Seq, Text};
+use nl_base::{Boxed, Dir, InlineList, Text};
 
 /// A part of a port behind its name. A port has at most one direction; designators are kept and mean nothing.
 #[derive(Drop)]
 pub enum PortItem {
     Direction(Dir),
-    Property(Property),
+    Property(Boxed<Property>),
     Designator(Text),
-    Note(Note),
+    Note(Boxed<Note>),
 }
 
 /// A port of a cell (EDIF 2 0 0, port).
 #[derive(Drop)]
 pub struct Port {
     pub name: PortName,
-    pub items: Seq<PortItem>,
+    pub items: InlineList<PortItem>,
 }

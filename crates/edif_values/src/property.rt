@@ -1,6 +1,6 @@
 // Properties of objects (EDIF 2 0 0, property).
 use crate::name::NameDef;
-use nl_base::{PropValue, Seq, Text};
+use nl_base::{BoxedList, PropValue, Seq, Text};
 
 /// What may follow the value of a property.
 #[derive(Drop)]
@@ -14,5 +14,5 @@ pub enum PropTail {
 pub struct Property {
     pub name: NameDef,
     pub value: PropValue,
-    pub tail: Seq<PropTail>,
+    pub tail: BoxedList<PropTail>,
 }

@@ -142,8 +142,8 @@ impl HasLists for PortItem {
     fn count(&self) -> u64 {
         match self {
             PortItem::Direction(_) | PortItem::Designator(_) => 0,
-            PortItem::Property(property) => property.count(),
-            PortItem::Note(note) => note.count(),
+            PortItem::Property(property) => property.get().count(),
+            PortItem::Note(note) => note.get().count(),
         }
     }
 }
@@ -226,9 +226,9 @@ impl HasLists for ViewItem {
     fn count(&self) -> u64 {
         match self {
             ViewItem::Contents(items) => count_list(items.items()),
-            ViewItem::Property(property) => property.count(),
+            ViewItem::Property(property) => property.get().count(),
             ViewItem::Status(status) => status.count(),
-            ViewItem::Note(note) => note.count(),
+            ViewItem::Note(note) => note.get().count(),
         }
     }
 }

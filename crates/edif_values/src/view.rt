@@ -6,7 +6,7 @@ use crate::note::Note;
 use crate::port::Port;
 use crate::property::Property;
 use crate::status::Status;
-use nl_base::{Seq, Text};
+use nl_base::{Boxed, InlineList, Seq, Text};
 
 /// A part of an interface.
 #[derive(Drop)]
@@ -29,9 +29,9 @@ pub enum ContentsItem {
 #[derive(Drop)]
 pub enum ViewItem {
     Contents(Seq<ContentsItem>),
-    Property(Property),
+    Property(Boxed<Property>),
     Status(Status),
-    Note(Note),
+    Note(Boxed<Note>),
 }
 
 /// A view of a cell, of the type NETLIST (EDIF 2 0 0, view, interface, contents).
@@ -39,5 +39,5 @@ pub enum ViewItem {
 pub struct View {
     pub name: NameDef,
     pub interface: Seq<InterfaceItem>,
-    pub items: Seq<ViewItem>,
+    pub items: InlineList<ViewItem>,
 }

@@ -91,9 +91,9 @@ impl OnLines for ViewItem {
     fn lay<O: Sink>(&self, indent: usize, output: &mut Output, sink: &mut O) {
         match self {
             ViewItem::Contents(items) => lay_contents(items, indent, output, sink),
-            ViewItem::Property(property) => lay_property(property, indent, output, sink),
+            ViewItem::Property(property) => lay_property(property.get(), indent, output, sink),
             ViewItem::Status(status) => status.lay(indent, output, sink),
-            ViewItem::Note(note) => write_line(note, indent, output, sink),
+            ViewItem::Note(note) => write_line(note.get(), indent, output, sink),
         }
     }
 }

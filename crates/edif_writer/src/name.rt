@@ -16,13 +16,13 @@ impl OnLine for NameDef {
     ghost form = { name_form };
 
     fn write<O: Sink>(&self, output: &mut Output, sink: &mut O) {
-        match &self.text {
+        match self.text.bytes() {
             None => self.ident.write(output, sink),
             Some(text) => {
                 output.put(b"(rename ", sink);
                 self.ident.write(output, sink);
                 output.put(b" \"", sink);
-                write_runs(text.bytes(), output, sink);
+                write_runs(text, output, sink);
                 output.put(b"\")", sink);
             }
         }
@@ -35,7 +35,7 @@ pub(crate) fn write_name_line<O: Sink>(name: &NameDef, output: &mut Output, sink
     ensures { Puts (λ rest. inline (name_form name.now) (10 ∷ rest))
         (state O.receipt sink.old output.old) (state O.receipt sink.new output.new) }
 {
-    match &name.text {
+    match name.text.bytes() {
         None => {
             name.ident.write(output, sink);
             output.put(b"\n", sink);
@@ -44,7 +44,7 @@ pub(crate) fn write_name_line<O: Sink>(name: &NameDef, output: &mut Output, sink
             output.put(b"(rename ", sink);
             name.ident.write(output, sink);
             output.put(b" \"", sink);
-            write_runs(text.bytes(), output, sink);
+            write_runs(text, output, sink);
             output.put(b"\")\n", sink);
         }
     }

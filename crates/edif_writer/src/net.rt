@@ -10,7 +10,7 @@ use crate::forms::{
 };
 use crate::name::lay_property;
 use edif_values::{Instance, InstanceItem, Net, NetItem, Port, PortItem, PortRef};
-use nl_base::{Dir, Ident, Int, Text};
+use nl_base::{Dir, Ident, Int, OptionalIdent, Text};
 use nl_io::Sink;
 use nl_output::Output;
 
@@ -42,9 +42,9 @@ impl OnLine for PortItem {
     fn write<O: Sink>(&self, output: &mut Output, sink: &mut O) {
         match self {
             PortItem::Direction(dir) => write_direction(*dir, output, sink),
-            PortItem::Property(property) => property.write(output, sink),
+            PortItem::Property(property) => property.get().write(output, sink),
             PortItem::Designator(text) => write_designator(text, output, sink),
-            PortItem::Note(note) => note.write(output, sink),
+            PortItem::Note(note) => note.get().write(output, sink),
         }
     }
 }
@@ -62,11 +62,11 @@ impl OnLine for Port {
 
 /// The cell of which an instance is, of a library if one is named, at the end of its line.
 #[inline(always)]
-fn end_view_ref<O: Sink>(cell: &Ident, library: &Option<Ident>, output: &mut Output, sink: &mut O)
+fn end_view_ref<O: Sink>(cell: &Ident, library: &OptionalIdent, output: &mut Output, sink: &mut O)
     ensures { Puts (λ rest. 32 ∷ inline (cell_ref_form cell.now library.now) (41 ∷ 10 ∷ rest))
         (state O.receipt sink.old output.old) (state O.receipt sink.new output.new) }
 {
-    match library {
+    match library.bytes() {
         None => {
             output.put(b" (cellRef ", sink);
             cell.write(output, sink);
@@ -76,7 +76,7 @@ fn end_view_ref<O: Sink>(cell: &Ident, library: &Option<Ident>, output: &mut Out
             output.put(b" (cellRef ", sink);
             cell.write(output, sink);
             output.put(b" (libraryRef ", sink);
-            library.write(output, sink);
+            output.put(library, sink);
             output.put(b")))\n", sink);
         }
     }
@@ -134,8 +134,8 @@ impl OnLines for Instance {
 
 /// A port, or a member of an array of ports.
 #[inline(always)]
-fn write_member<O: Sink>(port: &Ident, member: &Option<Int>, output: &mut Output, sink: &mut O)
-    ensures { Puts (inline (member_form port.now member.now))
+fn write_member<O: Sink>(port: &Ident, member: Option<Int>, output: &mut Output, sink: &mut O)
+    ensures { Puts (inline (member_form port.now member))
         (state O.receipt sink.old output.old) (state O.receipt sink.new output.new) }
 {
     match member {
@@ -151,28 +151,28 @@ fn write_member<O: Sink>(port: &Ident, member: &Option<Int>, output: &mut Output
 }
 
 /// A reference to an instance, after a blank, if one is named.
-fn write_instance_ref<O: Sink>(instance: &Option<Ident>, output: &mut Output, sink: &mut O)
+fn write_instance_ref<O: Sink>(instance: &OptionalIdent, output: &mut Output, sink: &mut O)
     ensures { Puts (spaced (instance_ref_forms instance.now))
         (state O.receipt sink.old output.old) (state O.receipt sink.new output.new) }
 {
-    if let Some(name) = instance {
+    if let Some(name) = instance.bytes() {
         output.put(b" (instanceRef ", sink);
-        name.write(output, sink);
+        output.put(name, sink);
         output.put(b")", sink);
     }
 }
 
 /// A reference to an instance, after a blank, if one is named, at the end of the line of a reference to a port.
 #[inline(always)]
-fn end_port_ref<O: Sink>(instance: &Option<Ident>, output: &mut Output, sink: &mut O)
+fn end_port_ref<O: Sink>(instance: &OptionalIdent, output: &mut Output, sink: &mut O)
     ensures { Puts (λ rest. spaced (instance_ref_forms instance.now) (41 ∷ 10 ∷ rest))
         (state O.receipt sink.old output.old) (state O.receipt sink.new output.new) }
 {
-    match instance {
+    match instance.bytes() {
         None => output.put(b")\n", sink),
         Some(name) => {
             output.put(b" (instanceRef ", sink);
-            name.write(output, sink);
+            output.put(name, sink);
             output.put(b"))\n", sink);
         }
     }
@@ -183,7 +183,7 @@ impl OnLine for PortRef {
 
     fn write<O: Sink>(&self, output: &mut Output, sink: &mut O) {
         output.put(b"(portRef ", sink);
-        write_member(&self.port, &self.member, output, sink);
+        write_member(&self.port, self.member.get(), output, sink);
         write_instance_ref(&self.instance, output, sink);
         output.put(b")", sink);
     }
@@ -196,7 +196,7 @@ impl OnLines for PortRef {
 
     fn lay<O: Sink>(&self, indent: usize, output: &mut Output, sink: &mut O) {
         open_port_ref(indent, output, sink);
-        write_member(&self.port, &self.member, output, sink);
+        write_member(&self.port, self.member.get(), output, sink);
         end_port_ref(&self.instance, output, sink);
     }
 }

@@ -1,6 +1,8 @@
 pub mod Case
 pub mod Faults
 pub mod Identifiers
+pub mod Lists
+pub mod Optional
 pub mod Place
 pub mod RangeForm
 pub mod Ranges

@@ -1,3 +1,4 @@
+ghost use Rattle.nl_base.specs.Texts.{kept_bytes, IsKept};
 ghost use Rattle.std.specs.Prelude.{◌≡◌, ◌==◌, ◌≤◌, IfOk, length};
 
 use crate::memory::NoMemory;
@@ -5,7 +6,7 @@ use std::alloc::Global;
 use std::marker::Model;
 
 /// The most bytes that a text keeps in itself.
-const SHORT: usize = 14;
+pub(crate) const SHORT: usize = 14;
 
 /// Where the bytes of a text are.
 #[derive(Drop)]
@@ -97,6 +98,16 @@ impl Text {
             return Ok(Text::short(bytes.as_slice()));
         }
         Text::long(alloc, bytes)
+    }
+
+    /// Where its bytes are.
+    #[inline]
+    pub(crate) fn into_kept(self) -> Kept
+        ensures value { kept_bytes result ≡ self }
+        ensures within { IsKept result }
+    {
+        let Text { kept } = self;
+        kept
     }
 
     /// Its bytes.

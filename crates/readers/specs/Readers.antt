@@ -247,6 +247,12 @@ pub record Changes {K X : Type 0} (context : K) (result : Result (Unit {0}) Read
   pub changed : OnOk result (new ≡ record { window = old.window; ahead = old.ahead; context = context; spent = old.spent })
   pub failed : IfErr result (λ e. (e ≡ errors.NoMemory) × (new ≡ spoilt old))
 
+-- The value stands at a place of its own, or memory ran out.
+pub record Boxes {K X T : Type 0} (item : T) (result : Result T ReadError) (old new : Reader K X) : Type 0 where
+  pub boxed : IfOk result (λ value. value ≡ item)
+  pub kept : OnOk result (new ≡ old)
+  pub failed : IfErr result (λ e. (e ≡ errors.NoMemory) × (new ≡ spoilt old))
+
 -- The list has one more item, or memory ran out and the list is as before.
 pub record Adds {K X T : Type 0} (item : T) (result : Result (Unit {0}) ReadError) (old new : Reader K X) (before after : List T) : Type 0 where
   pub added : OnOk result ((after ≡ before ++ item ∷ []) × (new ≡ old))

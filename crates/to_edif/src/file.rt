@@ -9,7 +9,7 @@ use edif_naming::{copied, named};
 use edif_parts::library_ident;
 use edif_spaces::Space;
 use edif_values::{Cell, Design, EdifFile, FileItem, Library, LibraryItem, NameDef};
-use nl_base::{Ident, NoMemory, Seq};
+use nl_base::{Ident, NoMemory, OptionalText, Seq};
 use std::alloc::Global;
 
 /// Cells as parts of a library.
@@ -31,7 +31,10 @@ fn library_of(alloc: Global, cells: Vec<Cell>) -> Result<Library, NoMemory>
     let items = library_items(alloc, cells)?;
     Ok(Library {
         external: false,
-        name: NameDef { ident, text: None },
+        name: NameDef {
+            ident,
+            text: OptionalText::none(),
+        },
         scales: Seq::empty(alloc),
         notes: Seq::empty(alloc),
         items,

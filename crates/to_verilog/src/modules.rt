@@ -14,7 +14,7 @@ ghost use Rattle.vlog_written.specs.Written.{assign_item, instance_item};
 use net_bits::Names;
 use net_hier::{HCell, Hier};
 use net_live::add_props;
-use nl_base::{NoMemory, Seq, Text};
+use nl_base::{BoxedList, NoMemory, Seq, Text};
 use std::alloc::Global;
 use to_verilog_items::{header_of, push_assigns, push_instances};
 use to_verilog_props::attrs_of;
@@ -22,7 +22,12 @@ use to_verilog_wires::Wiring;
 use vlog_values::{Attr, ItemV, Module};
 
 /// The attributes of the cell of this number: its properties, and behind those of the top the properties of the design.
-fn cell_attrs(alloc: Global, hier: &Hier, number: u32, cell: &HCell) -> Result<Seq<Attr>, NoMemory>
+fn cell_attrs(
+    alloc: Global,
+    hier: &Hier,
+    number: u32,
+    cell: &HCell,
+) -> Result<BoxedList<Attr>, NoMemory>
     ensures { IfOk result (λ made. made ≡ attrs_of (cell_props hier.now number cell.now)) }
 {
     let mut gathered = Vec::new(alloc);

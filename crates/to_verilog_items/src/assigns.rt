@@ -6,7 +6,7 @@ ghost use Rattle.to_verilog_items.specs.Assigns.{assign_of, assigned, assigns_am
 
 use crate::exprs::{constant_expr, hub_expr, port_expr};
 use net_hier::{HPort, Node};
-use nl_base::{Dir, NoMemory, Seq, Text};
+use nl_base::{BoxedList, Dir, NoMemory, Seq, Text};
 use std::alloc::Global;
 use to_verilog_wires::{Hub, Wiring};
 use vlog_values::{Assignment, Assigns, Expr, ItemV};
@@ -158,7 +158,7 @@ fn assign_item(alloc: Global, set: Assignment) -> Result<ItemV, NoMemory>
     let mut sets = Seq::empty(alloc);
     sets.push(set)?;
     Ok(ItemV::Assign(Assigns {
-        attrs: Seq::empty(alloc),
+        attrs: BoxedList::empty(),
         sets,
     }))
 }

@@ -7,12 +7,12 @@ ghost use Rattle.vlog_written.specs.Written.{bit_literal, select_of};
 ghost use Rattle.to_verilog_items.specs.Exprs.{bit_of, hub_expr, port_expr};
 
 use net_hier::HPort;
-use nl_base::{NoMemory, Text};
+use nl_base::{Boxed, NoMemory, Text};
 use std::alloc::Global;
 use to_verilog_classes::roots::width_of;
 use to_verilog_props::constants::bit_literal;
 use to_verilog_wires::Hub;
-use vlog_values::{Boxed, Expr, Select};
+use vlog_values::{Expr, Select};
 
 /// The bits of the port that a position from the left is: all of a scalar.
 fn select_of(port: &HPort, bit: u32) -> Select

@@ -4,7 +4,7 @@ ghost use Rattle.vlog_written.specs.Written.{plain_header, port_decl_of};
 ghost use Rattle.to_verilog_items.specs.Header.{plain_port};
 
 use net_hier::HPort;
-use nl_base::{NoMemory, Seq, Text};
+use nl_base::{InlineList, NoMemory, Seq, Text};
 use std::alloc::Global;
 use to_verilog_props::attrs_of_list;
 use vlog_values::{Header, PortDecl};
@@ -14,15 +14,14 @@ fn decl_of(alloc: Global, port: &HPort) -> Result<PortDecl, NoMemory>
     ensures { IfOk result (λ made. made ≡ port_decl_of (plain_port port.now)) }
 {
     let attrs = attrs_of_list(alloc, port.props.items())?;
-    let mut names = Seq::empty(alloc);
-    names.push(Text::copy(alloc, port.name.bytes())?)?;
+    let name = Text::copy(alloc, port.name.bytes())?;
     Ok(PortDecl {
         attrs,
         dir: port.dir,
         kind: None,
         signed: false,
         range: port.range,
-        names,
+        names: InlineList::one(name),
     })
 }
 
@@ -43,7 +42,7 @@ pub fn header_of(alloc: Global, ports: &[HPort]) -> Result<Header, NoMemory>
     ensures { IfOk result (λ made. made ≡ plain_header (map plain_port ports.now)) }
 {
     if ports.is_empty() {
-        return Ok(Header::Names(Seq::empty(alloc)));
+        return Ok(Header::Names(InlineList::empty()));
     }
     let decls = decls_of(alloc, ports)?;
     Ok(Header::Decls(decls))

@@ -7,7 +7,7 @@ ghost use Rattle.to_verilog_items.specs.Instances.{below_ports, conns_of, instan
 use crate::connections::conns_of;
 use net_bits::Names;
 use net_hier::{HCell, HInst, HPort};
-use nl_base::{NoMemory, Seq, Text};
+use nl_base::{BoxedList, NoMemory, Seq, Text};
 use std::alloc::Global;
 use to_verilog_props::given_of;
 use to_verilog_wires::Wiring;
@@ -68,8 +68,8 @@ fn statement_of(
         instance.name.bytes(),
         below.ports.items(),
     )?;
-    let mut insts = Seq::empty(alloc);
-    insts.push(made)?;
+    let mut insts = BoxedList::empty();
+    insts.push(alloc, made)?;
     let given = given_of(alloc, instance.props.items(), params)?;
     let module = Text::copy(alloc, below.name.bytes())?;
     Ok(Instances {

@@ -7,15 +7,15 @@ use crate::constants::{attr_const, param_const};
 use net_bits::Names;
 use net_hier::HProp;
 use net_live::{last_of, last_values};
-use nl_base::{NoMemory, Seq, Text};
+use nl_base::{BoxedList, NoMemory, Text};
 use std::alloc::Global;
 use vlog_values::{Attr, ParamSet};
 
 /// What is written of the properties of an instance.
 #[derive(Drop)]
 pub struct Given {
-    pub attrs: Seq<Attr>,
-    pub params: Seq<ParamSet>,
+    pub attrs: BoxedList<Attr>,
+    pub params: BoxedList<ParamSet>,
 }
 
 /// The attribute that a property is.
@@ -37,19 +37,19 @@ fn param_of(alloc: Global, prop: &HProp) -> Result<ParamSet, NoMemory>
 }
 
 /// The attributes that properties are.
-fn attrs_from(alloc: Global, props: &[&HProp]) -> Result<Seq<Attr>, NoMemory>
+fn attrs_from(alloc: Global, props: &[&HProp]) -> Result<BoxedList<Attr>, NoMemory>
     ensures { IfOk result (λ made. made ≡ map attr_of (seen props.now)) }
 {
-    let mut attrs = Seq::empty(alloc);
+    let mut attrs = BoxedList::empty();
     for prop in props {
         let attr = attr_of(alloc, *prop)?;
-        attrs.push(attr)?;
+        attrs.push(alloc, attr)?;
     }
     Ok(attrs)
 }
 
 /// The attributes of properties that were gathered: the last one of each name.
-pub fn attrs_of(alloc: Global, gathered: &[&HProp]) -> Result<Seq<Attr>, NoMemory>
+pub fn attrs_of(alloc: Global, gathered: &[&HProp]) -> Result<BoxedList<Attr>, NoMemory>
     ensures { IfOk result (λ made. made ≡ attrs_of (seen gathered.now)) }
 {
     let kept = last_values(alloc, gathered)?;
@@ -58,7 +58,7 @@ pub fn attrs_of(alloc: Global, gathered: &[&HProp]) -> Result<Seq<Attr>, NoMemor
 }
 
 /// The attributes of properties: the last one of each name.
-pub fn attrs_of_list(alloc: Global, props: &[HProp]) -> Result<Seq<Attr>, NoMemory>
+pub fn attrs_of_list(alloc: Global, props: &[HProp]) -> Result<BoxedList<Attr>, NoMemory>
     ensures { IfOk result (λ made. made ≡ attrs_of props.now) }
 {
     let kept = last_of(alloc, props)?;
@@ -75,11 +75,11 @@ fn give(alloc: Global, prop: &HProp, params: &Names, given: &mut Given) -> Resul
 {
     if params.has(prop.name.bytes()) {
         let set = param_of(alloc, prop)?;
-        given.params.push(set)?;
+        given.params.push(alloc, set)?;
         return Ok(());
     }
     let attr = attr_of(alloc, prop)?;
-    given.attrs.push(attr)?;
+    given.attrs.push(alloc, attr)?;
     Ok(())
 }
 
@@ -90,8 +90,8 @@ fn given_from(alloc: Global, props: &[&HProp], params: &Names) -> Result<Given, 
         (λ given. given.params ≡ given_params params.now (seen props.now)) }
 {
     let mut given = Given {
-        attrs: Seq::empty(alloc),
-        params: Seq::empty(alloc),
+        attrs: BoxedList::empty(),
+        params: BoxedList::empty(),
     };
     for prop in props {
         give(alloc, *prop, params, &mut given)?;

@@ -8,7 +8,7 @@ ghost use Rattle.vlog_values.specs.declared.declaration.NetKind.TheVariants.{Wir
 use net_bits::{Names, fresh_name};
 use net_hier::{HCell, HInst, HPort, Node};
 use net_live::{class_props, first_net};
-use nl_base::{NoMemory, Seq, Text};
+use nl_base::{BoxedList, InlineList, NoMemory, Seq, Text};
 use std::alloc::Global;
 use to_verilog_props::attrs_of;
 use to_verilog_rules::is_name;
@@ -50,7 +50,7 @@ fn use_instances(alloc: Global, instances: &[HInst], used: &mut Names) -> Result
 }
 
 /// The attributes of the wire of a class of these nodes: the properties of its nets.
-fn attrs_for(alloc: Global, cell: &HCell, nodes: &[Node]) -> Result<Seq<Attr>, NoMemory>
+fn attrs_for(alloc: Global, cell: &HCell, nodes: &[Node]) -> Result<BoxedList<Attr>, NoMemory>
     ensures { IfOk result (λ attrs. attrs ≡ wire_attrs cell.now nodes.now) }
 {
     let gathered = class_props(alloc, cell, nodes)?;
@@ -59,7 +59,7 @@ fn attrs_for(alloc: Global, cell: &HCell, nodes: &[Node]) -> Result<Seq<Attr>, N
 }
 
 /// The declaration of a wire.
-fn wire_decl(alloc: Global, attrs: Seq<Attr>, name: &[u8]) -> Result<NetDecl, NoMemory>
+fn wire_decl(alloc: Global, attrs: BoxedList<Attr>, name: &[u8]) -> Result<NetDecl, NoMemory>
     ensures { IfOk result (λ made. made ≡ record {
       attrs = attrs;
       kind = Wire;
@@ -68,14 +68,13 @@ fn wire_decl(alloc: Global, attrs: Seq<Attr>, name: &[u8]) -> Result<NetDecl, No
       names = name.now ∷ [];
     }) }
 {
-    let mut names = Seq::empty(alloc);
-    names.push(Text::copy(alloc, name)?)?;
+    let name = Text::copy(alloc, name)?;
     Ok(NetDecl {
         attrs,
         kind: NetKind::Wire,
         signed: false,
         range: None,
-        names,
+        names: InlineList::one(name),
     })
 }
 

@@ -12,7 +12,7 @@ use edif_values::{
     Cell, CellItem, CellKind, ContentsItem, Instance, InterfaceItem, LibraryItem, NameDef, Net,
     Port, PortItem, PortName, PortRef, View, ViewItem,
 };
-use nl_base::{Dir, Ident, NoMemory, Seq};
+use nl_base::{Dir, Ident, InlineList, NoMemory, OptionalIdent, OptionalInt, OptionalText, Seq};
 use std::alloc::Global;
 
 /// A list of one item.
@@ -30,7 +30,7 @@ fn port(alloc: Global, bytes: &[u8], dir: Dir) -> Result<InterfaceItem, NoMemory
     ensures { IfOk result (λ item. item ≡ interface_items.Port (spec.port bytes.now dir)) }
 {
     let name = name(alloc, bytes)?;
-    let items = only(alloc, PortItem::Direction(dir))?;
+    let items = InlineList::one(PortItem::Direction(dir));
     Ok(InterfaceItem::Port(Port {
         name: PortName::Single(name),
         items,
@@ -62,7 +62,7 @@ fn instance(alloc: Global, bytes: &[u8], below: u32) -> Result<ContentsItem, NoM
         name,
         view,
         cell,
-        library: None,
+        library: OptionalIdent::none(),
         items: Seq::empty(alloc),
     }))
 }
@@ -75,8 +75,8 @@ fn own(alloc: Global, bytes: &[u8]) -> Result<PortRef, NoMemory>
     let port = ident(alloc, bytes)?;
     Ok(PortRef {
         port,
-        member: None,
-        instance: None,
+        member: OptionalInt::of(None),
+        instance: OptionalIdent::none(),
     })
 }
 
@@ -90,8 +90,8 @@ fn pin(alloc: Global, bytes: &[u8], of_instance: &[u8]) -> Result<PortRef, NoMem
     let instance = ident(alloc, of_instance)?;
     Ok(PortRef {
         port,
-        member: None,
-        instance: Some(instance),
+        member: OptionalInt::of(None),
+        instance: OptionalIdent::some(instance),
     })
 }
 
@@ -179,7 +179,7 @@ fn contents_of(alloc: Global, below: u32, is_swapped: bool) -> Result<Seq<Conten
 }
 
 /// A cell of this identifier with these parts of its view.
-fn cell(alloc: Global, ident: Ident, items: Seq<ViewItem>) -> Result<LibraryItem, NoMemory>
+fn cell(alloc: Global, ident: Ident, items: InlineList<ViewItem>) -> Result<LibraryItem, NoMemory>
     ensures { IfOk result (λ item. item ≡ library_items.Cell (spec.cell_with ident items)) }
 {
     let name = name(alloc, b"v")?;
@@ -191,7 +191,10 @@ fn cell(alloc: Global, ident: Ident, items: Seq<ViewItem>) -> Result<LibraryItem
     };
     let items = only(alloc, CellItem::View(view))?;
     Ok(LibraryItem::Cell(Cell {
-        name: NameDef { ident, text: None },
+        name: NameDef {
+            ident,
+            text: OptionalText::none(),
+        },
         kind: CellKind::Generic,
         items,
     }))
@@ -203,7 +206,7 @@ pub(crate) fn first_cell(alloc: Global) -> Result<LibraryItem, NoMemory>
         ≡ library_items.Cell (spec.cell_with (spec.cell_ident 0) [])) }
 {
     let ident = cell_ident(alloc, 0)?;
-    let made = cell(alloc, ident, Seq::empty(alloc))?;
+    let made = cell(alloc, ident, InlineList::empty())?;
     Ok(made)
 }
 
@@ -218,7 +221,7 @@ pub(crate) fn cell_above(
         (spec.cell_ident (below + 1)) (view_items.Contents (spec.contents_of is_swapped below) ∷ []))) }
 {
     let inner = contents_of(alloc, below, is_swapped)?;
-    let items = only(alloc, ViewItem::Contents(inner))?;
+    let items = InlineList::one(ViewItem::Contents(inner));
     let ident = cell_ident(alloc, below + 1)?;
     let made = cell(alloc, ident, items)?;
     Ok(made)

@@ -4,7 +4,7 @@ ghost use Rattle.nl_base.specs.Identifiers.{is_short_identifier};
 ghost use Rattle.vectors.specs.Cells.{cell_ident as ident_of_cell, plain};
 
 use edif_values::NameDef;
-use nl_base::{Ident, NoMemory, Text, spell_u64};
+use nl_base::{Ident, NoMemory, OptionalText, Text, spell_u64};
 use std::alloc::Global;
 
 /// The identifier that these bytes are.
@@ -23,7 +23,10 @@ pub(crate) fn name(alloc: Global, bytes: &[u8]) -> Result<NameDef, NoMemory>
     ensures { IfOk result (λ name. name ≡ plain bytes.now) }
 {
     let ident = ident(alloc, bytes)?;
-    Ok(NameDef { ident, text: None })
+    Ok(NameDef {
+        ident,
+        text: OptionalText::none(),
+    })
 }
 
 /// The identifier of the cell of this number.

@@ -9,7 +9,7 @@ pub mod HeldWords
 pub mod HeldPlains
 pub mod Known
 pub mod HeldLiterals
-pub mod Lists
+pub mod ListLaws
 pub mod Live
 pub mod OneToken
 pub mod TokenKinds

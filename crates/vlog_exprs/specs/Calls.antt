@@ -130,9 +130,3 @@ pub record LooksOut (result : Result (Option VFound) ReadError) (old new : Reade
 abbrev pub stands : Bool → Option (Unit {0})
 stands true = Some tt
 stands false = None
-
--- The value stands at a place of its own, or memory ran out.
-pub record Boxes {K X T : Type 0} (item : T) (result : Result T ReadError) (old new : Reader K X) : Type 0 where
-  pub boxed : IfOk result (λ value. value ≡ item)
-  pub kept : OnOk result (new ≡ old)
-  pub failed : IfErr result (λ e. (e ≡ errors.NoMemory) × (new ≡ spoilt old))

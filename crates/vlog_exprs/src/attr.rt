@@ -10,7 +10,7 @@ ghost use Rattle.vlog_exprs.specs.Reasons as say;
 use crate::constant::read_const;
 use crate::cursor::VCursor;
 use crate::reasons::{at_group, group_end_of};
-use nl_base::{Int, ReadError, Seq};
+use nl_base::{BoxedList, Int, ReadError};
 use nl_io::Source;
 use std::alloc::Global;
 use vlog_tokens::{Plain, VFound};
@@ -154,9 +154,9 @@ fn read_attr<S: Source>(
 fn read_group<S: Source>(
     alloc: Global,
     cursor: &mut VCursor,
-    mut attrs: Seq<Attr>,
+    mut attrs: BoxedList<Attr>,
     source: &mut S,
-) -> Result<Seq<Attr>, ReadError>
+) -> Result<BoxedList<Attr>, ReadError>
     requires { AreAttrs attrs }
     ensures reads { Reads vlog same (group attrs) result cursor.old cursor.new
         (S.supply source.old) (S.supply source.new) }
@@ -165,10 +165,10 @@ fn read_group<S: Source>(
         (λ all. length all + room cursor.new < length attrs + room cursor.old) }
 {
     let attr = read_attr(alloc, cursor, source)?;
-    cursor.add(&mut attrs, attr)?;
+    cursor.add_boxed(alloc, &mut attrs, attr)?;
     while takes_in_group(alloc, cursor, b',', source)? {
         let attr = read_attr(alloc, cursor, source)?;
-        cursor.add(&mut attrs, attr)?;
+        cursor.add_boxed(alloc, &mut attrs, attr)?;
     }
     take_group_end(alloc, cursor, source)?;
     Ok(attrs)
@@ -180,13 +180,13 @@ pub fn read_attrs<S: Source>(
     alloc: Global,
     cursor: &mut VCursor,
     source: &mut S,
-) -> Result<Seq<Attr>, ReadError>
+) -> Result<BoxedList<Attr>, ReadError>
     ensures reads { ReadsMaybe vlog same attrs result cursor.old cursor.new
         (S.supply source.old) (S.supply source.new) }
     ensures value { IfOk result AreAttrs }
     ensures size { IfOk result (λ attrs. length attrs + room cursor.new ≤ room cursor.old) }
 {
-    let mut attrs = Seq::empty(alloc);
+    let mut attrs = BoxedList::empty();
     while takes_group(alloc, cursor, source)? {
         attrs = read_group(alloc, cursor, attrs, source)?;
     }

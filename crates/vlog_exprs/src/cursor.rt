@@ -7,17 +7,17 @@ ghost use Rattle.vlog_tokens.specs.HeldLiterals.{held_digits};
 ghost use Rattle.vlog_tokens.specs.Language.{vlog};
 ghost use Rattle.vlog_tokens.specs.Plains.{plain_token};
 ghost use Rattle.vlog_tokens.specs.Proper.{IsProper};
-ghost use Rattle.vlog_exprs.specs.Calls.{is_unlooked, held_mark, past_mark, held_word, past_word, held_plain, past_plain, held_base, past_digits, Boxes, answer, left_after, seen_answer, seen_left, IfLeaves, LooksOut};
+ghost use Rattle.vlog_exprs.specs.Calls.{is_unlooked, held_mark, past_mark, held_word, past_word, held_plain, past_plain, held_base, past_digits, answer, left_after, seen_answer, seen_left, IfLeaves, LooksOut};
 ghost use Rattle.vlog_exprs.specs.Reasons.{trailing};
 
 use crate::glance::Glance;
 use crate::reasons::{Said, refused};
-use nl_base::{Place, ReadError, Reason, Seq, TextFault};
+use nl_base::{Place, ReadError, Reason, TextFault};
 use nl_io::Source;
 use std::alloc::Global;
 use std::marker::Model;
 use vlog_tokens::{Plain, VFound, VTokens};
-use vlog_values::{Base, Boxed};
+use vlog_values::Base;
 
 /// Reads the parts of a text, one after another, with one token of look-ahead.
 ///
@@ -360,29 +360,6 @@ impl VCursor {
         };
         let said = refused(alloc, token);
         self.judged(place, stop, said)
-    }
-
-    /// Adds an item to a list. Where memory runs out the cursor is spent from then on, and the list is as before.
-    #[inline(always)]
-    pub fn add<T: Drop>(&mut self, list: &mut Seq<T>, item: T) -> Result<(), ReadError>
-        requires { IsFalse self.old.spent }
-        ensures { Adds item result self.old self.new list.old list.new }
-    {
-        match list.push(item) {
-            Ok(()) => Ok(()),
-            Err(_) => Err(self.no_memory()),
-        }
-    }
-
-    /// Puts a value at a place of its own. Where memory runs out the cursor is spent from then on.
-    pub(crate) fn boxed<T: Drop>(&mut self, alloc: Global, value: T) -> Result<Boxed<T>, ReadError>
-        requires { IsFalse self.old.spent }
-        ensures { Boxes value result self.old self.new }
-    {
-        match Boxed::new(alloc, value) {
-            Ok(boxed) => Ok(boxed),
-            Err(_) => Err(self.no_memory()),
-        }
     }
 
     /// Spends the cursor where memory has run out.

@@ -16,6 +16,7 @@ pub mod cursor;
 pub mod expr;
 pub mod glance;
 pub mod laws;
+mod lists;
 pub mod reasons;
 pub mod seq;
 pub mod start;

@@ -50,3 +50,11 @@ module _ {K X A : Type 0} {a : A} {old new : Reader K X} {xs ys : List A} (adds 
 -- a loop goes on, and its list is such
 pub collects : {K X A : Type 0} {L : Language X} {whole rest : PartOf K X A} {Good : Type 0} {size : ℕ} {now start : Reader K X} {j i : Supply} → Goes L whole rest now start j i → Good → size + room now ≤ room start → Collects L whole rest Good size now start j i
 collects goes good le = record { same = goes.same; context = goes.context; moves = goes.moves; spent = goes.spent; room = le; good = good }
+
+-- a list of one item
+module _ {A : Type 0} {a : A} {ys : List A} (is : ys ≡ a ∷ []) where
+  pub one_length : length ys ≡ 1
+  one_length = ap (λ (zs : List A). length zs) is
+
+  pub one_made : (Good : A → Type 0) → Good a → AreSome Good ys
+  one_made Good good = record { some = omega (arith, one_length); all = subst (AllByRecursion Good) (sym is) (AllByRecursion-push Good [] a tt good) }

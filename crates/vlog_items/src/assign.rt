@@ -7,7 +7,7 @@ ghost use Rattle.vlog_tokens.specs.Language.{vlog};
 ghost use Rattle.vlog_exprs.specs.Grammar.{mark, list};
 ghost use Rattle.vlog_items.specs.Grammar.{assignment, assigns};
 
-use nl_base::{ReadError, Seq};
+use nl_base::{BoxedList, ReadError, Seq};
 use nl_io::Source;
 use std::alloc::Global;
 use vlog_exprs::{VCursor, read_expr};
@@ -60,7 +60,7 @@ fn read_assignments<S: Source>(
 pub(crate) fn read_assigns<S: Source>(
     alloc: Global,
     cursor: &mut VCursor,
-    attrs: Seq<Attr>,
+    attrs: BoxedList<Attr>,
     source: &mut S,
 ) -> Result<Assigns, ReadError>
     requires { AreAttrs attrs }

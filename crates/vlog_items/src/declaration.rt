@@ -8,7 +8,7 @@ ghost use Rattle.vlog_exprs.specs.Reasons as say;
 ghost use Rattle.vlog_exprs.specs.Grammar.{name, mark, commas, list};
 ghost use Rattle.vlog_items.specs.Grammar.{signed, port_kind, port_item, net_item};
 
-use nl_base::{Dir, ReadError, Seq, Text};
+use nl_base::{BoxedList, Dir, InlineList, ReadError, Text};
 use nl_io::Source;
 use std::alloc::Global;
 use vlog_exprs::{VCursor, read_range_if_any};
@@ -20,10 +20,10 @@ use vlog_values::{Attr, NetDecl, NetKind, PortDecl, PortKind};
 pub fn read_more_names<S: Source>(
     alloc: Global,
     cursor: &mut VCursor,
-    mut names: Seq<Text>,
+    mut names: InlineList<Text>,
     close: u8,
     source: &mut S,
-) -> Result<Seq<Text>, ReadError>
+) -> Result<InlineList<Text>, ReadError>
     ensures reads { Reads vlog same (commas name (mark close) names) result cursor.old cursor.new
         (S.supply source.old) (S.supply source.new) }
     ensures value { AreSome IsName names → IfOk result (AreSome IsName) }
@@ -32,7 +32,7 @@ pub fn read_more_names<S: Source>(
 {
     while cursor.takes(alloc, b',', source)? {
         let name = cursor.name(alloc, source)?;
-        cursor.add(&mut names, name)?;
+        cursor.add_name(alloc, &mut names, name)?;
     }
     cursor.mark(alloc, close, source)?;
     Ok(names)
@@ -45,16 +45,14 @@ fn read_names<S: Source>(
     alloc: Global,
     cursor: &mut VCursor,
     source: &mut S,
-) -> Result<Seq<Text>, ReadError>
+) -> Result<InlineList<Text>, ReadError>
     ensures reads { Reads vlog same (list name (mark 59)) result cursor.old cursor.new
         (S.supply source.old) (S.supply source.new) }
     ensures value { IfOk result (AreSome IsName) }
     ensures size { IfOk result (λ names. length names + room cursor.new < room cursor.old) }
 {
     let first = cursor.name(alloc, source)?;
-    let mut names = Seq::empty(alloc);
-    cursor.add(&mut names, first)?;
-    let names = read_more_names(alloc, cursor, names, b';', source)?;
+    let names = read_more_names(alloc, cursor, InlineList::one(first), b';', source)?;
     Ok(names)
 }
 
@@ -96,7 +94,7 @@ pub fn read_port_kind<S: Source>(
 pub(crate) fn read_port_item<S: Source>(
     alloc: Global,
     cursor: &mut VCursor,
-    attrs: Seq<Attr>,
+    attrs: BoxedList<Attr>,
     dir: Dir,
     source: &mut S,
 ) -> Result<PortDecl, ReadError>
@@ -126,7 +124,7 @@ pub(crate) fn read_port_item<S: Source>(
 pub(crate) fn read_net_item<S: Source>(
     alloc: Global,
     cursor: &mut VCursor,
-    attrs: Seq<Attr>,
+    attrs: BoxedList<Attr>,
     kind: NetKind,
     source: &mut S,
 ) -> Result<NetDecl, ReadError>

@@ -7,7 +7,7 @@ ghost use Rattle.vlog_tokens.specs.Language.{vlog};
 ghost use Rattle.vlog_exprs.specs.Grammar.{mark, list};
 ghost use Rattle.vlog_items.specs.Grammar.{def_value, def_set, defparams};
 
-use nl_base::{ReadError, Seq, Text};
+use nl_base::{BoxedList, ReadError, Seq, Text};
 use nl_io::Source;
 use std::alloc::Global;
 use vlog_exprs::{VCursor, read_const};
@@ -81,7 +81,7 @@ fn read_def_sets<S: Source>(
 pub(crate) fn read_defparams<S: Source>(
     alloc: Global,
     cursor: &mut VCursor,
-    attrs: Seq<Attr>,
+    attrs: BoxedList<Attr>,
     source: &mut S,
 ) -> Result<Defparams, ReadError>
     requires { AreAttrs attrs }

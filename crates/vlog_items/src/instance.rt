@@ -9,7 +9,7 @@ ghost use Rattle.vlog_exprs.specs.Grammar.{mark, list};
 ghost use Rattle.vlog_items.specs.Grammar.{instance, override_rest, override_set, overrides, instances};
 
 use crate::connection::read_conns;
-use nl_base::{ReadError, Seq, Text};
+use nl_base::{BoxedList, ReadError, Text};
 use nl_io::Source;
 use std::alloc::Global;
 use vlog_exprs::{VCursor, read_const};
@@ -39,19 +39,19 @@ fn read_insts<S: Source>(
     alloc: Global,
     cursor: &mut VCursor,
     source: &mut S,
-) -> Result<Seq<VInst>, ReadError>
+) -> Result<BoxedList<VInst>, ReadError>
     ensures reads { Reads vlog same (list instance (mark 59)) result cursor.old cursor.new
         (S.supply source.old) (S.supply source.new) }
     ensures value { IfOk result (AreSome IsInstance) }
     ensures size { IfOk result
         (λ insts. list_size instance_size insts + room cursor.new < room cursor.old) }
 {
-    let mut insts = Seq::empty(alloc);
+    let mut insts = BoxedList::empty();
     let inst = read_instance(alloc, cursor, source)?;
-    cursor.add(&mut insts, inst)?;
+    cursor.add_boxed(alloc, &mut insts, inst)?;
     while cursor.takes(alloc, b',', source)? {
         let inst = read_instance(alloc, cursor, source)?;
-        cursor.add(&mut insts, inst)?;
+        cursor.add_boxed(alloc, &mut insts, inst)?;
     }
     cursor.mark(alloc, b';', source)?;
     Ok(insts)
@@ -99,18 +99,18 @@ fn read_override_list<S: Source>(
     alloc: Global,
     cursor: &mut VCursor,
     source: &mut S,
-) -> Result<Seq<ParamSet>, ReadError>
+) -> Result<BoxedList<ParamSet>, ReadError>
     ensures reads { Reads vlog same (list override_set (mark 41)) result cursor.old cursor.new
         (S.supply source.old) (S.supply source.new) }
     ensures value { IfOk result (AreSome IsParamSet) }
     ensures size { IfOk result (λ sets. length sets + room cursor.new < room cursor.old) }
 {
-    let mut sets = Seq::empty(alloc);
+    let mut sets = BoxedList::empty();
     let set = read_override(alloc, cursor, source)?;
-    cursor.add(&mut sets, set)?;
+    cursor.add_boxed(alloc, &mut sets, set)?;
     while cursor.takes(alloc, b',', source)? {
         let set = read_override(alloc, cursor, source)?;
-        cursor.add(&mut sets, set)?;
+        cursor.add_boxed(alloc, &mut sets, set)?;
     }
     cursor.mark(alloc, b')', source)?;
     Ok(sets)
@@ -122,7 +122,7 @@ fn read_overrides<S: Source>(
     alloc: Global,
     cursor: &mut VCursor,
     source: &mut S,
-) -> Result<Seq<ParamSet>, ReadError>
+) -> Result<BoxedList<ParamSet>, ReadError>
     ensures reads { ReadsMaybe vlog same overrides result cursor.old cursor.new
         (S.supply source.old) (S.supply source.new) }
     ensures value { IfOk result (AllByRecursion IsParamSet) }
@@ -133,7 +133,7 @@ fn read_overrides<S: Source>(
         let sets = read_override_list(alloc, cursor, source)?;
         return Ok(sets);
     }
-    Ok(Seq::empty(alloc))
+    Ok(BoxedList::empty())
 }
 
 /// Reads on behind the name of a module.
@@ -141,7 +141,7 @@ fn read_overrides<S: Source>(
 pub(crate) fn read_instances<S: Source>(
     alloc: Global,
     cursor: &mut VCursor,
-    attrs: Seq<Attr>,
+    attrs: BoxedList<Attr>,
     of_module: Text,
     source: &mut S,
 ) -> Result<Instances, ReadError>

@@ -13,7 +13,7 @@ use crate::declaration::{read_net_item, read_port_item};
 use crate::defparam::read_defparams;
 use crate::instance::read_instances;
 use crate::parameter::read_param_item;
-use nl_base::{Dir, ReadError, Seq, Text};
+use nl_base::{BoxedList, Dir, ReadError, Text};
 use nl_io::Source;
 use std::alloc::Global;
 use vlog_exprs::{VCursor, read_attrs};
@@ -62,7 +62,7 @@ fn read_item_word<S: Source>(
 fn read_word_item<S: Source>(
     alloc: Global,
     cursor: &mut VCursor,
-    attrs: Seq<Attr>,
+    attrs: BoxedList<Attr>,
     word: ItemWord,
     source: &mut S,
 ) -> Result<ItemV, ReadError>
@@ -102,7 +102,7 @@ fn read_word_item<S: Source>(
 fn read_instances_item<S: Source>(
     alloc: Global,
     cursor: &mut VCursor,
-    attrs: Seq<Attr>,
+    attrs: BoxedList<Attr>,
     of_module: Text,
     source: &mut S,
 ) -> Result<ItemV, ReadError>
@@ -123,7 +123,7 @@ fn read_instances_item<S: Source>(
 fn read_item_of<S: Source>(
     alloc: Global,
     cursor: &mut VCursor,
-    attrs: Seq<Attr>,
+    attrs: BoxedList<Attr>,
     source: &mut S,
 ) -> Result<ItemV, ReadError>
     requires { AreAttrs attrs }

@@ -9,7 +9,7 @@ ghost use Rattle.vlog_exprs.specs.Grammar.{mark, list};
 ghost use Rattle.vlog_items.specs.Grammar.{param_type_words, plain_type, param_type, param_set, param_item};
 
 use crate::declaration::read_signed;
-use nl_base::{ReadError, Seq};
+use nl_base::{BoxedList, ReadError, Seq};
 use nl_io::Source;
 use std::alloc::Global;
 use vlog_exprs::{VCursor, read_const, read_range_if_any};
@@ -114,7 +114,7 @@ fn read_param_sets<S: Source>(
 pub(crate) fn read_param_item<S: Source>(
     alloc: Global,
     cursor: &mut VCursor,
-    attrs: Seq<Attr>,
+    attrs: BoxedList<Attr>,
     source: &mut S,
 ) -> Result<ParamDecl, ReadError>
     requires { AreAttrs attrs }

@@ -8,7 +8,7 @@ ghost use Rattle.vlog_exprs.specs.Grammar.{choice};
 ghost use Rattle.vlog_modules.specs.States.{ArePorts, ports_size};
 ghost use Rattle.vlog_modules.specs.Grammar.{dir_words, port_rest, port_decl, port_turn, port_decls, name_header, decl_header, some_header, header};
 
-use nl_base::{Dir, ReadError, Seq, Text};
+use nl_base::{BoxedList, Dir, InlineList, ReadError, Seq, Text};
 use nl_io::Source;
 use std::alloc::Global;
 use vlog_exprs::{VCursor, read_attrs, read_range_if_any};
@@ -48,7 +48,7 @@ fn read_dir<S: Source>(
 fn read_port_rest<S: Source>(
     alloc: Global,
     cursor: &mut VCursor,
-    attrs: Seq<Attr>,
+    attrs: BoxedList<Attr>,
     dir: Dir,
     source: &mut S,
 ) -> Result<PortDecl, ReadError>
@@ -63,15 +63,13 @@ fn read_port_rest<S: Source>(
     let signed = read_signed(alloc, cursor, source)?;
     let range = read_range_if_any(alloc, cursor, source)?;
     let name = cursor.name(alloc, source)?;
-    let mut names = Seq::empty(alloc);
-    cursor.add(&mut names, name)?;
     Ok(PortDecl {
         attrs,
         dir,
         kind,
         signed,
         range,
-        names,
+        names: InlineList::one(name),
     })
 }
 
@@ -114,7 +112,7 @@ fn read_port_turn<S: Source>(
     } = decls;
     match cursor.takes_name(alloc, source)? {
         Some(name) => {
-            cursor.add(&mut last.names, name)?;
+            cursor.add_name(alloc, &mut last.names, name)?;
             Ok(PortDecls { before, last })
         }
         None => {
@@ -165,9 +163,7 @@ fn read_name_header<S: Source>(
     ensures value { IfOk result IsHeader }
     ensures size { IfOk result (λ header. header_size header + room cursor.new ≤ room cursor.old) }
 {
-    let mut names = Seq::empty(alloc);
-    cursor.add(&mut names, first)?;
-    let names = read_more_names(alloc, cursor, names, b')', source)?;
+    let names = read_more_names(alloc, cursor, InlineList::one(first), b')', source)?;
     Ok(Header::Names(names))
 }
 
@@ -229,10 +225,10 @@ pub(crate) fn read_header<S: Source>(
     ensures size { IfOk result (λ header. header_size header + room cursor.new ≤ room cursor.old) }
 {
     if !cursor.takes(alloc, b'(', source)? {
-        return Ok(Header::Names(Seq::empty(alloc)));
+        return Ok(Header::Names(InlineList::empty()));
     }
     if cursor.takes(alloc, b')', source)? {
-        return Ok(Header::Names(Seq::empty(alloc)));
+        return Ok(Header::Names(InlineList::empty()));
     }
     let header = read_some_header(alloc, cursor, source)?;
     Ok(header)

@@ -15,7 +15,7 @@ ghost use Rattle.vlog_modules.specs.Grammar.{items};
 
 use crate::header::read_header;
 use crate::parameter::read_params;
-use nl_base::{ReadError, Seq};
+use nl_base::{BoxedList, ReadError, Seq};
 use nl_io::Source;
 use std::alloc::Global;
 use vlog_exprs::{VCursor, fitted};
@@ -158,7 +158,7 @@ fn read_heading_rest<S: Source>(
     alloc: Global,
     cursor: &mut VCursor,
     implicit: bool,
-    attrs: Seq<Attr>,
+    attrs: BoxedList<Attr>,
     source: &mut S,
 ) -> Result<Module, ReadError>
     requires { AreAttrs attrs }
@@ -188,7 +188,7 @@ pub(crate) fn read_heading<S: Source>(
     alloc: Global,
     cursor: &mut VCursor,
     implicit: bool,
-    attrs: Seq<Attr>,
+    attrs: BoxedList<Attr>,
     source: &mut S,
 ) -> Result<Module, ReadError>
     requires { AreAttrs attrs }

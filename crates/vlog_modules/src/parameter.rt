@@ -8,7 +8,7 @@ ghost use Rattle.vlog_tokens.specs.Language.{vlog};
 ghost use Rattle.vlog_modules.specs.States.{AreGroups, groups_size};
 ghost use Rattle.vlog_modules.specs.Grammar.{param_group, more_set, param_turn, param_groups, params_rest, params};
 
-use nl_base::{ReadError, Seq, Text};
+use nl_base::{BoxedList, ReadError, Seq, Text};
 use nl_io::Source;
 use std::alloc::Global;
 use vlog_exprs::{VCursor, read_const};
@@ -40,7 +40,7 @@ fn read_param_group<S: Source>(
     let mut sets = Seq::empty(alloc);
     cursor.add(&mut sets, set)?;
     Ok(ParamDecl {
-        attrs: Seq::empty(alloc),
+        attrs: BoxedList::empty(),
         kind,
         sets,
     })

@@ -3,19 +3,19 @@ ghost use Rattle.std.specs.Prelude.{◌≡◌, ◌++◌, flat_map, map, IfOk, On
 ghost use Rattle.vlog_shown.specs.Interfaces.{bare_header, bare_item, bare_port, interface};
 ghost use Rattle.vlog_design.specs.Tables.{modules_of};
 
-use nl_base::{NoMemory, Seq, Text};
+use nl_base::{BoxedList, InlineList, NoMemory, Seq, Text};
 use std::alloc::Global;
 use vlog_values::{Header, ItemV, Module, PortDecl};
 
 /// Copies of names.
-fn texts_copied(alloc: Global, texts: &[Text]) -> Result<Seq<Text>, NoMemory>
+fn texts_copied(alloc: Global, texts: &[Text]) -> Result<InlineList<Text>, NoMemory>
     ensures { IfOk result (λ made. made ≡ texts.now) }
 {
-    let mut made = Vec::with_capacity(alloc, texts.len())?;
+    let mut made = InlineList::empty();
     for text in texts {
-        made.push(Text::copy(alloc, text.bytes())?)?;
+        made.push(alloc, Text::copy(alloc, text.bytes())?)?;
     }
-    Ok(Seq::of(made))
+    Ok(made)
 }
 
 /// A declaration of ports, without its attributes.
@@ -24,7 +24,7 @@ fn port_copied(alloc: Global, decl: &PortDecl) -> Result<PortDecl, NoMemory>
 {
     let names = texts_copied(alloc, decl.names.items())?;
     Ok(PortDecl {
-        attrs: Seq::empty(alloc),
+        attrs: BoxedList::empty(),
         dir: decl.dir,
         kind: decl.kind,
         signed: decl.signed,
@@ -98,7 +98,7 @@ fn interface_of(alloc: Global, m: &Module) -> Result<Module, NoMemory>
     let header = header_copied(alloc, &m.header)?;
     let items = items_copied(alloc, m.items.items())?;
     Ok(Module {
-        attrs: Seq::empty(alloc),
+        attrs: BoxedList::empty(),
         name,
         implicit: m.implicit,
         params: Seq::empty(alloc),

@@ -1,6 +1,6 @@
 // Names, widths and joins. No clause says that memory is found.
 use net_hier::{Join, Node};
-use nl_base::{Int, Range, Seq, Text};
+use nl_base::{Boxed, BoxedList, InlineList, Int, Range, Seq, Text};
 use std::alloc::Global;
 use std::test::Fail;
 use vlog_design::joins::push_joins;
@@ -10,7 +10,7 @@ use vlog_design::signals::{SignalAt, Slot};
 use vlog_design::table::Table;
 use vlog_design::uses::uses_in;
 use vlog_design::widths::expr_width;
-use vlog_values::{Assignment, Assigns, Boxed, Expr, Header, ItemV, Module, Select};
+use vlog_values::{Assignment, Assigns, Expr, Header, ItemV, Module, Select};
 
 fn reference(alloc: Global, name: &[u8]) -> Result<Expr, Fail> {
     let name = Text::copy(alloc, name)?;
@@ -90,15 +90,15 @@ fn names_of_assignment(alloc: Global) -> Result<usize, Fail> {
     let right = reference(alloc, b"a")?;
     let mut sets = Seq::empty(alloc);
     sets.push(Assignment { left, right })?;
-    let attrs = Seq::empty(alloc);
+    let attrs = BoxedList::empty();
     let mut items = Seq::empty(alloc);
     items.push(ItemV::Assign(Assigns { attrs, sets }))?;
     let m = Module {
-        attrs: Seq::empty(alloc),
+        attrs: BoxedList::empty(),
         name: Text::copy(alloc, b"m")?,
         implicit: true,
         params: Seq::empty(alloc),
-        header: Header::Names(Seq::empty(alloc)),
+        header: Header::Names(InlineList::empty()),
         items,
     };
     let found = uses_in(alloc, &m)?;

@@ -1,6 +1,6 @@
 // Declarations of ports, nets and parameters (IEEE 1364-2005, 3.2, 4.10 and 12.3).
 use crate::expression::{Attr, Const};
-use nl_base::{Dir, Range, Seq, Text};
+use nl_base::{BoxedList, Dir, InlineList, Range, Seq, Text};
 
 /// The kind of net that a port declaration names.
 #[derive(Clone, Copy, PartialEq, Eq)]
@@ -21,22 +21,22 @@ pub enum NetKind {
 /// A declaration of one port or more of one direction, kind and range.
 #[derive(Drop)]
 pub struct PortDecl {
-    pub attrs: Seq<Attr>,
+    pub attrs: BoxedList<Attr>,
     pub dir: Dir,
     pub kind: Option<PortKind>,
     pub signed: bool,
     pub range: Option<Range>,
-    pub names: Seq<Text>,
+    pub names: InlineList<Text>,
 }
 
 /// A declaration of one net or more of one kind and range.
 #[derive(Drop)]
 pub struct NetDecl {
-    pub attrs: Seq<Attr>,
+    pub attrs: BoxedList<Attr>,
     pub kind: NetKind,
     pub signed: bool,
     pub range: Option<Range>,
-    pub names: Seq<Text>,
+    pub names: InlineList<Text>,
 }
 
 /// The type of a parameter.
@@ -57,7 +57,7 @@ pub struct ParamSet {
 /// A declaration of one parameter or more of one type.
 #[derive(Drop)]
 pub struct ParamDecl {
-    pub attrs: Seq<Attr>,
+    pub attrs: BoxedList<Attr>,
     pub kind: ParamType,
     pub sets: Seq<ParamSet>,
 }

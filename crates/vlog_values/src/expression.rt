@@ -1,7 +1,6 @@
 // Constants, attributes and expressions (IEEE 1364-2005, 3.5, 3.8 and 5.1.14).
-use crate::boxed::Boxed;
 use crate::literal::{Based, Literal};
-use nl_base::{Int, Scaled, Seq, Text};
+use nl_base::{Boxed, Int, Scaled, Seq, Text};
 
 /// The value of an attribute or a parameter.
 #[derive(Drop)]

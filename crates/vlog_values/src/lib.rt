@@ -9,7 +9,6 @@
 #![tactic(auto)]
 
 pub mod bits;
-pub mod boxed;
 pub mod declaration;
 pub mod digits;
 pub mod expression;
@@ -20,7 +19,6 @@ pub mod spelled;
 pub mod statement;
 
 pub use bits::{Bits, FilledBits, bits_of, filled_bits_of};
-pub use boxed::Boxed;
 pub use declaration::{NetDecl, NetKind, ParamDecl, ParamSet, ParamType, PortDecl, PortKind};
 pub use expression::{Attr, Const, Expr, Select};
 pub use literal::{Base, Based, Bit, Literal};

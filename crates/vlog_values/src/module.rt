@@ -2,7 +2,7 @@
 use crate::declaration::{NetDecl, ParamDecl, PortDecl};
 use crate::expression::Attr;
 use crate::statement::{Assigns, Defparams, Instances};
-use nl_base::{Seq, Text};
+use nl_base::{BoxedList, InlineList, Seq, Text};
 
 /// What may stand in a module.
 #[derive(Drop)]
@@ -18,14 +18,14 @@ pub enum ItemV {
 /// The ports of a module: names that items declare, or declarations.
 #[derive(Drop)]
 pub enum Header {
-    Names(Seq<Text>),
+    Names(InlineList<Text>),
     Decls(Seq<PortDecl>),
 }
 
 /// A module. `implicit` says whether names may be used as nets without a declaration.
 #[derive(Drop)]
 pub struct Module {
-    pub attrs: Seq<Attr>,
+    pub attrs: BoxedList<Attr>,
     pub name: Text,
     pub implicit: bool,
     pub params: Seq<ParamDecl>,

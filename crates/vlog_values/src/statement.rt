@@ -1,7 +1,7 @@
 // Instances, assignments and `defparam` (IEEE 1364-2005, 6.1, 12.1.2 and 12.2.1).
 use crate::declaration::ParamSet;
 use crate::expression::{Attr, Const, Expr};
-use nl_base::{Seq, Text};
+use nl_base::{BoxedList, Seq, Text};
 
 /// A connection of a port by its name; without a value the port is open.
 #[derive(Drop)]
@@ -27,10 +27,10 @@ pub struct VInst {
 /// A statement that makes one instance or more of one module, with the values of parameters.
 #[derive(Drop)]
 pub struct Instances {
-    pub attrs: Seq<Attr>,
+    pub attrs: BoxedList<Attr>,
     pub module: Text,
-    pub params: Seq<ParamSet>,
-    pub insts: Seq<VInst>,
+    pub params: BoxedList<ParamSet>,
+    pub insts: BoxedList<VInst>,
 }
 
 /// An assignment of the right side to the left.
@@ -43,7 +43,7 @@ pub struct Assignment {
 /// A statement of one assignment or more.
 #[derive(Drop)]
 pub struct Assigns {
-    pub attrs: Seq<Attr>,
+    pub attrs: BoxedList<Attr>,
     pub sets: Seq<Assignment>,
 }
 
@@ -58,6 +58,6 @@ pub struct DefSet {
 /// A statement that gives one parameter or more their values.
 #[derive(Drop)]
 pub struct Defparams {
-    pub attrs: Seq<Attr>,
+    pub attrs: BoxedList<Attr>,
     pub sets: Seq<DefSet>,
 }

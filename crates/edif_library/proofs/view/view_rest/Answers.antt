@@ -26,22 +26,22 @@ returns-in_err-item g c =
 
 pub loop-items-smaller : goal.loop-items-smaller
 unfolding view_rest
-loop-items-smaller g c = smaller _ _ AreViewItems (list_size view_item_size) _ c.loop-items.invariant.1 (rw c.if-branch.true at c.in_ok-at_form.ensures.looks) (rw c.loop-items.invariant.0 at c.in_ok-item.ensures.reads) c.in_ok-add.ensures
+loop-items-smaller g c = smaller _ _ AreViewItems (list_size view_item_size) _ c.loop-items.invariant.1 (rw c.if-branch.true at c.in_ok-at_form.ensures.looks) (rw c.loop-items.invariant.0 at c.in_ok-item.ensures.reads) c.in_ok-add_inline.ensures
 
 pub loop-items-preserved : goal.loop-items-preserved
 unfolding view_rest
 loop-items-preserved g c = (
-  rw (c.in_ok-add.ensures.added.0, filled_more) (c.is_filled-filled.ensures ∙ ap (λ b. b || is_contents c.in_ok-item.item) c.loop-items.invariant.0),
-  turn _ _ AreViewItems (list_size view_item_size) _ c.loop-items.invariant.1 (rw c.if-branch.true at c.in_ok-at_form.ensures.looks) (rw c.loop-items.invariant.0 at c.in_ok-item.ensures.reads) c.in_ok-add.ensures
+  rw (c.in_ok-add_inline.ensures.added.0, filled_more) (c.is_filled-filled.ensures ∙ ap (λ b. b || is_contents c.in_ok-item.item) c.loop-items.invariant.0),
+  turn _ _ AreViewItems (list_size view_item_size) _ c.loop-items.invariant.1 (rw c.if-branch.true at c.in_ok-at_form.ensures.looks) (rw c.loop-items.invariant.0 at c.in_ok-item.ensures.reads) c.in_ok-add_inline.ensures
       (AllByRecursion-push _ _ _ c.loop-items.invariant.1.good.0 c.in_ok-item.ensures.value, filled_once _ _ _ c.loop-items.invariant.0 c.in_ok-item.ensures.once c.loop-items.invariant.1.good.1)
       (one_more view_item_size c.loop-items.items c.in_ok-item.item _ _ c.in_ok-item.ensures.size),
 )
 
-pub returns-in_err-add : goal.returns-in_err-add
+pub returns-in_err-add_inline : goal.returns-in_err-add_inline
 unfolding view_rest
-returns-in_err-add g c =
-    let p = err_from_is_err_and c.from_residual-in_err-add.result c.from_residual-in_err-add.ensures.1 in
-    rw (p.1, p.2) (record { reads = add_failed _ _ AreViewItems (list_size view_item_size) _ c.loop-items.invariant.1 (rw c.if-branch.true at c.in_ok-at_form.ensures.looks) (rw c.loop-items.invariant.0 at c.in_ok-item.ensures.reads) c.in_err-add.ensures; value = tt; once = tt; size = tt })
+returns-in_err-add_inline g c =
+    let p = err_from_is_err_and c.from_residual-in_err-add_inline.result c.from_residual-in_err-add_inline.ensures.1 in
+    rw (p.1, p.2) (record { reads = add_failed _ _ AreViewItems (list_size view_item_size) _ c.loop-items.invariant.1 (rw c.if-branch.true at c.in_ok-at_form.ensures.looks) (rw c.loop-items.invariant.0 at c.in_ok-item.ensures.reads) c.in_err-add_inline.ensures; value = tt; once = tt; size = tt })
 
 pub returns-in_err-finish_form : goal.returns-in_err-finish_form
 unfolding view_rest

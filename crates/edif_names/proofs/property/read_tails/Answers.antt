@@ -29,9 +29,9 @@ unfolding tails tail_item
 loop-tail-preserved g c = grind (arith, item_lists)
 
 -- src/property.rt:56:9
-pub returns-in_err-add-clause-reads : goal.returns-in_err-add-clause-reads
+pub returns-in_err-add_boxed-clause-reads : goal.returns-in_err-add_boxed-clause-reads
 unfolding tails tail_item
-returns-in_err-add-clause-reads g c = grind (arith, item_lists)
+returns-in_err-add_boxed-clause-reads g c = grind (arith, item_lists)
 
 -- src/property.rt:58:5
 pub returns-in_err-finish_form-clause-reads : goal.returns-in_err-finish_form-clause-reads

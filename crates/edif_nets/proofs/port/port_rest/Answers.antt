@@ -24,14 +24,14 @@ loop-items-smaller g c = grind (arith, port_loops)
 pub loop-items-preserved : goal.loop-items-preserved
 unfolding port_rest
 loop-items-preserved g c =
-    let good : ArePortItems c.add.new.list =
-    rw c.in_ok-add.ensures.added.0
+    let good : ArePortItems c.add_inline.new.list =
+    rw c.in_ok-add_inline.ensures.added.0
     (port_items_more c.loop-items.items c.in_ok-item.item c.loop-items.directed c.loop-items.invariant.0.good c.in_ok-item.ensures.value c.loop-items.invariant.1 c.in_ok-item.ensures.one) in
     grind (arith, port_loops)
 
-pub returns-in_err-add-clause-reads : goal.returns-in_err-add-clause-reads
+pub returns-in_err-add_inline-clause-reads : goal.returns-in_err-add_inline-clause-reads
 unfolding port_rest
-returns-in_err-add-clause-reads g c = grind (arith, port_loops)
+returns-in_err-add_inline-clause-reads g c = grind (arith, port_loops)
 
 pub returns-in_err-finish_form-clause-reads : goal.returns-in_err-finish_form-clause-reads
 unfolding port_rest

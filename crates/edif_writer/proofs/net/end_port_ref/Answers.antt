@@ -1,4 +1,5 @@
+use Rattle.std.proofs.Common.{sym}
 use Rattle.edif_writer.proofs.net.end_port_ref.Goals as goal
 
 pub returns-in-Some : goal.returns-in-Some
-returns-in-Some g c = rw c.in-Some.is (λ b rest s. c.put-in-Some-2.ensures b rest (c.write.ensures b _ (c.put-in-Some.ensures b _ s)))
+returns-in-Some g c = rw (sym c.bytes.ensures, c.in-Some.is) (λ b rest s. c.put-in-Some-3.ensures b rest (c.put-in-Some-2.ensures b _ (c.put-in-Some.ensures b _ s)))

@@ -7,7 +7,7 @@ use Rattle.vlog_exprs.specs.Grammar.{commas, cat_rest}
 use Rattle.vlog_exprs.specs.Known.{IsGood}
 use Rattle.vlog_exprs.proofs.Braces.{in_braces}
 use Rattle.vlog_exprs.proofs.Known.{ref_good, loose_good, cat_good, rep_good}
-use Rattle.vlog_exprs.proofs.Lists.{collects, room_added, size_added, some_added}
+use Rattle.vlog_exprs.proofs.ListLaws.{collects, room_added, size_added, some_added}
 use Rattle.vlog_exprs.proofs.expr.+expr.Goals as goal
 
 pub read_rest-returns-in_ok-select-in-Name-clause-value : goal.read_rest-returns-in_ok-select-in-Name-clause-value

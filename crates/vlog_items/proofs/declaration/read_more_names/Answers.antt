@@ -23,11 +23,11 @@ loop-names-smaller g c = grind (arith, loops)
 
 pub loop-names-preserved : goal.loop-names-preserved
 unfolding commas
-loop-names-preserved g c = collects (grind (arith, loops)) (λ are. some_added c.in_ok-add.ensures IsName (c.loop-names.invariant.good are).all c.in_ok-name.ensures.value) (omega (arith, length_added c.in_ok-add.ensures, room_added c.in_ok-add.ensures, c.in_ok-takes.ensures.value.2, c.in_ok-name.ensures.reads.value.2))
+loop-names-preserved g c = collects (grind (arith, loops)) (λ are. some_added c.in_ok-add_name.ensures IsName (c.loop-names.invariant.good are).all c.in_ok-name.ensures.value) (omega (arith, length_added c.in_ok-add_name.ensures, room_added c.in_ok-add_name.ensures, c.in_ok-takes.ensures.value.2, c.in_ok-name.ensures.reads.value.2))
 
-pub returns-in_err-add-clause-reads : goal.returns-in_err-add-clause-reads
+pub returns-in_err-add_name-clause-reads : goal.returns-in_err-add_name-clause-reads
 unfolding commas
-returns-in_err-add-clause-reads g c = grind (arith, loops)
+returns-in_err-add_name-clause-reads g c = grind (arith, loops)
 
 pub returns-in_err-mark-clause-reads : goal.returns-in_err-mark-clause-reads
 unfolding commas

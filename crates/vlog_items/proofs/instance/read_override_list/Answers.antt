@@ -9,13 +9,13 @@ pub returns-in_err-set-clause-reads : goal.returns-in_err-set-clause-reads
 unfolding list commas
 returns-in_err-set-clause-reads g c = grind (arith, loops)
 
-pub returns-in_err-add-clause-reads : goal.returns-in_err-add-clause-reads
+pub returns-in_err-add_boxed-clause-reads : goal.returns-in_err-add_boxed-clause-reads
 unfolding list commas
-returns-in_err-add-clause-reads g c = grind (arith, loops)
+returns-in_err-add_boxed-clause-reads g c = grind (arith, loops)
 
 pub loop-sets-init : goal.loop-sets-init
 unfolding list commas
-loop-sets-init g c = collects (grind (arith, loops)) (first_added c.in_ok-add.ensures c.empty-sets.ensures IsParamSet c.in_ok-set.ensures.value) (omega (arith, first_length c.in_ok-add.ensures c.empty-sets.ensures, room_added c.in_ok-add.ensures, c.in_ok-set.ensures.reads.value.2))
+loop-sets-init g c = collects (grind (arith, loops)) (first_added c.in_ok-add_boxed.ensures c.empty-sets.ensures IsParamSet c.in_ok-set.ensures.value) (omega (arith, first_length c.in_ok-add_boxed.ensures c.empty-sets.ensures, room_added c.in_ok-add_boxed.ensures, c.in_ok-set.ensures.reads.value.2))
 
 pub returns-in_err-takes-clause-reads : goal.returns-in_err-takes-clause-reads
 unfolding list commas
@@ -31,11 +31,11 @@ loop-sets-smaller g c = grind (arith, loops)
 
 pub loop-sets-preserved : goal.loop-sets-preserved
 unfolding list commas
-loop-sets-preserved g c = collects (grind (arith, loops)) (some_added c.in_ok-add-2.ensures IsParamSet c.loop-sets.invariant.good.all c.in_ok-set-2.ensures.value) (omega (arith, length_added c.in_ok-add-2.ensures, room_added c.in_ok-add-2.ensures, c.in_ok-takes.ensures.value.2, c.in_ok-set-2.ensures.reads.value.2))
+loop-sets-preserved g c = collects (grind (arith, loops)) (some_added c.in_ok-add_boxed-2.ensures IsParamSet c.loop-sets.invariant.good.all c.in_ok-set-2.ensures.value) (omega (arith, length_added c.in_ok-add_boxed-2.ensures, room_added c.in_ok-add_boxed-2.ensures, c.in_ok-takes.ensures.value.2, c.in_ok-set-2.ensures.reads.value.2))
 
-pub returns-in_err-add-2-clause-reads : goal.returns-in_err-add-2-clause-reads
+pub returns-in_err-add_boxed-2-clause-reads : goal.returns-in_err-add_boxed-2-clause-reads
 unfolding list commas
-returns-in_err-add-2-clause-reads g c = grind (arith, loops)
+returns-in_err-add_boxed-2-clause-reads g c = grind (arith, loops)
 
 pub returns-in_err-mark-clause-reads : goal.returns-in_err-mark-clause-reads
 unfolding list commas

@@ -1,7 +1,7 @@
 // A value at a place of its own in memory, for a large part of a small type.
 ghost use Rattle.std.specs.Prelude.{◌≡◌, IfOk};
 
-use nl_base::NoMemory;
+use crate::memory::NoMemory;
 use std::alloc::Global;
 use std::marker::Model;
 

@@ -18,10 +18,10 @@ use Rattle.std.specs.contracts.boxed.Box as box
 use Rattle.std.specs.declared.alloc.Global.{Global}
 use Rattle.std.specs.contracts.alloc.Global as heap
 use Rattle.std.specs.contracts.impls.GlobalAllocator.TheImpl.{ghosts}
-use Rattle.vlog_values.specs.declared.boxed.Boxed.TheInside.{Inside}
-use Rattle.vlog_values.specs.declared.boxed.Boxed.TheView.{view, invariant}
-use Rattle.vlog_values.specs.contracts.boxed.Boxed as C
-use Rattle.vlog_values.specs.contracts.boxed.Boxed.TheInside as I
+use Rattle.nl_base.specs.declared.boxed.Boxed.TheInside.{Inside}
+use Rattle.nl_base.specs.declared.boxed.Boxed.TheView.{view, invariant}
+use Rattle.nl_base.specs.contracts.boxed.Boxed as C
+use Rattle.nl_base.specs.contracts.boxed.Boxed.TheInside as I
 
 abbrev pub the_former : Former {0} → Former {0}
 the_former g = g
