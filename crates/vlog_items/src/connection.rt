@@ -13,8 +13,9 @@ use std::alloc::Global;
 use vlog_exprs::{VCursor, fitted, read_expr_if_any, seq_with_room};
 use vlog_values::{Conns, Expr, NamedConn};
 
-/// For how many connections by name an instance has room from the first: those of a gate of two inputs.
-const USUAL: usize = 3;
+/// For how many connections by name an instance has room from the first: those of an inverter. What a list of three gives back behind its end is
+/// as large as the instance, which is put there next.
+const USUAL: usize = 2;
 
 /// Reads on behind the point of a connection by name.
 #[inline(always)]
