@@ -1,9 +1,21 @@
-use Rattle.std.proofs.Common.{◌∙◌, ap, ◌||◌}
-use Rattle.std.specs.List.{list_any}
-use Rattle.edif_design.specs.CellRules.{same_node}
-use Rattle.edif_rules.specs.Spots.{node_at}
-use Rattle.edif_rules.proofs.BitLaws.{one_more_bit}
+use Rattle.std.proofs.lemmas.Result.{on_ok_weaker}
+use Rattle.edif_rules.proofs.BitLaws.{halves_kept, one_more_own, one_more_pin}
 use Rattle.edif_rules.proofs.bits.TakenBits.add.Goals as goal
 
-pub returns-in-Ok-clause-added : goal.returns-in-Ok-clause-added
-returns-in-Ok-clause-added c other = one_more_bit c.self.inside.set.keys c.insert.new.self.keys c.args.spot c.in-Ok.ensures.keys other ∙ ap (λ bits. same_node other (node_at c.args.spot) || list_any (same_node other) bits) c.self.view_is
+pub invariant_of-self : goal.invariant_of-self
+invariant_of-self c =
+    halves_kept c.add_key.result c.self.inside.own.keys c.add_key.new.set.keys c.args.spot.port c.args.spot.bit c.own_key.result c.self.invariant
+    c.own_key.ensures c.add_key.ensures.added c.add_key.ensures.kept
+
+pub returns-in-None-clause-added : goal.returns-in-None-clause-added
+returns-in-None-clause-added c =
+    on_ok_weaker c.add_key.result
+    (one_more_own c.args.spot c.self.inside.own.keys c.add_key.new.set.keys c.self.inside.pins.keys c.args.self.now c.own_key.result c.self.invariant c.in-None.is c.self.view_is
+    c.own_key.ensures)
+    c.add_key.ensures.added
+
+pub returns-in-Some-clause-added : goal.returns-in-Some-clause-added
+returns-in-Some-clause-added c =
+    on_ok_weaker c.add_key-in-Some.result
+    (one_more_pin c.args.spot c.in-Some.instance c.self.inside.own.keys c.self.inside.pins.keys c.add_key-in-Some.new.set.keys c.args.self.now c.in-Some.is c.self.view_is)
+    c.add_key-in-Some.ensures.added
