@@ -53,10 +53,6 @@ distinct_append (x ∷ xs) ys h k apart = (
   distinct_append xs ys h.1 k (λ name e. apart name (or_right (bytes_eq name x) (has_name xs name) e)),
 )
 
-pub distinct_left : (xs ys : List Name) → Distinct (xs ++ ys) → Distinct xs
-distinct_left [] ys h = tt
-distinct_left (x ∷ xs) ys h = ((or_parts (has_name xs x) (has_name ys x) (sym (has_append xs ys x) ∙ h.0)).0, distinct_left xs ys h.1)
-
 -- a name that stands behind others is none of them
 pub not_before : (xs : List Name) (x : Name) (ys : List Name) → Distinct (xs ++ x ∷ ys) → has_name xs x ≡ false
 not_before [] x ys h = refl

@@ -1,25 +1,22 @@
 -- Where each name that stands whole as a target is a port or declared net, no net is implicit.
-use Rattle.std.proofs.Common.{◌≡◌, Bool, true, false, not, ◌&&◌, List, [], ◌∷◌, bytes_eq, flat_map, is_none, refl, sym, ap, ◌∙◌, inl, inr}
+use Rattle.std.proofs.Common.{◌≡◌, Bool, true, false, not, ◌&&◌, List, [], ◌∷◌, bytes_eq, flat_map, refl, sym, ap, ◌∙◌, inl, inr}
 use Rattle.std.specs.List.{list_any}
-use Rattle.std.proofs.lemmas.Bool.{and_parts, false≢true, or_cases, or_parts, true_from_ne_false}
+use Rattle.std.proofs.lemmas.Bool.{and_parts, false≢true, or_cases, or_parts}
 use Rattle.std.proofs.lemmas.Slice.Eq.{bytes_eq-Decides}
-use Rattle.vlog_design.specs.Names.{Name, Signal, Use, first_places, has_name, implicit_names, is_declared, is_implicit, is_whole, item_targets, module_uses, signal_named, target_uses, uses}
+use Rattle.vlog_design.specs.Names.{Name, Signal, Use, first_places, has_name, implicit_names, is_declared, is_implicit, is_whole, item_targets, module_uses, target_uses, uses}
 use Rattle.vlog_values.specs.declared.module.ItemV.{ItemV}
 use Rattle.vlog_values.specs.declared.module.Module.{Module}
 use Rattle.vlog_scopes.specs.Signals.{declared_signals}
 use Rattle.vlog_scopes.specs.Distinct.{signal_names}
 use Rattle.vlog_scopes.specs.Implicit.{is_unknown, used_names}
 use Rattle.vlog_scopes.proofs.ImplicitLaws.{none_kept}
-use Rattle.vlog_scopes.proofs.SignalLaws.{declared_known, unnamed}
+use Rattle.vlog_scopes.proofs.SignalLaws.{declared_known}
 
--- a name that is found is one of the table's
-found_known : (table : List Signal) (name : Name) → is_none (signal_named table name) ≡ false → has_name (signal_names table) name ≡ true
-found_known table name h = true_from_ne_false (has_name (signal_names table) name) (λ gone. false≢true (sym h ∙ ap is_none (unnamed table name gone)))
-
--- a whole name that is not unknown is found
-whole_found : (whole none : Bool) → (whole && none) ≡ false → whole ≡ true → none ≡ false
-whole_found true none h e = h
-whole_found false none h e = absurd (false≢true e)
+-- a whole name that is not unknown is one of the table's
+whole_known : (whole known : Bool) → (whole && not known) ≡ false → whole ≡ true → known ≡ true
+whole_known true true h e = refl
+whole_known true false h e = absurd (false≢true (sym h))
+whole_known false known h e = absurd (false≢true e)
 
 module _ (table : List Signal) (name : Name) where
   target_known : (us : List Use) → list_any (is_unknown table) us ≡ false → list_any (λ u. bytes_eq name u.name && is_whole u.select) us ≡ true → has_name (signal_names table) name ≡ true
@@ -29,7 +26,7 @@ module _ (table : List Signal) (name : Name) where
       elim (or_cases (bytes_eq name u.name && is_whole u.select) (list_any (λ v. bytes_eq name v.name && is_whole v.select) us) e) [
         | inl here ↦ (let own = and_parts (bytes_eq name u.name) (is_whole u.select) here in
             ap (has_name (signal_names table)) ((bytes_eq-Decides name u.name).0 own.0)
-            ∙ found_known table u.name (whole_found (is_whole u.select) (is_none (signal_named table u.name)) parts.0 own.1))
+            ∙ whole_known (is_whole u.select) (has_name (signal_names table) u.name) parts.0 own.1)
         | inr later ↦ target_known us parts.1 later
       ]
 

@@ -1,6 +1,7 @@
 pub mod Declarations
 pub mod DistinctLaws
 pub mod FewNames
+pub mod FilledLaws
 pub mod ImplicitLaws
 pub mod KnownLaws
 pub mod ModuleLaws

@@ -1,5 +1,5 @@
 -- The ports and nets of a module, as they are listed.
-use Rattle.std.proofs.Common.{◌≡◌, ℕ, ◌+◌, Bool, true, false, not, ◌&&◌, ◌||◌, cond, List, [], ◌∷◌, ◌++◌, Option, None, Some, filter, find, flat_map, map, bytes_eq, option_map, refl, sym, ap, subst, ◌∙◌, append_assoc, append-nil, inl, inr}
+use Rattle.std.proofs.Common.{◌≡◌, ℕ, ◌+◌, Bool, true, false, not, ◌&&◌, ◌||◌, cond, List, [], ◌∷◌, ◌++◌, Option, None, Some, filter, find, flat_map, is_none, is_some, map, bytes_eq, option_map, refl, sym, ap, subst, ◌∙◌, append_assoc, append-nil, inl, inr}
 use Rattle.std.proofs.lemmas.Bool.{both_ways, false_from_ne_true, false≢true, not-true, or_cases, or_from}
 use Rattle.std.proofs.lemmas.List.{map-append}
 use Rattle.std.proofs.lemmas.List.Elements.{filter-append}
@@ -12,7 +12,7 @@ use Rattle.vlog_scopes.specs.Signals.{declared_nets, declared_signals}
 use Rattle.vlog_scopes.specs.Distinct.{Distinct, signal_names}
 use Rattle.vlog_scopes.specs.Ranged.{RangedName, net_slots, number_behind, of_range, plain_names, port_slots, range_named, ranged_nets}
 use Rattle.vlog_scopes.proofs.Declarations.{net_declared, nets_distinct, port_declared, ports_distinct}
-use Rattle.vlog_scopes.proofs.DistinctLaws.{distinct_append, distinct_filter, distinct_first, distinct_left, has_all, has_append, has_first, has_passed}
+use Rattle.vlog_scopes.proofs.DistinctLaws.{distinct_append, distinct_filter, distinct_first, has_all, has_append, has_first, has_passed}
 use Rattle.vlog_values.specs.declared.declaration.NetDecl.{NetDecl}
 use Rattle.vlog_values.specs.declared.module.Module.{Module}
 
@@ -34,6 +34,20 @@ wires_slots first (w ∷ ws) = ap (λ rest. record { name = w.name; slot = recor
 pub nets_append : (first : ℕ) (xs ys : List RangedName) → net_slots first (xs ++ ys) ≡ net_slots first xs ++ net_slots (number_behind first xs) ys
 nets_append first [] ys = refl
 nets_append first (x ∷ xs) ys = ap (λ rest. record { name = x.name; slot = record { range = x.range; place = AtNet first } } ∷ rest) (nets_append (first + width_of x.range) xs ys)
+
+-- the names of nets
+
+pub net_slot_names : (first : ℕ) (nets : List RangedName) → signal_names (net_slots first nets) ≡ plain_names nets
+net_slot_names first [] = refl
+net_slot_names first (x ∷ xs) = ap (λ rest. x.name ∷ rest) (net_slot_names (first + width_of x.range) xs)
+
+pub plain_of_range : (range : Option Bounds) (names : List Name) → plain_names (of_range range names) ≡ names
+plain_of_range range [] = refl
+plain_of_range range (x ∷ xs) = ap (λ rest. x ∷ rest) (plain_of_range range xs)
+
+pub plain_decls : (decls : List NetDecl) → plain_names (flat_map ranged_nets decls) ≡ flat_map (λ decl. decl.names) decls
+plain_decls [] = refl
+plain_decls (d ∷ ds) = map-append (λ (one : RangedName). one.name) (ranged_nets d) (flat_map ranged_nets ds) ∙ (λ j. plain_of_range d.range d.names j ++ plain_decls ds j)
 
 module _ (m : Module) where
   decl_plain : (decl : NetDecl) (names : List Name) →
@@ -76,17 +90,9 @@ module _ (m : Module) where
 
   -- their names
 
-  port_signal_names : (number : ℕ) (names : List Name) → signal_names (port_signals m number names) ≡ names
+  pub port_signal_names : (number : ℕ) (names : List Name) → signal_names (port_signals m number names) ≡ names
   port_signal_names number [] = refl
   port_signal_names number (x ∷ xs) = ap (λ rest. x ∷ rest) (port_signal_names (number + 1) xs)
-
-  net_slot_names : (first : ℕ) (nets : List RangedName) → signal_names (net_slots first nets) ≡ plain_names nets
-  net_slot_names first [] = refl
-  net_slot_names first (x ∷ xs) = ap (λ rest. x.name ∷ rest) (net_slot_names (first + width_of x.range) xs)
-
-  plain_of_range : (range : Option Bounds) (names : List Name) → plain_names (of_range range names) ≡ names
-  plain_of_range range [] = refl
-  plain_of_range range (x ∷ xs) = ap (λ rest. x ∷ rest) (plain_of_range range xs)
 
   plain_passed : (nets : List RangedName) → plain_names (filter (λ one. not (has_name (port_names m) one.name)) nets) ≡ filter (λ name. not (has_name (port_names m) name)) (plain_names nets)
   plain_passed [] = refl
@@ -97,10 +103,6 @@ module _ (m : Module) where
           ≡ cond b (x.name ∷ filter (λ name. not (has_name (port_names m) name)) (plain_names xs)) (filter (λ name. not (has_name (port_names m) name)) (plain_names xs))
       by true h = ap (λ rest. x.name ∷ rest) h
       by false h = h
-
-  plain_decls : (decls : List NetDecl) → plain_names (flat_map ranged_nets decls) ≡ flat_map (λ decl. decl.names) decls
-  plain_decls [] = refl
-  plain_decls (d ∷ ds) = map-append (λ (one : RangedName). one.name) (ranged_nets d) (flat_map ranged_nets ds) ∙ (λ j. plain_of_range d.range d.names j ++ plain_decls ds j)
 
   names_are : signal_names (signals m) ≡ port_names m ++ (filter (λ name. not (has_name (port_names m) name)) (net_names m) ++ implicit_names m)
   unfolding signals
@@ -155,24 +157,25 @@ module _ (m : Module) where
       (λ f. both_ways (has_name (port_names m) name) (not-true (has_name (port_names m) name) (has_passed (λ n. not (has_name (port_names m) n)) (net_names m) name f)) e))
       (no_implicit name (port_declared m name e))))
 
-  -- the names of the ports and declared nets differ too
-  pub declared_distinct : declared_twice m ≡ [] → Distinct (signal_names (declared_signals m))
-  declared_distinct once =
-      let behind = net_slots (number_behind 0 (declared_nets m)) (of_range None (implicit_names m)) in
-      distinct_left (signal_names (declared_signals m)) (signal_names behind)
-      (subst Distinct (ap signal_names signals_are ∙ map-append (λ (s : Signal). s.name) (declared_signals m) behind) (names_distinct once))
-
   -- without implicit nets there are no other signals
   pub all_declared : implicit_names m ≡ [] → declared_signals m ≡ signals m
   all_declared none = sym (signals_are ∙ (ap (λ names. declared_signals m ++ net_slots (number_behind 0 (declared_nets m)) (of_range None names)) none ∙ append-nil (declared_signals m)))
 
--- a name that is none of a table's is new
-pub unnamed : (table : List Signal) (name : Name) → has_name (signal_names table) name ≡ false → signal_named table name ≡ None
+-- a name is found where it is one of a table's
+pub named_some : (table : List Signal) (name : Name) → is_some (signal_named table name) ≡ has_name (signal_names table) name
 unfolding signal_named
-unnamed [] name h = refl
-unnamed (s ∷ ss) name h = by (bytes_eq name s.name) h (unnamed ss name)
+named_some [] name = refl
+named_some (s ∷ ss) name = by (bytes_eq name s.name) (named_some ss name)
   where
-    by : (b : Bool) → (b || has_name (signal_names ss) name) ≡ false → (has_name (signal_names ss) name ≡ false → option_map (λ (x : Signal). x.slot) (find (λ (x : Signal). bytes_eq name x.name) ss) ≡ None)
-        → option_map (λ (x : Signal). x.slot) (cond b (Some s) (find (λ (x : Signal). bytes_eq name x.name) ss)) ≡ None
-    by true e next = absurd cc
-    by false e next = next e
+    by : (b : Bool) → is_some (option_map (λ (x : Signal). x.slot) (find (λ (x : Signal). bytes_eq name x.name) ss)) ≡ has_name (signal_names ss) name
+        → is_some (option_map (λ (x : Signal). x.slot) (cond b (Some s) (find (λ (x : Signal). bytes_eq name x.name) ss))) ≡ (b || has_name (signal_names ss) name)
+    by true h = refl
+    by false h = h
+
+none_not_some : {A : Type 0} (o : Option A) → is_none o ≡ not (is_some o)
+none_not_some None = refl
+none_not_some (Some x) = refl
+
+-- and is new where it is none of them
+pub named_none : (table : List Signal) (name : Name) → is_none (signal_named table name) ≡ not (has_name (signal_names table) name)
+named_none table name = none_not_some (signal_named table name) ∙ ap not (named_some table name)

@@ -1,6 +1,7 @@
 -- Nets without a declaration (IEEE 1364-2005, 4.5).
-use Rattle.std.specs.Prelude.{Bool, not, ◌&&◌, List, [], ◌∷◌, ◌++◌, map, filter, is_none, if◌then◌else◌}
-use Rattle.vlog_design.specs.Names.{Declaration, Name, Signal, Use, has_name, is_whole, signal_named}
+use Rattle.std.specs.Prelude.{Bool, not, ◌&&◌, List, [], ◌∷◌, ◌++◌, map, filter, if◌then◌else◌}
+use Rattle.vlog_design.specs.Names.{Declaration, Name, Signal, Use, has_name, is_whole}
+use Rattle.vlog_scopes.specs.Distinct.{signal_names}
 
 -- the names that are declared
 abbrev pub declared_names : List Declaration → List Name
@@ -25,4 +26,4 @@ new_places test before (name ∷ names) = new_place test before name ++ new_plac
 
 -- the name stands whole and is none of these
 abbrev pub is_unknown : List Signal → Use → Bool
-is_unknown signals u = is_whole u.select && is_none (signal_named signals u.name)
+is_unknown signals u = is_whole u.select && not (has_name (signal_names signals) u.name)

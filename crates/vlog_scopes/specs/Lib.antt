@@ -1,4 +1,5 @@
 pub mod Distinct
+pub mod Filled
 pub mod Implicit
 pub mod Instances
 pub mod Ranged

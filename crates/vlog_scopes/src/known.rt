@@ -1,27 +1,27 @@
 // Whether a module has nets that no declaration declares.
-ghost use Rattle.std.specs.Prelude.{◌≡◌, ◌&&◌, [], true, flat_map, is_none, IfOk};
+ghost use Rattle.std.specs.Prelude.{◌≡◌, ◌&&◌, [], true, flat_map, IfOk};
 ghost use Rattle.std.specs.List.{list_any};
-ghost use Rattle.vlog_design.specs.Names.{implicit_names, is_whole, item_targets, signal_named, uses};
+ghost use Rattle.vlog_design.specs.Names.{implicit_names, is_whole, item_targets, uses};
 ghost use Rattle.vlog_design.specs.Uses.{use_of, uses_of};
 ghost use Rattle.vlog_scopes.specs.Signals.{declared_signals};
 ghost use Rattle.vlog_scopes.specs.Implicit.{is_unknown};
 
 use crate::implicit::is_whole;
+use crate::new_table::NewTable;
 use crate::targets::push_item_targets;
 use nl_base::NoMemory;
 use std::alloc::Global;
-use vlog_design::table::Table;
 use vlog_design::uses::UseOf;
 use vlog_values::{ItemV, Module};
 
 /// Whether the name stands whole and is none of the table.
-fn is_unknown(table: &Table, u: &UseOf) -> bool
+fn is_unknown(table: &NewTable, u: &UseOf) -> bool
     ensures { result ≡ is_unknown table.now (use_of u.now) }
 {
-    is_whole(u.select) && table.find(u.name).is_none()
+    is_whole(u.select) && !table.has(u.name)
 }
 
-fn any_unknown(table: &Table, uses: &[UseOf]) -> bool
+fn any_unknown(table: &NewTable, uses: &[UseOf]) -> bool
     ensures { result ≡ list_any (is_unknown table.now) (uses_of uses.now) }
 {
     for u in uses {
@@ -34,7 +34,7 @@ fn any_unknown(table: &Table, uses: &[UseOf]) -> bool
 
 /// Whether a target in an item is unknown. The list has room for its targets.
 fn has_unknown_in<'a>(
-    table: &Table,
+    table: &NewTable,
     item: &'a ItemV,
     targets: &mut Vec<UseOf<'a>>,
 ) -> Result<bool, NoMemory>
@@ -47,7 +47,7 @@ fn has_unknown_in<'a>(
 }
 
 /// Whether a target in some of the items is unknown. No list of all of them is made.
-fn has_unknown(alloc: Global, table: &Table, items: &[ItemV]) -> Result<bool, NoMemory>
+fn has_unknown(alloc: Global, table: &NewTable, items: &[ItemV]) -> Result<bool, NoMemory>
     ensures { IfOk result (λ unknown. unknown
         ≡ list_any (is_unknown table.now) (flat_map uses (flat_map item_targets items.now))) }
 {
@@ -62,7 +62,7 @@ fn has_unknown(alloc: Global, table: &Table, items: &[ItemV]) -> Result<bool, No
 }
 
 /// Whether it shows, by the table of its ports and declared nets, that the module has no other nets: `false` says nothing.
-pub(crate) fn shows_none(alloc: Global, m: &Module, table: &Table) -> Result<bool, NoMemory>
+pub(crate) fn shows_none(alloc: Global, m: &Module, table: &NewTable) -> Result<bool, NoMemory>
     requires { table.now ≡ declared_signals m.now }
     ensures { IfOk result (λ shown. shown ≡ true → implicit_names m.now ≡ []) }
 {

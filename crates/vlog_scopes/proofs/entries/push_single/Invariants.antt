@@ -1,7 +1,0 @@
-use Rattle.std.proofs.Common.{◌≡◌, ◌+◌, ◌++◌, None, drop}
-use Rattle.vlog_design.specs.Tables.{names_of, signals_of}
-use Rattle.vlog_scopes.specs.Ranged.{net_slots, of_range}
-use Rattle.vlog_scopes.proofs.entries.push_single.Given as goal
-
-abbrev pub invariant-loop-number : goal.invariant-loop-number
-invariant-loop-number l = signals_of l.out.items ++ net_slots (l.first + l.number) (of_range None (names_of (drop l.number l.names))) ≡ signals_of l.initial.out.items ++ net_slots l.first (of_range None (names_of l.names))
