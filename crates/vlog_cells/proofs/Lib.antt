@@ -2,5 +2,8 @@ pub mod GroupLaws
 pub mod InstanceLaws
 pub mod NetLaws
 pub mod OnceLaws
+pub mod PartLaws
+pub mod PinLaws
 pub mod PortLaws
 pub mod Turns
+pub mod TyingLaws

@@ -1,9 +1,8 @@
 // The instances of a cell.
 ghost use Rattle.std.specs.Prelude.{◌≡◌, ◌<◌, ◌^◌, ◌++◌, [], List, ℕ, bytes_eq, flat_map, length, map, IfOk, OnOk};
 ghost use Rattle.std.specs.List.{position_or_len};
-ghost use Rattle.vlog_design.specs.Design.{def_sets, module_instances};
+ghost use Rattle.vlog_design.specs.Design.{def_sets};
 ghost use Rattle.vlog_design.specs.Names.{defparam_statement, instance_statement};
-ghost use Rattle.vlog_values.specs.declared.module.Module.{Module};
 ghost use Rattle.vlog_cells.specs.Instances.{instance_by, instances_by, props_by, sets_for, sets_of, sets_under};
 
 use crate::groups::Groups;
@@ -53,7 +52,7 @@ fn note_item<'a>(
 }
 
 /// The values by `defparam` of a module under the names of their instances, in the order of the text.
-fn sets_in<'a>(alloc: Global, m: &'a Module) -> Result<Groups<'a, &'a DefSet>, NoMemory>
+pub(crate) fn sets_in<'a>(alloc: Global, m: &'a Module) -> Result<Groups<'a, &'a DefSet>, NoMemory>
     ensures { IfOk result (λ found. (key : List ℕ)
         → sets_under found key ≡ sets_for key (def_sets m.now)) }
 {
@@ -131,7 +130,7 @@ fn add_statement(
 }
 
 /// Adds the instances of an item.
-fn add_item(
+pub(crate) fn add_item(
     alloc: Global,
     names: &NameSet,
     found: &Groups<'_, &DefSet>,
@@ -157,26 +156,6 @@ fn add_item(
     }
 }
 
-/// Adds the instances of items.
-fn add_items(
-    alloc: Global,
-    names: &NameSet,
-    found: &Groups<'_, &DefSet>,
-    items: &[ItemV],
-    made: &mut Seq<HInst>,
-    spelling: &mut Vec<u8>,
-) -> Result<(), NoMemory>
-    requires { length names.now < 2 ^ 32 }
-    ensures added { OnOk result (made.new
-        ≡ made.old ++ flat_map (instances_by names.now found.now)
-        (flat_map instance_statement items.now)) }
-{
-    for item in items {
-        add_item(alloc, names, found, item, made, spelling)?;
-    }
-    Ok(())
-}
-
 /// How many instances an item has.
 fn count_in(item: &ItemV) -> usize {
     match item {
@@ -190,7 +169,7 @@ fn count_in(item: &ItemV) -> usize {
 }
 
 /// How many instances items have.
-fn instance_count(items: &[ItemV]) -> usize {
+fn count_of(items: &[ItemV]) -> usize {
     let mut count: usize = 0;
     for item in items {
         count = count.saturating_add(count_in(item));
@@ -198,30 +177,10 @@ fn instance_count(items: &[ItemV]) -> usize {
     count
 }
 
-/// A list with room for so many instances.
-fn instance_room(alloc: Global, count: usize) -> Result<Seq<HInst>, NoMemory>
+/// A list with room for the instances of these items.
+pub(crate) fn instance_room(alloc: Global, items: &[ItemV]) -> Result<Seq<HInst>, NoMemory>
     ensures { IfOk result (λ made. made ≡ []) }
 {
-    let room = Vec::with_capacity(alloc, count)?;
+    let room = Vec::with_capacity(alloc, count_of(items))?;
     Ok(Seq::of(room))
-}
-
-/// The instances of a module. The names are those of the modules of the design.
-pub fn instances_made(alloc: Global, names: &NameSet, m: &Module) -> Result<Seq<HInst>, NoMemory>
-    requires few { length names.now < 2 ^ 32 }
-    ensures { IfOk result (λ made. (modules : List Module) → names.now ≡ map (λ m. m.name) modules
-        → made ≡ module_instances modules m.now) }
-{
-    let found = sets_in(alloc, m)?;
-    let mut made = instance_room(alloc, instance_count(m.items.items()))?;
-    let mut spelling = Vec::new(alloc);
-    add_items(
-        alloc,
-        names,
-        &found,
-        m.items.items(),
-        &mut made,
-        &mut spelling,
-    )?;
-    Ok(made)
 }

@@ -4,6 +4,8 @@ ghost use Rattle.std.specs.Fmt.{signed_decimal};
 ghost use Rattle.nl_base.specs.Ranges.{index_at, range_bits};
 ghost use Rattle.vlog_design.specs.Design.{attr_props, module_nets, wire_nets};
 ghost use Rattle.vlog_design.specs.Names.{net_decl, signals};
+ghost use Rattle.vlog_values.specs.declared.module.Module.{Module as ModuleValue};
+ghost use Rattle.vlog_cells.specs.Parts.{declared_part};
 ghost use Rattle.vlog_cells.specs.Nets.{bit_nets, is_late, late_nets, names_port, wire_of, wires_by, wires_in};
 
 use crate::properties::attrs_made;
@@ -276,14 +278,18 @@ fn net_count(table: &Table) -> u64 {
     }
 }
 
-/// The nets of a module.
-pub fn nets_made(alloc: Global, m: &Module, table: &Table) -> Result<Seq<HNet>, NoMemory>
-    requires { table.now ≡ signals m.now }
-    ensures { IfOk result (λ made. made ≡ module_nets m.now) }
+/// The nets of a module, by what it declares and the table of its names.
+pub(crate) fn nets_made(
+    alloc: Global,
+    declared: &Module,
+    table: &Table,
+) -> Result<Seq<HNet>, NoMemory>
+    ensures { IfOk result (λ made. (m : ModuleValue) → declared.now ≡ declared_part m
+        → table.now ≡ signals m → made ≡ module_nets m) }
 {
     let mut made = Vec::with_capacity(alloc, net_count(table) as usize)?;
     let mut front = Vec::new(alloc);
-    add_items(alloc, table, m.items.items(), &mut front, &mut made)?;
+    add_items(alloc, table, declared.items.items(), &mut front, &mut made)?;
     let from = made.len() as u64;
     add_implicit(alloc, from, table, &mut made)?;
     Ok(Seq::of(made))

@@ -3,6 +3,8 @@ ghost use Rattle.std.specs.Prelude.{◌≡◌, ◌++◌, [], flat_map, map, IfOk
 ghost use Rattle.vlog_design.specs.Design.{attr_props, module_ports};
 ghost use Rattle.vlog_design.specs.Names.{header_names, signals};
 ghost use Rattle.vlog_design.specs.Rules.{declared_twice};
+ghost use Rattle.vlog_values.specs.declared.module.Module.{Module as ModuleValue};
+ghost use Rattle.vlog_cells.specs.Parts.{declared_part};
 ghost use Rattle.vlog_cells.specs.Ports.{attrs_said, dir_said, port_by, range_in, said};
 
 use crate::groups::Groups;
@@ -130,14 +132,17 @@ fn add_header(
     }
 }
 
-/// The ports of a module, in which no name is declared twice.
-pub fn ports_made(alloc: Global, m: &Module, table: &Table) -> Result<Seq<HPort>, NoMemory>
-    requires whole { table.now ≡ signals m.now }
-    requires once { declared_twice m.now ≡ [] }
-    ensures { IfOk result (λ made. made ≡ module_ports m.now) }
+/// The ports of a module, in which no name is declared twice, by what it declares and the table of its names.
+pub(crate) fn ports_made(
+    alloc: Global,
+    declared: &Module,
+    table: &Table,
+) -> Result<Seq<HPort>, NoMemory>
+    ensures { IfOk result (λ made. (m : ModuleValue) → declared.now ≡ declared_part m
+        → table.now ≡ signals m → declared_twice m ≡ [] → made ≡ module_ports m) }
 {
-    let found = mentions_in(alloc, m, table)?;
+    let found = mentions_in(alloc, declared, table)?;
     let mut made = Seq::empty(alloc);
-    add_header(alloc, table, &found, &m.header, &mut made)?;
+    add_header(alloc, table, &found, &declared.header, &mut made)?;
     Ok(made)
 }

@@ -11,7 +11,6 @@ use std::alloc::Global;
 use vlog_cells::cell::cell_of;
 use vlog_design::names::NameSet;
 use vlog_rules::passes::ModuleScope;
-use vlog_scopes::scopes::scope_of;
 use vlog_shown::tables::{names_shown, scopes_shown};
 use vlog_values::{Module, VlogFile};
 
@@ -21,24 +20,23 @@ fn push_cell(
     alloc: Global,
     names: &NameSet,
     scopes: &[ModuleScope],
-    m: &Module,
+    m: Module,
     cells: &mut Seq<HCell>,
 ) -> Result<(), NoMemory>
     requires named { names.now ≡ map (λ m. m.name) (modules_in scopes.now) }
     requires few { length (modules_in scopes.now) < 2 ^ 32 }
-    requires fits { is_shown (modules_in scopes.now) m.now ≡ true → CanBeCell m.now }
+    requires fits { is_shown (modules_in scopes.now) m ≡ true → CanBeCell m }
     ensures added { OnOk result (cells.new
-        ≡ cells.old ++ cell_shown (modules_in scopes.now) m.now) }
+        ≡ cells.old ++ cell_shown (modules_in scopes.now) m) }
 {
     if !names.has(m.name.bytes()) {
         return Ok(());
     }
-    let scope = scope_of(alloc, m)?;
-    let cell = cell_of(alloc, names, scopes, &scope)?;
+    let cell = cell_of(alloc, names, scopes, m)?;
     cells.push(cell)
 }
 
-/// The cells of those modules that are shown, in their order. Each module is left when its cell is made.
+/// The cells of those modules that are shown, in their order. Each module is left while its cell is made.
 fn cells_made(
     alloc: Global,
     names: &NameSet,
@@ -52,7 +50,7 @@ fn cells_made(
 {
     let mut cells = Seq::empty(alloc);
     for m in modules.into_vec() {
-        push_cell(alloc, names, scopes, &m, &mut cells)?;
+        push_cell(alloc, names, scopes, m, &mut cells)?;
     }
     Ok(cells)
 }

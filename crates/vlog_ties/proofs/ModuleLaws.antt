@@ -104,7 +104,7 @@ module _ (names : List Signal) where
       flat_map-append (tied_joins names) (map (λ name. Supply name constant) ns) (flat_map (λ c. map (λ name. Supply name c) ns) constants)
       ∙ (ap (λ l. l ++ flat_map (tied_joins names) (flat_map (λ c. map (λ name. Supply name c) ns) constants)) (flat_map-map (tied_joins names) (λ name. Supply name constant) ns) ∙ ap (λ l. supply_joins names ns constant ++ l) (supplies_joined ns constants))
 
-  item_joined : (modules : List Module) (number : ℕ) (item : ItemV) → flat_map (tied_joins names) (item_ties modules number item) ≡ item_joins modules names number item
+  pub item_joined : (modules : List Module) (number : ℕ) (item : ItemV) → flat_map (tied_joins names) (item_ties modules number item) ≡ item_joins modules names number item
   unfolding item_ties item_pairings
   item_joined modules number (items.Assign statement) =
       flat_map-map (tied_joins names) (λ (set : Assignment). Assign set.left set.right) statement.sets ∙ sym (flat_map-map pairing_joins (λ (set : Assignment). pairing_of_assign names set.left set.right) statement.sets)

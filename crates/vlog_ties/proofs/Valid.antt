@@ -101,7 +101,7 @@ supplies_valid names (constant ∷ constants) = every_append IsTied (map (λ nam
 
 -- items
 
-item_valid : (modules : List Module) (number : ℕ) (item : ItemV) → IsItem item → item_size item ≤ 268435456 → AllByRecursion IsTied (item_ties modules number item)
+pub item_valid : (modules : List Module) (number : ℕ) (item : ItemV) → IsItem item → item_size item ≤ 268435456 → AllByRecursion IsTied (item_ties modules number item)
 unfolding item_ties
 item_valid modules number (items.Assign statement) good small = assigns_valid statement.sets good.sets.all (omega (arith, small))
 item_valid modules number (items.Instances statement) good small = found_valid number statement.insts (module_named modules statement.module) good.insts.all

@@ -1,14 +1,14 @@
 // The joins of what is tied.
-ghost use Rattle.std.specs.Prelude.{◌≡◌, ◌++◌, ◌≤◌, All, flat_map, map, IfOk, OnOk};
-ghost use Rattle.vlog_design.specs.Design.{module_joins, pairing_of_assign, slot_joins};
+ghost use Rattle.std.specs.Prelude.{◌≡◌, ◌++◌, ◌+◌, ◌≤◌, All, flat_map, map, OnOk};
+ghost use Rattle.vlog_design.specs.Design.{instance_count, item_joins, pairing_of_assign, slot_joins};
 ghost use Rattle.vlog_design.specs.Exprs.{literals};
 ghost use Rattle.vlog_design.specs.Numbers.{HasDigits, HasNumbers};
-ghost use Rattle.vlog_values.specs.Sizes.{module_size};
-ghost use Rattle.vlog_values.specs.Values.{IsModule};
+ghost use Rattle.vlog_values.specs.Sizes.{item_size};
+ghost use Rattle.vlog_values.specs.Values.{IsItem};
 ghost use Rattle.vlog_ties.specs.Ties.{modules_in, pairing_joins, tie_joins, tie_literals};
 
 use crate::tie::Tie;
-use crate::ties::{instance_count, push_item_ties};
+use crate::ties::push_item_ties;
 use net_hier::{Join, Node};
 use nl_base::NoMemory;
 use std::alloc::Global;
@@ -21,7 +21,7 @@ use vlog_design::signals::Slot;
 use vlog_design::table::Table;
 use vlog_design::widths::range_width;
 use vlog_rules::passes::ModuleScope;
-use vlog_values::Expr;
+use vlog_values::{Expr, ItemV};
 
 /// Adds the joins of each bit of a port or net to a constant.
 fn push_supply(slot: Slot, constant: Node, out: &mut Vec<Join>) -> Result<(), NoMemory>
@@ -106,29 +106,25 @@ pub fn push_ties(
     Ok(())
 }
 
-/// The joins of a module, where `scopes` are the modules below it and `names` their names. No list of all its ties is made.
-pub fn joins_of<'a>(
+/// Adds the joins of an item whose first instance has this number, where `scopes` are the modules below and `names` their names.
+pub fn push_item_joins<'a>(
     alloc: Global,
     names: &NameSet,
     scopes: &[ModuleScope<'a>],
-    scope: &ModuleScope<'a>,
-) -> Result<Vec<Join>, NoMemory>
+    table: &Table,
+    number: u32,
+    item: &'a ItemV,
+    out: &mut Vec<Join>,
+) -> Result<(), NoMemory>
     requires named { names.now ≡ map (λ m. m.name) (modules_in scopes.now) }
-    requires small { module_size scope.now.module.now ≤ 268435456 }
-    requires valid { IsModule scope.now.module.now }
-    requires numbers { All (λ signal. HasNumbers signal.slot) scope.now.table }
-    ensures { IfOk result (λ joins. joins.items
-        ≡ module_joins (modules_in scopes.now) scope.now.module.now) }
+    requires few { number + instance_count item.now ≤ 268435456 }
+    requires valid { IsItem item.now }
+    requires small { item_size item.now ≤ 268435456 }
+    requires numbers { All (λ signal. HasNumbers signal.slot) table.now }
+    ensures added { OnOk result (out.new.items
+        ≡ out.old.items ++ item_joins (modules_in scopes.now) table.now number item.now) }
 {
-    let items = scope.module.items.items();
-    let mut joins = Vec::with_capacity(alloc, items.len())?;
     let mut ties = Vec::new(alloc);
-    let mut number: u32 = 0;
-    for item in items {
-        ties.clear();
-        push_item_ties(names, scopes, number, item, &mut ties)?;
-        push_ties(alloc, &scope.table, ties.as_slice(), &mut joins)?;
-        number += instance_count(item);
-    }
-    Ok(joins)
+    push_item_ties(names, scopes, number, item, &mut ties)?;
+    push_ties(alloc, table, ties.as_slice(), out)
 }

@@ -77,7 +77,7 @@ pub fn scope_named<'s, 'a>(
 }
 
 /// How many instances an item has.
-pub(crate) fn instance_count(item: &ItemV) -> u32
+pub fn instance_count(item: &ItemV) -> u32
     requires { instance_count item.now ≤ 268435456 }
     ensures { result ≡ instance_count item.now }
 {

@@ -1,0 +1,53 @@
+use Rattle.std.proofs.Common.{◌≡◌, [], ◌∷◌, flat_map, ap, arith, reverse, sym, ◌++◌, ◌∙◌}
+use Rattle.std.specs.Vec.{vec_len}
+use Rattle.vlog_design.specs.Design.{joins_from}
+use Rattle.vlog_design.specs.Names.{instance_statement}
+use Rattle.vlog_ties.specs.Ties.{modules_in}
+use Rattle.vlog_cells.specs.Instances.{instances_by}
+use Rattle.vlog_cells.proofs.PinLaws.{instances_done, instances_turn, joins_done, joins_turn, known_taken, no_items}
+use Rattle.vlog_cells.proofs.pins.pins_made.Goals as goal
+
+pub loop-item-init : goal.loop-item-init
+loop-item-init c =
+    let modules = modules_in c.args.scopes.now in
+    let items = reverse c.args.items.items in
+    record {
+      valid = c.requires.valid;
+      small = omega (arith, c.requires.small);
+      joined = ap (λ l. l ++ joins_from modules c.args.table.now 0 items) c.in_ok-joins.ensures.items;
+      made = ap (λ l. l ++ flat_map (instances_by c.args.names.now c.args.found.now) (flat_map instance_statement items)) c.in_ok-instances.ensures;
+    }
+
+pub add_joins-requires-clause-few : goal.add_joins-requires-clause-few
+add_joins-requires-clause-few c = (known_taken c.loop-item.number c.in-Some.item c.loop-item.items.items c.pop.new.self.items c.in-Some.ensures.items c.loop-item.invariant.valid c.loop-item.invariant.small).few
+
+pub add_joins-requires-clause-valid : goal.add_joins-requires-clause-valid
+add_joins-requires-clause-valid c = (known_taken c.loop-item.number c.in-Some.item c.loop-item.items.items c.pop.new.self.items c.in-Some.ensures.items c.loop-item.invariant.valid c.loop-item.invariant.small).valid
+
+pub add_joins-requires-clause-small : goal.add_joins-requires-clause-small
+add_joins-requires-clause-small c = (known_taken c.loop-item.number c.in-Some.item c.loop-item.items.items c.pop.new.self.items c.in-Some.ensures.items c.loop-item.invariant.valid c.loop-item.invariant.small).small
+
+pub loop-item-preserved : goal.loop-item-preserved
+loop-item-preserved c =
+    let modules = modules_in c.args.scopes.now in
+    let item = c.in-Some.item in
+    let old = c.loop-item.items.items in
+    let new = c.give_back.new.items.items in
+    let is : old ≡ new ++ item ∷ [] = c.in-Some.ensures.items ∙ ap (λ l. l ++ item ∷ []) (sym c.give_back.ensures) in
+    let known = known_taken c.loop-item.number item old new is c.loop-item.invariant.valid c.loop-item.invariant.small in
+    record {
+      valid = known.others;
+      small = omega (arith, known.fewer, c.instance_count-number.ensures);
+      joined = joins_turn modules c.args.table.now c.loop-item.number _ item old new c.loop-item.joins.items c.add_joins.new.joins.items _ is c.instance_count-number.ensures c.in_ok-add_joins.ensures.added c.loop-item.invariant.joined;
+      made = instances_turn (instances_by c.args.names.now c.args.found.now) item old new c.loop-item.instances c.add_item.new.made _ is c.in_ok-add_item.ensures.added c.loop-item.invariant.made;
+    }
+
+pub returns : goal.returns
+returns c =
+    let items = c.loop-item.items in
+    let none : vec_len items ≡ 0 = c.in_default.ensures.cases.0 in
+    let empty : items.items ≡ [] = no_items items.items (omega (arith, none, items.ok)) in
+    record {
+      joins = c.shrink_to_fit.ensures.items ∙ joins_done (modules_in c.args.scopes.now) c.args.table.now c.loop-item.number items.items c.loop-item.joins.items _ empty c.loop-item.invariant.joined;
+      instances = instances_done (instances_by c.args.names.now c.args.found.now) items.items c.loop-item.instances _ empty c.loop-item.invariant.made;
+    }

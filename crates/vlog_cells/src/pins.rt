@@ -1,0 +1,90 @@
+// The instances and the joins of a cell, made while the statements that give them are left.
+ghost use Rattle.std.specs.Prelude.{◌≡◌, ◌≤◌, ◌<◌, ◌+◌, ◌++◌, ◌^◌, All, flat_map, length, map, reverse, IfOk, OnOk};
+ghost use Rattle.std.specs.List.{AllByRecursion};
+ghost use Rattle.vlog_design.specs.Design.{instance_count, item_joins, joins_from};
+ghost use Rattle.vlog_design.specs.Names.{instance_statement};
+ghost use Rattle.vlog_design.specs.Numbers.{HasNumbers};
+ghost use Rattle.vlog_values.specs.Sizes.{item_size, list_size};
+ghost use Rattle.vlog_values.specs.Values.{IsItem};
+ghost use Rattle.vlog_ties.specs.Ties.{modules_in};
+ghost use Rattle.vlog_cells.specs.Instances.{instances_by};
+
+use crate::groups::Groups;
+use crate::instances::{add_item, instance_room};
+use crate::parts::{give_back, leave};
+use net_hier::{HInst, Join};
+use nl_base::{NoMemory, Seq};
+use std::alloc::Global;
+use vlog_design::names::NameSet;
+use vlog_design::table::Table;
+use vlog_rules::passes::ModuleScope;
+use vlog_ties::joins::push_item_joins;
+use vlog_ties::ties::instance_count;
+use vlog_values::{DefSet, ItemV};
+
+/// The instances and the joins of a cell.
+#[derive(Drop)]
+pub(crate) struct Pins {
+    pub instances: Seq<HInst>,
+    pub joins: Vec<Join>,
+}
+
+/// Adds the joins of an item whose first instance has this number.
+fn add_joins(
+    alloc: Global,
+    names: &NameSet,
+    scopes: &[ModuleScope],
+    table: &Table,
+    number: u32,
+    item: &ItemV,
+    joins: &mut Vec<Join>,
+) -> Result<(), NoMemory>
+    requires named { names.now ≡ map (λ m. m.name) (modules_in scopes.now) }
+    requires few { number + instance_count item.now ≤ 268435456 }
+    requires valid { IsItem item.now }
+    requires small { item_size item.now ≤ 268435456 }
+    requires numbers { All (λ signal. HasNumbers signal.slot) table.now }
+    ensures added { OnOk result (joins.new.items
+        ≡ joins.old.items ++ item_joins (modules_in scopes.now) table.now number item.now) }
+{
+    push_item_joins(alloc, names, scopes, table, number, item, joins)?;
+    Ok(())
+}
+
+/// The instances and the joins of these items, of which the last comes first, where `scopes` are the modules below, `names` their names,
+/// `table` what the names of the module stand for, and `found` the values by `defparam`. An item that is done is left, or kept in `left`
+/// where there is room for it.
+pub(crate) fn pins_made(
+    alloc: Global,
+    names: &NameSet,
+    scopes: &[ModuleScope],
+    table: &Table,
+    found: &Groups<'_, &DefSet>,
+    mut items: Vec<ItemV>,
+    left: &mut Vec<ItemV>,
+) -> Result<Pins, NoMemory>
+    requires named { names.now ≡ map (λ m. m.name) (modules_in scopes.now) }
+    requires few { length (modules_in scopes.now) < 2 ^ 32 }
+    requires valid { AllByRecursion IsItem (reverse items.items) }
+    requires small { list_size item_size (reverse items.items) ≤ 268435456 }
+    requires numbers { All (λ signal. HasNumbers signal.slot) table.now }
+    ensures joins { IfOk result (λ pins. pins.joins.items
+        ≡ joins_from (modules_in scopes.now) table.now 0 (reverse items.items)) }
+    ensures instances { IfOk result (λ pins. pins.instances
+        ≡ flat_map (instances_by names.now found.now)
+        (flat_map instance_statement (reverse items.items))) }
+{
+    let mut instances = instance_room(alloc, items.as_slice())?;
+    let mut joins = Vec::with_capacity(alloc, items.len())?;
+    let mut spelling = Vec::new(alloc);
+    let mut number: u32 = 0;
+    while let Some(item) = items.pop() {
+        add_joins(alloc, names, scopes, table, number, &item, &mut joins)?;
+        add_item(alloc, names, found, &item, &mut instances, &mut spelling)?;
+        number += instance_count(&item);
+        leave(item, left);
+        give_back(&mut items);
+    }
+    joins.shrink_to_fit();
+    Ok(Pins { instances, joins })
+}
