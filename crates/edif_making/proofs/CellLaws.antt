@@ -18,8 +18,7 @@ use Rattle.edif_plans.specs.Plans.{FitsCells, HasConstant, HasPorts, constant_nu
 use Rattle.edif_plans.specs.References.{CanRefer, FitsCellPlan, HasPin, CellPlan}
 use Rattle.edif_plans.specs.declared.added.Added.{Added}
 use Rattle.edif_plans.specs.declared.plan.Plan.{Plan}
-use Rattle.edif_making.specs.Nets.{HaveRefs}
-use Rattle.edif_making.proofs.LiveBelow.{live_each}
+use Rattle.edif_making.proofs.LiveBelow.{live_is}
 use Rattle.edif_plans.proofs.Needed.{added_value, constant_is_needed, idents_count}
 
 -- ---- so an instance is added for it
@@ -49,6 +48,10 @@ all_from : {A : Type 0} (P : A → Type 0) (xs : List A) → ((x : A) → Contai
 all_from P [] h = tt
 all_from P (x ∷ xs) h = (h x (contains_first x xs), all_from P xs (λ y m. h y (contains_later x y xs m)))
 
+all_mapped : {A B : Type 0} (P : B → Type 0) (f : A → B) (xs : List A) → ((x : A) → Contains xs x → P (f x)) → AllByRecursion P (map f xs)
+all_mapped P f [] h = tt
+all_mapped P f (x ∷ xs) h = (h x (contains_first x xs), all_mapped P f xs (λ y m. h y (contains_later x y xs m)))
+
 module _ (cell_plan : CellPlan) (classes : ClassTable) (are : AreClasses cell_plan.cell classes) (good : IsGoodCell cell_plan.cells cell_plan.cell) (added : AreAddedTo cell_plan.cell.instances classes cell_plan.instances)
     (constants : (value : Bool) → needs_constant classes value ≡ true → HasConstant cell_plan.plan value) where
   has_pin : (value : Bool) (class : ℕ) → class_of classes (constant_node value) ≡ Some class → is_live cell_plan.cell.nets (members_of classes class) ≡ true → HasPin cell_plan value
@@ -64,12 +67,9 @@ module _ (cell_plan : CellPlan) (classes : ClassTable) (are : AreClasses cell_pl
   can_refer One class of_class live = has_pin true class of_class live
 
   -- all that the nets of a cell name is there
-  pub refs_there : HaveRefs cell_plan classes (live_below cell_plan.cell.nets classes classes.count)
-  refs_there = record {
-    counted = λ place class there. (live_each cell_plan.cell.nets classes classes.count place class there).0;
-    there = λ place class there. all_from (CanRefer cell_plan) (members_of classes class) (λ node m.
-        can_refer node class ((member_of_class cell_plan.cell classes are node class).1 m) (live_each cell_plan.cell.nets classes classes.count place class there).1);
-  }
+  pub refs_there : AllByRecursion (AllByRecursion (CanRefer cell_plan)) (map (members_of classes) (live_below cell_plan.cell.nets classes classes.count))
+  refs_there = all_mapped (AllByRecursion (CanRefer cell_plan)) (members_of classes) (live_below cell_plan.cell.nets classes classes.count) (λ class there. all_from (CanRefer cell_plan) (members_of classes class) (λ node m.
+      can_refer node class ((member_of_class cell_plan.cell classes are node class).1 m) (live_is cell_plan.cell.nets classes classes.count class there).1))
 
 pub added_in_plan : (plan : Plan) (classes : ClassTable) (added : List Added) → map (λ (one : Added). one.value) added ≡ needed_values classes → ((value : Bool) → needs_constant classes value ≡ true → HasConstant plan value)
     → Each (λ (one : Added). constant_number plan one.value < length plan.heads) added

@@ -1,3 +1,5 @@
-pub mod Named
-pub mod Nets
 pub mod CellPlans
+pub mod Contents
+pub mod Members
+pub mod Nets
+pub mod Whole

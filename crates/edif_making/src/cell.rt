@@ -1,21 +1,22 @@
 // A cell of the file.
-ghost use Rattle.std.specs.Prelude.{◌≡◌, ◌++◌, ◌∷◌, ◌<◌, [], None, get_or, length, map, IfOk};
+ghost use Rattle.std.specs.Prelude.{◌≡◌, ◌++◌, ◌∷◌, ◌<◌, List, [], None, get_or, length, map, IfOk};
 ghost use Rattle.std.specs.List.{AllByRecursion};
 ghost use Rattle.edif_values.specs.Values.{IsWord, IsProperty};
 ghost use Rattle.edif_values.specs.declared.cell.CellItem.TheVariants as cell_items;
-ghost use Rattle.edif_written.specs.Written.{cell_of as cell_for, contents_items_of, netlist};
+ghost use Rattle.edif_values.specs.declared.instance.Instance.{Instance as InstanceValue};
+ghost use Rattle.edif_values.specs.declared.net.Net.{Net as NetValue};
+ghost use Rattle.edif_written.specs.Written.{cell_of as cell_for, contents_items_of, contents_of as contents_for, netlist};
 ghost use Rattle.edif_written.specs.Naming.{name_for, seen, value_of};
 ghost use Rattle.edif_written.specs.Sound.{AreSoundProps};
 ghost use Rattle.net_live.specs.Last.{last_of};
 ghost use Rattle.edif_plans.specs.Made.{new_cell_for, output_for};
 
-use crate::contents::contents_of;
 use edif_naming::{named, properties_of};
 use edif_parts::{interface_of, output_port, view_ident};
 use edif_plans::Head;
 use edif_values::{
-    Cell, CellItem, CellKind, ContentsItem, Instance, InterfaceItem, NameDef, Net, Port, PortName,
-    Property, View, ViewItem,
+    Cell, CellItem, CellKind, ContentsItem, InterfaceItem, NameDef, Port, PortName, Property, View,
+    ViewItem,
 };
 use net_hier::{ConstName, HCell, HProp};
 use net_live::{add_props, last_values};
@@ -121,15 +122,15 @@ pub(crate) fn cell_with(
     head: &Head,
     name: &[u8],
     ports: Vec<Port>,
-    instances: Vec<Instance>,
-    nets: Vec<Net>,
+    contents: Vec<ContentsItem>,
     properties: Vec<Property>,
 ) -> Result<Cell, NoMemory>
-    ensures { IfOk result (λ made. made
-        ≡ cell_for
-        (name_for head.now.cell name.now) ports.items instances.items nets.items properties.items) }
+    ensures { (instances : List InstanceValue) (nets : List NetValue)
+        → contents.items ≡ contents_for instances nets
+        → IfOk result (λ made. made
+        ≡ cell_for (name_for head.now.cell name.now) ports.items instances nets properties.items) }
 {
-    let contents = contents_of(alloc, instances, nets)?;
+    let contents = Seq::of(contents);
     let interface = interface_of(alloc, ports)?;
     let view = view_of(alloc, interface, contents)?;
     let items = cell_items(alloc, view, properties)?;
@@ -162,14 +163,6 @@ pub fn new_cell(alloc: Global, head: &Head, constant: &ConstName) -> Result<Cell
 {
     let ports = constant_port(alloc, head, constant)?;
     let name = constant.cell.bytes();
-    let made = cell_with(
-        alloc,
-        head,
-        name,
-        ports,
-        Vec::new(alloc),
-        Vec::new(alloc),
-        Vec::new(alloc),
-    )?;
+    let made = cell_with(alloc, head, name, ports, Vec::new(alloc), Vec::new(alloc))?;
     Ok(made)
 }

@@ -1,48 +1,129 @@
 // The contents of a cell.
-ghost use Rattle.std.specs.Prelude.{◌≡◌, ◌++◌, map, IfOk};
+ghost use Rattle.std.specs.Prelude.{◌≡◌, ◌+◌, ◌<◌, Bool, [], true, length, map, IfOk};
+ghost use Rattle.std.specs.List.{AllByRecursion};
+ghost use Rattle.net_hier.specs.Valid.{Each};
+ghost use Rattle.net_live.specs.Live.{needs_constant};
 ghost use Rattle.edif_values.specs.declared.view.ContentsItem.TheVariants as contents_items;
-ghost use Rattle.edif_written.specs.Written.{contents_of as contents_for};
+ghost use Rattle.edif_written.specs.Sound.{IsShort};
+ghost use Rattle.edif_plans.specs.Made.{AreInstancesFor};
+ghost use Rattle.edif_plans.specs.Plans.{FitsCells, HasConstant, HasHead, HasPorts, constant_number};
+ghost use Rattle.edif_plans.specs.Sound.{AreStems};
+ghost use Rattle.edif_making.specs.Contents.{AreContentsFor, HaveInstances};
+ghost use Rattle.edif_making.specs.Whole.{IsWhole, whole_cell};
 
-use edif_values::{ContentsItem, Instance, Net};
+use crate::members::live_members;
+use crate::nets::{net_idents, with_nets};
+use crate::refs::Scope;
+use edif_parts::{instances_of, instances_with};
+use edif_plans::{Head, Instances, Plan};
+use edif_values::{ContentsItem, Instance};
+use net_bits::Classes;
+use net_hier::{Constants, HCell, HInst};
 use nl_base::{NoMemory, Seq};
 use std::alloc::Global;
 
-/// Instances as parts of contents, in a list with this room.
+/// Instances as parts of contents, in a list with room for so many parts behind them.
 fn instance_items(
     alloc: Global,
     instances: Vec<Instance>,
-    room: usize,
+    behind: usize,
 ) -> Result<Vec<ContentsItem>, NoMemory>
     ensures { IfOk result (λ items. items.items ≡ map contents_items.Instance instances.items) }
 {
-    let mut items = Vec::with_capacity(alloc, room)?;
+    let mut items = Vec::with_capacity(alloc, instances.len().saturating_add(behind))?;
     for instance in instances {
         items.push(ContentsItem::Instance(instance))?;
     }
     Ok(items)
 }
 
-/// The parts with these nets behind them.
-fn with_nets(first: Vec<ContentsItem>, nets: Vec<Net>) -> Result<Seq<ContentsItem>, NoMemory>
-    ensures { IfOk result (λ items. items ≡ first.items ++ map contents_items.Net nets.items) }
+/// The numbers of the cells of the instances.
+fn belows_of(alloc: Global, instances: &[HInst]) -> Result<Vec<u32>, NoMemory>
+    ensures { IfOk result (λ belows. belows.items ≡ map (λ one. one.cell) instances.now) }
 {
-    let mut items = first;
-    for net in nets {
-        items.push(ContentsItem::Net(net))?;
+    let mut belows = Vec::with_capacity(alloc, instances.len())?;
+    for instance in instances {
+        belows.push(instance.cell)?;
     }
-    Ok(Seq::of(items))
+    Ok(belows)
 }
 
-/// The contents of a cell: its instances, and then its nets.
-pub fn contents_of(
+/// The instances that are written for those of a cell, which are left.
+fn instances_made(
     alloc: Global,
-    instances: Vec<Instance>,
-    nets: Vec<Net>,
-) -> Result<Seq<ContentsItem>, NoMemory>
-    ensures { IfOk result (λ items. items ≡ contents_for instances.items nets.items) }
+    plan: &Plan,
+    instances: &Instances,
+    own: Seq<HInst>,
+) -> Result<Vec<Instance>, NoMemory>
+    requires heads { Each (λ instance. HasHead plan.now instance.cell) own }
+    requires constants { Each (λ one. constant_number plan.now one.value
+        < length plan.now.heads) instances.now.added }
+    requires idents { length own + length instances.now.added ≡ length instances.now.idents }
+    requires short { AllByRecursion (λ one. IsShort one.name) instances.now.added }
+    ensures { IfOk result (λ made. AreInstancesFor plan.now own instances.now made.items) }
 {
-    let room = instances.len().saturating_add(nets.len());
-    let first = instance_items(alloc, instances, room)?;
-    let items = with_nets(first, nets)?;
+    let made = instances_of(alloc, plan, instances, own.items())?;
+    Ok(made)
+}
+
+/// The parts of contents that are written for the instances of a cell, in a list with room for so many parts behind them.
+fn instances_written(
+    alloc: Global,
+    plan: &Plan,
+    instances: &Instances,
+    own: Seq<HInst>,
+    behind: usize,
+) -> Result<Vec<ContentsItem>, NoMemory>
+    requires heads { Each (λ instance. HasHead plan.now instance.cell) own }
+    requires constants { Each (λ one. constant_number plan.now one.value
+        < length plan.now.heads) instances.now.added }
+    requires idents { length own + length instances.now.added ≡ length instances.now.idents }
+    requires short { AllByRecursion (λ one. IsShort one.name) instances.now.added }
+    ensures { IfOk result (λ items. HaveInstances
+        (AreInstancesFor plan.now own instances.now) items.items) }
+{
+    let made = instances_made(alloc, plan, instances, own)?;
+    let items = instance_items(alloc, made, behind)?;
+    Ok(items)
+}
+
+/// The contents of the cell that is written for the one with these ports, these instances and the nets of `inside`, under this head: its
+/// instances, and then its nets. The classes are left before the nets are made, which need the nodes of the live ones alone, and so are the
+/// instances, of which the nets need the numbers of their cells.
+pub(crate) fn contents_of(
+    alloc: Global,
+    cells: &[HCell],
+    constants: &Constants,
+    plan: &Plan,
+    head: &Head,
+    shown: &HCell,
+    own: Seq<HInst>,
+    inside: &HCell,
+    classes: Classes,
+) -> Result<Vec<ContentsItem>, NoMemory>
+    requires plan { FitsCells cells.now plan.now }
+    requires ports { HasPorts head.now shown.now }
+    requires whole { IsWhole cells.now shown.now own inside.now classes }
+    requires constants { (value : Bool) → needs_constant classes value ≡ true
+        → HasConstant plan.now value }
+    requires stems { AreStems constants.now }
+    ensures { IfOk result (λ items. AreContentsFor constants.now cells.now plan.now head.now
+        (whole_cell shown.now own inside.now []) classes items.items) }
+{
+    let instances = instances_with(alloc, constants, own.items(), &classes)?;
+    let members = live_members(alloc, inside, classes)?;
+    let idents = net_idents(alloc, shown, inside, &members)?;
+    let belows = belows_of(alloc, own.items())?;
+    let first = instances_written(alloc, plan, &instances, own, members.len())?;
+    let scope = Scope {
+        cells,
+        plan,
+        shown,
+        inside,
+        belows: belows.as_slice(),
+        head,
+        instances: &instances,
+    };
+    let items = with_nets(alloc, &scope, &members, idents, first)?;
     Ok(items)
 }

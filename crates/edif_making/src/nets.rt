@@ -1,32 +1,27 @@
 // The nets of a cell.
-ghost use Rattle.std.specs.Prelude.{◌≡◌, ◌<◌, ◌↔◌, ◌++◌, ◌∷◌, [], IsTrue, Some, cond, length, map, slice_get, IfOk, OnOk};
+ghost use Rattle.std.specs.Prelude.{◌≡◌, ◌<◌, ◌↔◌, IsTrue, Some, length, map, slice_get, IfOk};
 ghost use Rattle.std.specs.List.{AllByRecursion};
-ghost use Rattle.edif_values.specs.Values.{IsString, IsProperty, IsNet};
-ghost use Rattle.edif_values.specs.Names.{original};
+ghost use Rattle.edif_values.specs.Values.{IsString, IsProperty};
 ghost use Rattle.edif_values.specs.declared.net.NetItem.TheVariants as net_items;
-ghost use Rattle.edif_design.specs.Design.{net_value};
-ghost use Rattle.edif_written.specs.Naming.{name_for, seen, value_of};
+ghost use Rattle.edif_written.specs.Naming.{seen, value_of};
 ghost use Rattle.edif_written.specs.Sound.{IsShort};
-ghost use Rattle.net_bits.specs.Classes.{members_of};
 ghost use Rattle.net_hier.specs.Cells.{width_of};
 ghost use Rattle.net_live.specs.Last.{last_of};
-ghost use Rattle.net_live.specs.Live.{bit_word as bit_word_of, class_props as class_props_of, is_live as is_live_class};
-ghost use Rattle.edif_plans.specs.Made.{AreNetsFor, live_below};
-ghost use Rattle.edif_plans.specs.NetNames.{HasNoSpareText, first_port_bit as first_port_bit_of, name_of_bit, name_of_class, name_of_net, plain_name as plain_name_of, port_bit as port_bit_of};
-ghost use Rattle.edif_plans.specs.References.{CanRefer, FitsCellPlan, refs_for};
+ghost use Rattle.net_live.specs.Live.{bit_word as bit_word_of, class_props as class_props_of};
+ghost use Rattle.edif_plans.specs.NetNames.{first_port_bit as first_port_bit_of, name_of_bit, name_of_class, name_of_net, plain_name as plain_name_of, port_bit as port_bit_of};
+ghost use Rattle.edif_plans.specs.References.{CanRefer, FitsCellPlan};
 ghost use Rattle.edif_plans.specs.Sound.{IsSoundNet, IsSoundPort};
 ghost use Rattle.edif_spaces.specs.Spaces.{AreIdents};
-ghost use Rattle.edif_making.specs.Named.{IsNamed};
-ghost use Rattle.edif_making.specs.Nets.{HasFewDigits, HaveRefs, HaveSoundNets};
+ghost use Rattle.edif_making.specs.Nets.{AreNetsOf, HasFewDigits, HaveNets, HaveSoundNets, IsNetOf};
 ghost use Rattle.edif_making.specs.CellPlans.{cell_plan_of};
 
+use crate::members::Members;
 use crate::refs::{Scope, refs_of};
 use edif_naming::{named, properties_of};
 use edif_spaces::idents_of;
-use edif_values::{Net, NetItem, Property};
-use net_bits::Classes;
+use edif_values::{ContentsItem, Net, NetItem, Property};
 use net_hier::{HCell, HNet, HPort, Node};
-use net_live::{bit_word, class_props, first_net, is_live, last_values};
+use net_live::{bit_word, class_props, first_net, last_values};
 use nl_base::{Ident, NoMemory, Seq, Text};
 use std::alloc::Global;
 
@@ -162,88 +157,67 @@ fn net_name(alloc: Global, nets: &[HNet], ports: &[HPort], nodes: &[Node]) -> Re
     Ok(word)
 }
 
-/// The name of the class of these nodes in the cell.
-fn class_name(alloc: Global, cell: &HCell, nodes: &[Node]) -> Result<Text, NoMemory>
+/// The name of the class of these nodes in the cell of these ports and nets.
+fn class_name(
+    alloc: Global,
+    shown: &HCell,
+    inside: &HCell,
+    nodes: &[Node],
+) -> Result<Text, NoMemory>
     ensures name { IfOk result (λ name. name
-        ≡ name_of_class cell.now.nets cell.now.ports nodes.now) }
-    ensures sound { HaveSoundNets cell.now → IfOk result IsString }
+        ≡ name_of_class inside.now.nets shown.now.ports nodes.now) }
+    ensures sound { AllByRecursion IsSoundPort shown.now.ports
+        → AllByRecursion IsSoundNet inside.now.nets → IfOk result IsString }
 {
-    let nets = cell.nets.items();
-    let ports = cell.ports.items();
+    let nets = inside.nets.items();
+    let ports = shown.ports.items();
     let name = net_name(alloc, nets, ports, nodes)?;
     Ok(name)
 }
 
-/// A net that is to be written: the class that it joins, and its name.
-#[derive(Drop)]
-pub struct Planned {
-    pub class: u32,
-    pub name: Text,
-}
-
-/// Adds the class, where a net is written for it.
-#[tactic(auto, using(crate::proofs::NetLaws::class_skipped, crate::proofs::PlanLaws::class_planned, crate::proofs::PlanLaws::name_planned, crate::proofs::PlanLaws::named_planned))]
-fn plan_class(
+/// The names of the nets of these classes.
+fn names_of(
     alloc: Global,
-    cell: &HCell,
-    classes: &Classes,
-    class: u32,
-    planned: &mut Vec<Planned>,
-) -> Result<(), NoMemory>
-    requires { class < classes.now.count }
-    ensures classes { OnOk result (map (λ net. net.class) planned.new.items
-        ≡ map (λ net. net.class) planned.old.items
-        ++ cond (is_live_class cell.now.nets (members_of classes.now class)) (class ∷ []) []) }
-    ensures named { AllByRecursion (IsNamed cell.now classes.now) planned.old.items
-        → OnOk result (AllByRecursion (IsNamed cell.now classes.now) planned.new.items) }
-    ensures sound { HaveSoundNets cell.now
-        → AllByRecursion (λ net. IsString net.name) planned.old.items
-        → OnOk result (AllByRecursion (λ net. IsString net.name) planned.new.items) }
+    shown: &HCell,
+    inside: &HCell,
+    members: &Members,
+) -> Result<Vec<Text>, NoMemory>
+    ensures { IfOk result (λ names. names.items
+        ≡ map (name_of_class inside.now.nets shown.now.ports) members.now) }
 {
-    let nodes = classes.members(class);
-    if !is_live(cell, nodes) {
-        return Ok(());
-    }
-    let name = class_name(alloc, cell, nodes)?;
-    planned.push(Planned { class, name })?;
-    Ok(())
-}
-
-/// The classes for which a net is written, with their names.
-#[tactic(auto, using(crate::proofs::NetLaws::live_none))]
-fn planned_nets(alloc: Global, cell: &HCell, classes: &Classes) -> Result<Vec<Planned>, NoMemory>
-    ensures classes { IfOk result
-        (λ planned. map (λ net. net.class) planned.items
-        ≡ live_below cell.now.nets classes.now classes.now.count) }
-    ensures named { IfOk result (λ planned. AllByRecursion (IsNamed cell.now classes.now)
-        planned.items) }
-    ensures sound { HaveSoundNets cell.now
-        → IfOk result (λ planned. AllByRecursion (λ net. IsString net.name) planned.items) }
-{
-    let mut planned = Vec::with_capacity(alloc, classes.count() as usize)?;
-    for class in 0..classes.count() {
-        plan_class(alloc, cell, classes, class, &mut planned)?;
-    }
-    Ok(planned)
-}
-
-/// The names of nets.
-fn names_of(alloc: Global, planned: &[Planned]) -> Result<Vec<&[u8]>, NoMemory>
-    ensures { IfOk result (λ names. seen names.items ≡ map (λ net. net.name) planned.now) }
-{
-    let mut names = Vec::with_capacity(alloc, planned.len())?;
-    for net in planned {
-        names.push(net.name.bytes())?;
+    let mut names = Vec::with_capacity(alloc, members.len())?;
+    for place in 0..members.len() {
+        let name = class_name(alloc, shown, inside, members.get(place))?;
+        names.push(name)?;
     }
     Ok(names)
 }
 
-/// The identifiers of nets.
-fn net_idents(alloc: Global, planned: &[Planned]) -> Result<Seq<Ident>, NoMemory>
-    ensures { IfOk result (AreIdents (map (λ net. net.name) planned.now)) }
+/// The bytes of the names.
+fn lent(alloc: Global, names: &[Text]) -> Result<Vec<&[u8]>, NoMemory>
+    ensures { IfOk result (λ lent. seen lent.items ≡ names.now) }
 {
-    let names = names_of(alloc, planned)?;
-    let idents = idents_of(alloc, names.as_slice())?;
+    let mut lent = Vec::with_capacity(alloc, names.len())?;
+    for name in names {
+        lent.push(name.bytes())?;
+    }
+    Ok(lent)
+}
+
+/// The identifiers of the nets of these classes, where the cell has these ports and these nets. The names are left: each is made again with its
+/// net.
+pub fn net_idents(
+    alloc: Global,
+    shown: &HCell,
+    inside: &HCell,
+    members: &Members,
+) -> Result<Seq<Ident>, NoMemory>
+    ensures { IfOk result
+        (AreIdents (map (name_of_class inside.now.nets shown.now.ports) members.now)) }
+{
+    let names = names_of(alloc, shown, inside, members)?;
+    let lent = lent(alloc, names.as_slice())?;
+    let idents = idents_of(alloc, lent.as_slice())?;
     Ok(idents)
 }
 
@@ -278,28 +252,16 @@ fn net_properties(alloc: Global, cell: &HCell, nodes: &[Node]) -> Result<Vec<Pro
     Ok(properties)
 }
 
-/// The net of this identifier and this name for a class.
-fn net_of(
-    alloc: Global,
-    scope: &Scope<'_>,
-    ident: &Ident,
-    name: &[u8],
-    nodes: &[Node],
-) -> Result<Net, NoMemory>
+/// The net of this identifier for the class of these nodes.
+fn net_of(alloc: Global, scope: &Scope<'_>, ident: &Ident, nodes: &[Node]) -> Result<Net, NoMemory>
     requires fits { FitsCellPlan (cell_plan_of scope.now) }
     requires there { AllByRecursion (CanRefer (cell_plan_of scope.now)) nodes.now }
-    ensures name { IfOk result (λ made. made.name ≡ name_for ident.now name.now) }
-    ensures joined { IfOk result
-        (λ made. made.joined ≡ refs_for (cell_plan_of scope.now) nodes.now) }
-    ensures props { IfOk result
-        (λ made. (net_value made).props
-        ≡ last_of (class_props_of scope.now.cell.now.nets nodes.now)) }
-    ensures sound { IsString name.now → AllByRecursion IsSoundNet scope.now.cell.now.nets
-        → IfOk result IsNet }
+    ensures { IfOk result (IsNetOf (cell_plan_of scope.now) ident.now nodes.now) }
 {
-    let name = named(alloc, ident, name)?;
+    let word = class_name(alloc, scope.shown, scope.inside, nodes)?;
+    let name = named(alloc, ident, word.bytes())?;
     let joined = refs_of(alloc, scope, nodes)?;
-    let properties = net_properties(alloc, scope.cell, nodes)?;
+    let properties = net_properties(alloc, scope.inside, nodes)?;
     let items = net_items(alloc, properties)?;
     Ok(Net {
         name,
@@ -308,58 +270,43 @@ fn net_of(
     })
 }
 
-/// The nets of a cell, which have these identifiers and these names.
-fn nets_with(
-    alloc: Global,
-    scope: &Scope<'_>,
-    classes: &Classes,
-    planned: &[Planned],
-    idents: &[Ident],
-) -> Result<Vec<Net>, NoMemory>
-    requires fits { FitsCellPlan (cell_plan_of scope.now) }
-    requires there { HaveRefs (cell_plan_of scope.now) classes.now
-        (map (λ net. net.class) planned.now) }
-    requires idents { length idents.now ≡ length planned.now }
-    ensures idents { IfOk result (λ made. map (λ net. net.name.ident) made.items ≡ idents.now) }
-    ensures names { IfOk result (λ made. map (λ net. original net.name) made.items
-        ≡ map (λ net. net.name) planned.now) }
-    ensures no_spare_text { IfOk result (λ made. AllByRecursion (λ net. HasNoSpareText net.name)
-        made.items) }
-    ensures joined { IfOk result
-        (λ made. map (λ net. net.joined) made.items
-        ≡ map (λ net. refs_for (cell_plan_of scope.now)
-        (members_of classes.now net.class)) planned.now) }
-    ensures props { IfOk result
-        (λ made. map (λ net. (net_value net).props) made.items
-        ≡ map (λ net. last_of (class_props_of scope.now.cell.now.nets
-        (members_of classes.now net.class))) planned.now) }
-    ensures sound { AllByRecursion IsSoundNet scope.now.cell.now.nets
-        → AllByRecursion (λ net. IsString net.name) planned.now
-        → IfOk result (λ made. AllByRecursion IsNet made.items) }
+/// Room for so many identifiers is not given back.
+const FEW: usize = 4096;
+
+/// Gives room for many identifiers back where at least a quarter of it is spare.
+fn give_back(idents: &mut Vec<Ident>)
+    ensures { idents.new.items ≡ idents.old.items }
 {
-    let mut made = Vec::with_capacity(alloc, planned.len())?;
-    for place in 0..planned.len() {
-        let plan = &planned[place];
-        let word = plan.name.bytes();
-        let nodes = classes.members(plan.class);
-        let net = net_of(alloc, scope, &idents[place], word, nodes)?;
-        made.push(net)?;
+    if idents.capacity() > FEW && idents.len() <= idents.capacity() / 4 * 3 {
+        idents.shrink_to_fit();
     }
-    Ok(made)
 }
 
-/// The nets of a cell, one for each live class.
-pub fn nets_of(alloc: Global, scope: &Scope<'_>, classes: &Classes) -> Result<Vec<Net>, NoMemory>
+/// The parts of contents with nets behind them, one for each of these classes, under the identifier at its place. The identifiers are left
+/// while the nets are made.
+pub fn with_nets(
+    alloc: Global,
+    scope: &Scope<'_>,
+    members: &Members,
+    idents: Seq<Ident>,
+    first: Vec<ContentsItem>,
+) -> Result<Vec<ContentsItem>, NoMemory>
     requires fits { FitsCellPlan (cell_plan_of scope.now) }
-    requires there { HaveRefs (cell_plan_of scope.now) classes.now
-        (live_below scope.now.cell.now.nets classes.now classes.now.count) }
-    ensures { IfOk result (λ made. AreNetsFor (cell_plan_of scope.now) classes.now
-        (live_below scope.now.cell.now.nets classes.now classes.now.count) made.items) }
+    requires there { AllByRecursion (AllByRecursion (CanRefer (cell_plan_of scope.now)))
+        members.now }
+    requires idents { length idents ≡ length members.now }
+    ensures { IfOk result (λ items. HaveNets first.items
+        (AreNetsOf (cell_plan_of scope.now) idents members.now) items.items) }
 {
-    let planned = planned_nets(alloc, scope.cell, classes)?;
-    let plans = planned.as_slice();
-    let idents = net_idents(alloc, plans)?;
-    let words = idents.items();
-    let made = nets_with(alloc, scope, classes, plans, words)?;
-    Ok(made)
+    let mut left = idents.into_vec();
+    left.reverse();
+    let mut items = first;
+    let mut place: usize = 0;
+    while let Some(ident) = left.pop() {
+        let net = net_of(alloc, scope, &ident, members.get(place))?;
+        items.push(ContentsItem::Net(net))?;
+        place += 1;
+        give_back(&mut left);
+    }
+    Ok(items)
 }

@@ -1,25 +1,28 @@
 // The references of a net.
-ghost use Rattle.std.specs.Prelude.{◌≡◌, ◌++◌, ◌<◌, ◌≤◌, [], length, get_or, option_to_list, IfOk, IfSome, OnOk};
+ghost use Rattle.std.specs.Prelude.{◌≡◌, ◌++◌, ◌<◌, ◌≤◌, [], length, get_or, map, option_to_list, IfOk, IfSome, OnOk};
 ghost use Rattle.std.specs.List.{AllByRecursion};
 ghost use Rattle.edif_values.specs.Values.{IsWord, IsPortRef};
 ghost use Rattle.net_hier.specs.Cells.{IsPinBit, IsPortBit};
 ghost use Rattle.edif_plans.specs.References.{CanRefer, FitsCellPlan, HasPin, added_place as place_of_added, below_at, constant_ref_for, member_for, own_ref_for, pin_ref_for, ports_at, range_at, ref_for, refs_for};
-ghost use Rattle.edif_making.specs.CellPlans.{cell_plan_of};
+ghost use Rattle.edif_making.specs.CellPlans.{cell_plan_of, nameless};
 
 use edif_naming::copied;
 use edif_plans::{Head, Instances, Plan};
 use edif_values::PortRef;
-use net_hier::{HCell, HInst, HPort, Node};
+use net_hier::{HCell, HPort, Node};
 use net_live::end_count;
 use nl_base::{Ident, Int, NoMemory, OptionalIdent, OptionalInt, Range, Seq};
 use std::alloc::Global;
 
-/// A cell that is written, with what its references name.
+/// A cell that is written, with what its references name: its name and ports are those of `shown` and its nets those of `inside`, and `belows`
+/// are the numbers of the cells of its instances.
 #[derive(Clone, Copy)]
 pub struct Scope<'a> {
     pub cells: &'a [HCell],
     pub plan: &'a Plan,
-    pub cell: &'a HCell,
+    pub shown: &'a HCell,
+    pub inside: &'a HCell,
+    pub belows: &'a [u32],
     pub head: &'a Head,
     pub instances: &'a Instances,
 }
@@ -55,13 +58,14 @@ fn ports_of(cells: &[HCell], number: usize) -> &[HPort]
 }
 
 /// The number of the cell of which the instance is.
-fn below_of(instances: &[HInst], instance: usize) -> u32
-    ensures { result ≡ below_at instances.now instance }
+#[tactic(auto, using(crate::proofs::Bare::below_there, crate::proofs::Bare::below_past))]
+fn below_of(belows: &[u32], instance: usize) -> u32
+    ensures { result ≡ below_at (map nameless belows.now) instance }
 {
-    match instances.get(instance) {
-        None => 0,
-        Some(found) => found.cell,
+    if instance < belows.len() {
+        return belows[instance];
     }
+    0
 }
 
 /// The identifier at this place.
@@ -177,13 +181,12 @@ fn pin_ref(
     bit: u32,
 ) -> Result<PortRef, NoMemory>
     requires fits { FitsCellPlan (cell_plan_of scope.now) }
-    requires bit { IsPinBit scope.now.cells.now scope.now.cell.now instance port bit }
+    requires bit { IsPinBit scope.now.cells.now (cell_plan_of scope.now).cell instance port bit }
     ensures made { IfOk result
         (λ made. made ≡ pin_ref_for (cell_plan_of scope.now) instance port bit) }
     ensures sound { IfOk result IsPortRef }
 {
-    let own = scope.cell.instances.items();
-    let below = below_of(own, instance as usize);
+    let below = below_of(scope.belows, instance as usize);
     let head = scope.plan.head(below);
     let ports = ports_of(scope.cells, below as usize);
     let idents = head.ports.items();
@@ -203,12 +206,12 @@ fn pin_ref(
 /// The reference to a port bit.
 fn port_ref(alloc: Global, scope: &Scope<'_>, port: u32, bit: u32) -> Result<PortRef, NoMemory>
     requires fits { FitsCellPlan (cell_plan_of scope.now) }
-    requires bit { IsPortBit scope.now.cell.now port bit }
+    requires bit { IsPortBit (cell_plan_of scope.now).cell port bit }
     ensures made { IfOk result (λ made. made ≡ own_ref_for (cell_plan_of scope.now) port bit) }
     ensures sound { IfOk result IsPortRef }
 {
     let idents = scope.head.ports.items();
-    let ports = scope.cell.ports.items();
+    let ports = scope.shown.ports.items();
     let made = own_ref(alloc, idents, ports, port as usize, bit)?;
     Ok(made)
 }

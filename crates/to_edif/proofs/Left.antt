@@ -14,8 +14,10 @@ use Rattle.net_hier.specs.Design.{Design, IsCell}
 use Rattle.net_hier.specs.Facts.{cell_props}
 use Rattle.net_hier.specs.Valid.{IsGoodCell, IsNode, IsValid}
 use Rattle.net_hier.specs.declared.cells.HCell.{HCell}
+use Rattle.net_hier.specs.declared.cells.HInst.{HInst}
 use Rattle.net_hier.specs.declared.cells.HPort.{HPort}
 use Rattle.net_hier.specs.declared.cells.HProp.{HProp}
+use Rattle.net_hier.specs.declared.nodes.Join.{Join}
 use Rattle.net_hier.specs.declared.nodes.Node.{Node}
 use Rattle.net_hier.specs.declared.nodes.Node.TheVariants as nodes
 use Rattle.edif_plans.specs.Made.{AreNetsFor, IsMadeUnder}
@@ -25,6 +27,7 @@ use Rattle.edif_plans.specs.declared.added.Instances.{Instances}
 use Rattle.edif_plans.specs.declared.head.Head.{Head}
 use Rattle.edif_plans.specs.declared.plan.Plan.{Plan}
 use Rattle.edif_plans.proofs.Lists.{is_at}
+use Rattle.edif_making.specs.Whole.{IsWhole, whole_cell}
 use Rattle.edif_planning.proofs.ClassLaws.{item_there}
 use Rattle.edif_planning.proofs.OrderLaws.{StandOnce, order_within}
 use Rattle.to_edif.specs.Left.{AreLeft, shown_cell}
@@ -130,6 +133,84 @@ module _ (cells others : List HCell) (as_many : length cells ≡ length others) 
     are_named = is.are_named;
   }
 
+-- ---- what is made of a cell depends on no joins
+
+module _ (cells : List HCell) (plan : Plan) (head : Head) (instances : Instances) (one : HCell) (joins : List Join) where
+  abbrev rejoined : HCell
+  rejoined = record { name = one.name; ports = one.ports; instances = one.instances; nets = one.nets; joins = joins; props = one.props }
+
+  abbrev by_one : CellPlan
+  by_one = record { cells = cells; plan = plan; cell = one; head = head; instances = instances }
+
+  abbrev by_rejoined : CellPlan
+  by_rejoined = record { cells = cells; plan = plan; cell = rejoined; head = head; instances = instances }
+
+  ref_joined : (node : Node) → ref_for by_one node ≡ ref_for by_rejoined node
+  unfolding ref_for
+  ref_joined (nodes.Port port bit) = refl
+  ref_joined (nodes.Pin instance port bit) = refl
+  ref_joined (nodes.Net net) = refl
+  ref_joined nodes.Zero = refl
+  ref_joined nodes.One = refl
+
+  nets_joined : (classes : ClassTable) (live : List ℕ) (nets : List Net) → AreNetsFor by_one classes live nets → AreNetsFor by_rejoined classes live nets
+  nets_joined classes live nets are = record {
+    are_live = are.are_live;
+    in_order = are.in_order;
+    names = are.names;
+    idents = are.idents;
+    no_spare_text = are.no_spare_text;
+    apart = are.apart;
+    joined = are.joined ∙ (λ j. map (λ class. filter_map (λ node. ref_joined node j) (members_of classes class)) live);
+    props = are.props;
+    sound = are.sound;
+  }
+
+pub made_joined : (names : ConstantNames) (cells : List HCell) (plan : Plan) (head : Head) (one : HCell) (joins : List Join) (props : List HProp) (classes : ClassTable) (made : Cell) → IsMadeUnder names cells plan head one props classes made
+    → IsMadeUnder names cells plan head (record { name = one.name; ports = one.ports; instances = one.instances; nets = one.nets; joins = joins; props = one.props }) props classes made
+made_joined names cells plan head one joins props classes made is = record {
+  is_made = record {
+    ports = is.is_made.ports;
+    instances = is.is_made.instances;
+    made_instances = is.is_made.made_instances;
+    live = is.is_made.live;
+    nets = is.is_made.nets;
+    properties = is.is_made.properties;
+    is_cell = is.is_made.is_cell;
+    are_ports = record { idents = is.is_made.are_ports.idents; summaries = is.is_made.are_ports.summaries; texts = is.is_made.are_ports.texts; sound = is.is_made.are_ports.sound };
+    are_added = is.is_made.are_added;
+    are_instances = is.is_made.are_instances;
+    are_nets = nets_joined cells plan head is.is_made.instances one joins classes is.is_made.live is.is_made.nets is.is_made.are_nets;
+    are_properties = is.is_made.are_properties;
+    sound = is.is_made.sound;
+    word = is.is_made.word;
+  };
+  are_named = is.are_named;
+}
+
+-- ---- a cell of which the name and the ports stand apart from what it is made of
+
+module _ (cell shown inside : HCell) (instances : List HInst) (is_shown : shown ≡ shown_cell cell) (are_instances : instances ≡ cell.instances) (are_nets : inside.nets ≡ cell.nets) (are_props : inside.props ≡ cell.props) where
+  whole_again : whole_cell shown instances inside cell.joins ≡ cell
+  whole_again = λ j. record { name = (is_shown j).name; ports = (is_shown j).ports; instances = are_instances j; nets = are_nets j; joins = cell.joins; props = are_props j }
+
+  unjoined : whole_cell shown instances inside [] ≡ whole_cell cell cell.instances cell []
+  unjoined = λ j. record { name = (is_shown j).name; ports = (is_shown j).ports; instances = are_instances j; nets = are_nets j; joins = []; props = are_props j }
+
+  pub whole_here : (cells : List HCell) (classes : ClassTable) → IsGoodCell cells cell → AreClasses cell classes → IsWhole cells shown instances inside classes
+  whole_here cells classes good are = record {
+    joins = cell.joins;
+    is_good = subst (IsGoodCell cells) (sym whole_again) good;
+    are_classes = subst (λ (c : HCell). AreClasses c classes) (sym whole_again) are;
+  }
+
+  pub made_whole : (names : ConstantNames) (cells : List HCell) (plan : Plan) (head : Head) (more : List HProp) (classes : ClassTable) (made : Cell) → IsMadeUnder names cells plan head (whole_cell shown instances inside []) (inside.props ++ more) classes made
+      → IsMadeUnder names cells plan head cell (cell.props ++ more) classes made
+  made_whole names cells plan head more classes made is =
+      made_joined names cells plan head (whole_cell cell cell.instances cell []) cell.joins (cell.props ++ more) classes made
+      (subst (λ (c : HCell). IsMadeUnder names cells plan head c (cell.props ++ more) classes made) unjoined
+      (subst (λ (props : List HProp). IsMadeUnder names cells plan head (whole_cell shown instances inside []) (props ++ more) classes made) are_props is))
+
 -- ---- one cell after another
 
 -- all of the cells are left at first
@@ -153,6 +234,24 @@ other_kept (y ∷ ys) zero x zero differ = absurd (differ refl)
 other_kept (y ∷ ys) zero x (suc other) differ = refl
 other_kept (y ∷ ys) (suc place) x zero differ = refl
 other_kept (y ∷ ys) (suc place) x (suc other) differ = other_kept ys place x other (λ e. differ (ap suc e))
+
+-- what stands where a cell was, where it keeps what it shows alone
+set_there : (cells : List HCell) (number : ℕ) (cell new other : HCell) → IsCell cells number cell → IsCell (set cells number new) number other → other ≡ new
+set_there [] number cell new other there at = absurd cc
+set_there (c ∷ cells) zero cell new other there at = cc
+set_there (c ∷ cells) (suc number) cell new other there at = set_there cells number cell new other there at
+
+new_there : (cells : List HCell) (number : ℕ) (cell new : HCell) → IsCell cells number cell → IsCell (set cells number new) number new
+new_there [] number cell new there = absurd cc
+new_there (c ∷ cells) zero cell new there = refl
+new_there (c ∷ cells) (suc number) cell new there = new_there cells number cell new there
+
+-- the cell of the number shows its name and its ports alone
+pub shown_is_there : (cells less : List HCell) (number : ℕ) (cell : HCell) → IsCell cells number cell → less ≡ set cells number (shown_cell cell) → IsCell less number (shown_cell cell)
+shown_is_there cells less number cell there e = subst (λ (l : List HCell). IsCell l number (shown_cell cell)) (sym e) (new_there cells number cell (shown_cell cell) there)
+
+pub shown_there : (cells less : List HCell) (number : ℕ) (cell other : HCell) → IsCell cells number cell → less ≡ set cells number (shown_cell cell) → IsCell less number other → other ≡ shown_cell cell
+shown_there cells less number cell other there e at = set_there cells number cell (shown_cell cell) other there (subst (λ (l : List HCell). IsCell l number other) e at)
 
 -- where the next cell keeps what it shows alone, the cells are left that come behind it
 pub less_left : (cells left less : List HCell) (order : List ℕ) (done number : ℕ) (cell : HCell) → StandOnce order → slice_get order done ≡ Some number → IsCell left number cell → less ≡ set left number (shown_cell cell) → AreLeft cells order done left → AreLeft cells order (done + 1) less

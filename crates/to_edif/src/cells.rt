@@ -1,5 +1,5 @@
 // The cells of the file.
-ghost use Rattle.std.specs.Prelude.{◌≡◌, ◌==◌, ◌<◌, ◌≤◌, Bool, List, [], None, Some, cond, true, length, map, set, IfOk, IfSome};
+ghost use Rattle.std.specs.Prelude.{◌≡◌, ◌==◌, ◌<◌, ◌≤◌, Bool, List, [], None, Some, cond, true, length, map, set, IfOk, IfSome, OnOk};
 ghost use Rattle.edif_plans.specs.Planned.{AreCells};
 ghost use Rattle.net_bits.specs.Classes.{AreClassesAt};
 ghost use Rattle.edif_plans.specs.Plans.{FitsCells};
@@ -17,9 +17,10 @@ use edif_plans::Plan;
 use edif_value_laws::words_of;
 use edif_values::Cell;
 use net_bits::Classes;
-use net_hier::{Constants, HCell, HProp, Hier, HierParts};
-use nl_base::{NoMemory, Seq};
+use net_hier::{Constants, HCell, HInst, HProp, Hier, HierParts};
+use nl_base::{NoMemory, Seq, Text};
 use std::alloc::Global;
+use std::mem::replace;
 
 /// The new cells of these constants.
 pub(crate) fn new_cells(
@@ -88,17 +89,40 @@ fn classes_of(
     Ok(classes)
 }
 
-/// Leaves what the cell of this number is made of. It keeps its name, and its ports, to which other cells refer.
-fn leave_parts(alloc: Global, cells: &mut [HCell], number: u32)
+/// What a cell is made of: its instances, and a cell that has its nets and its properties alone.
+#[derive(Drop)]
+pub struct Inside {
+    pub instances: Seq<HInst>,
+    pub rest: HCell,
+}
+
+/// Takes what the cell of this number is made of; its joins are left. It keeps its name, and its ports, to which other cells refer.
+fn inside_of(alloc: Global, cells: &mut [HCell], number: u32) -> Result<Inside, NoMemory>
     requires { number < length cells.old }
-    ensures { (cell : CellValue) → IsCell cells.old number cell
-        → cells.new ≡ set cells.old number (shown_cell cell) }
+    ensures left { (cell : CellValue) → IsCell cells.old number cell
+        → OnOk result (cells.new ≡ set cells.old number (shown_cell cell)) }
+    ensures instances { (cell : CellValue) → IsCell cells.old number cell
+        → IfOk result (λ inside. inside.instances ≡ cell.instances) }
+    ensures nets { (cell : CellValue) → IsCell cells.old number cell
+        → IfOk result (λ inside. inside.rest.nets ≡ cell.nets) }
+    ensures props { (cell : CellValue) → IsCell cells.old number cell
+        → IfOk result (λ inside. inside.rest.props ≡ cell.props) }
 {
+    let name = Text::copy(alloc, b"")?;
     let cell = &mut cells[number as usize];
-    cell.instances = Seq::empty(alloc);
-    cell.nets = Seq::empty(alloc);
     cell.joins = Seq::empty(alloc);
-    cell.props = Seq::empty(alloc);
+    let instances = replace(&mut cell.instances, Seq::empty(alloc));
+    let nets = replace(&mut cell.nets, Seq::empty(alloc));
+    let props = replace(&mut cell.props, Seq::empty(alloc));
+    let rest = HCell {
+        name,
+        ports: Seq::empty(alloc),
+        instances: Seq::empty(alloc),
+        nets,
+        joins: Seq::empty(alloc),
+        props,
+    };
+    Ok(Inside { instances, rest })
 }
 
 /// What all cells of a file are made by: the number of the design's top, the design's own properties, the order of its cells, the cells of the
@@ -122,8 +146,8 @@ fn design_props<'a>(setting: &Setting<'a>, number: u32) -> &'a [HProp]
     setting.props
 }
 
-/// These cells, and then those of the design, in its order. What a cell of the design is made of, and its classes, are left when what is written
-/// for it is made.
+/// These cells, and then those of the design, in its order. What a cell of the design is made of is taken from it, and left with its classes
+/// while what is written for it is made.
 fn made_in_order(
     alloc: Global,
     setting: &Setting<'_>,
@@ -147,17 +171,20 @@ fn made_in_order(
     for number in order {
         let classes = classes_of(alloc, &mut kept, cells, *number)?;
         let props = design_props(setting, *number);
+        let inside = inside_of(alloc, cells, *number)?;
+        let Inside { instances, rest } = inside;
         let cell = cell_of(
             alloc,
             cells,
             setting.constants,
             setting.plan,
             *number,
+            instances,
+            &rest,
             props,
-            &classes,
+            classes,
         )?;
         made.push(cell)?;
-        leave_parts(alloc, cells, *number);
     }
     Ok(made)
 }

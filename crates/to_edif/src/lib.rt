@@ -6,8 +6,8 @@
 // file is a planned one: the order of its cells and of their ports, instances and nets follows, and so do the names, the identifiers and the
 // texts of all of these. It can be written where the names of the design have at most 1,048,000 bytes and its strings at most 1,048,576.
 //
-// `to_edif` takes the design. What a cell is made of, and its classes, are left when what is written for it is made, so that the whole design and
-// the whole file are not in memory at once. A cell that is left keeps its ports, which the cells above it need.
+// `to_edif` takes the design. What a cell is made of is taken from it and left, with its classes, while what is written for it is made, so that
+// the whole design and the whole file are not in memory at once. Such a cell keeps its name and its ports, which the cells above it need.
 #![tactic(auto)]
 
 pub mod cells;

@@ -1,7 +1,6 @@
-use Rattle.std.proofs.Common.{◌≡◌, ◌++◌, drop, map}
-use Rattle.edif_written.specs.Naming.{seen}
-use Rattle.edif_making.specs.declared.nets.Planned.{Planned}
+use Rattle.std.proofs.Common.{◌≡◌, map, take}
+use Rattle.edif_plans.specs.NetNames.{name_of_class}
 use Rattle.edif_making.proofs.nets.names_of.Given as goal
 
-abbrev pub invariant-loop-net : goal.invariant-loop-net
-invariant-loop-net l = seen l.names.items ++ map (λ (x : Planned). x.name) (drop l.net-index l.planned) ≡ map (λ (x : Planned). x.name) l.planned
+abbrev pub invariant-loop-place : goal.invariant-loop-place
+invariant-loop-place l = l.names.items ≡ map (name_of_class l.inside.nets l.shown.ports) (take l.place l.members)
