@@ -14,6 +14,7 @@ ghost use Rattle.edif_making.specs.Whole.{IsWhole, whole_cell};
 use crate::members::live_members;
 use crate::nets::{net_idents, with_nets};
 use crate::refs::Scope;
+use crate::room::give_back;
 use edif_parts::{instances_of, instances_with};
 use edif_plans::{Head, Instances, Plan};
 use edif_values::{ContentsItem, Instance};
@@ -22,18 +23,21 @@ use net_hier::{Constants, HCell, HInst};
 use nl_base::{NoMemory, Seq};
 use std::alloc::Global;
 
-/// Instances as parts of contents, in a list with room for so many parts behind them.
+/// Instances as parts of contents, in a list with room for so many parts behind them. They are taken from the last one on, so that their
+/// list gives room back while the other one fills.
 fn instance_items(
     alloc: Global,
-    instances: Vec<Instance>,
+    mut instances: Vec<Instance>,
     behind: usize,
 ) -> Result<Vec<ContentsItem>, NoMemory>
     ensures { IfOk result (λ items. items.items ≡ map contents_items.Instance instances.items) }
 {
     let mut items = Vec::with_capacity(alloc, instances.len().saturating_add(behind))?;
-    for instance in instances {
+    while let Some(instance) = instances.pop() {
         items.push(ContentsItem::Instance(instance))?;
+        give_back(&mut instances);
     }
+    items.reverse();
     Ok(items)
 }
 

@@ -18,6 +18,7 @@ pub mod made;
 pub mod members;
 pub mod nets;
 pub mod refs;
+mod room;
 
 pub use cell::new_cell;
 pub use made::cell_of;

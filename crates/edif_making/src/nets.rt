@@ -17,6 +17,7 @@ ghost use Rattle.edif_making.specs.CellPlans.{cell_plan_of};
 
 use crate::members::Members;
 use crate::refs::{Scope, refs_of};
+use crate::room::give_back;
 use edif_naming::{named, properties_of};
 use edif_spaces::idents_of;
 use edif_values::{ContentsItem, Net, NetItem, Property};
@@ -268,18 +269,6 @@ fn net_of(alloc: Global, scope: &Scope<'_>, ident: &Ident, nodes: &[Node]) -> Re
         joined,
         items,
     })
-}
-
-/// Room for so many identifiers is not given back.
-const FEW: usize = 4096;
-
-/// Gives room for many identifiers back where at least a quarter of it is spare.
-fn give_back(idents: &mut Vec<Ident>)
-    ensures { idents.new.items ≡ idents.old.items }
-{
-    if idents.capacity() > FEW && idents.len() <= idents.capacity() / 4 * 3 {
-        idents.shrink_to_fit();
-    }
 }
 
 /// The parts of contents with nets behind them, one for each of these classes, under the identifier at its place. The identifiers are left
