@@ -1,21 +1,24 @@
 // The connections of an instance.
 ghost use Rattle.std.specs.Prelude.{◌≡◌, ◌+◌, ◌<◌, ◌≤◌, ◌∷◌, [], IfOk, IfSome};
-ghost use Rattle.readers.specs.Readers.{same, room, Reads};
+ghost use Rattle.readers.specs.Readers.{same, room, Reads, Boxes};
 ghost use Rattle.vlog_values.specs.Values.{AreSome, IsExpr, IsNamedConn, IsConns};
 ghost use Rattle.vlog_values.specs.Sizes.{list_size, maybe_size, conn_size, conns_size};
 ghost use Rattle.vlog_tokens.specs.Language.{vlog};
 ghost use Rattle.vlog_exprs.specs.Grammar.{mark, commas, list, maybe_expr};
 ghost use Rattle.vlog_items.specs.Grammar.{named_rest, named, order_of, named_conns, ordered_conns, conns};
 
-use nl_base::{ReadError, Seq};
+use nl_base::{NoMemory, ReadError, Seq};
 use nl_io::Source;
 use std::alloc::Global;
 use vlog_exprs::{VCursor, fitted, read_expr_if_any, seq_with_room};
 use vlog_values::{Conns, Expr, NamedConn};
 
-/// For how many connections by name an instance has room from the first: those of an inverter. What a list of three gives back behind its end is
-/// as large as the instance, which is put there next.
-const USUAL: usize = 2;
+/// For how many connections by name an instance has room from the first: those of an inverter.
+const FEW: usize = 2;
+
+/// For how many connections by name there is room where there are more than few. The list is left for one that has just its room: what a
+/// list gives back behind its end stays empty, as the instance is mostly larger.
+const MANY: usize = 8;
 
 /// Reads on behind the point of a connection by name.
 #[inline(always)]
@@ -54,6 +57,61 @@ fn read_named<S: Source>(
     Ok(conn)
 }
 
+/// These connections in another list, with room for so many.
+fn moved(alloc: Global, conns: Seq<NamedConn>, room: usize) -> Result<Seq<NamedConn>, NoMemory>
+    ensures { IfOk result (λ made. made ≡ conns) }
+{
+    let mut left = conns.into_vec();
+    let mut made = Vec::with_capacity(alloc, room)?;
+    made.append(&mut left)?;
+    Ok(Seq::of(made))
+}
+
+/// The same, where want of memory spends the cursor.
+fn move_to(
+    alloc: Global,
+    cursor: &mut VCursor,
+    conns: Seq<NamedConn>,
+    room: usize,
+) -> Result<Seq<NamedConn>, ReadError>
+    ensures { Boxes conns result cursor.old cursor.new }
+{
+    match moved(alloc, conns, room) {
+        Ok(made) => Ok(made),
+        Err(_) => Err(cursor.no_memory()),
+    }
+}
+
+/// These connections, with room for many where they are no longer few.
+#[inline(always)]
+fn roomy(
+    alloc: Global,
+    cursor: &mut VCursor,
+    conns: Seq<NamedConn>,
+) -> Result<Seq<NamedConn>, ReadError>
+    ensures { Boxes conns result cursor.old cursor.new }
+{
+    if conns.len() != FEW {
+        return Ok(conns);
+    }
+    move_to(alloc, cursor, conns, MANY)
+}
+
+/// These connections, without room for further ones.
+fn packed(
+    alloc: Global,
+    cursor: &mut VCursor,
+    conns: Seq<NamedConn>,
+) -> Result<Seq<NamedConn>, ReadError>
+    ensures { Boxes conns result cursor.old cursor.new }
+{
+    let count = conns.len();
+    if count <= FEW || count >= MANY {
+        return Ok(fitted(conns));
+    }
+    move_to(alloc, cursor, conns, count)
+}
+
 /// Reads further connections by name, each behind a comma, up to the `)`, and adds them to others.
 #[tactic(auto, using(readers::proofs::Choices::loops), unfolding(vlog_exprs::specs::Grammar::commas))]
 fn read_more_named<S: Source>(
@@ -72,6 +130,7 @@ fn read_more_named<S: Source>(
 {
     while cursor.takes(alloc, b',', source)? {
         let conn = read_named(alloc, cursor, source)?;
+        conns = roomy(alloc, cursor, conns)?;
         cursor.add(&mut conns, conn)?;
     }
     cursor.mark(alloc, b')', source)?;
@@ -91,10 +150,11 @@ fn read_named_conns<S: Source>(
     ensures size { IfOk result (λ conns. conns_size conns + room cursor.new ≤ room cursor.old) }
 {
     let first = read_named_rest(alloc, cursor, source)?;
-    let mut conns = seq_with_room(alloc, USUAL);
+    let mut conns = seq_with_room(alloc, FEW);
     cursor.add(&mut conns, first)?;
     let conns = read_more_named(alloc, cursor, conns, source)?;
-    Ok(Conns::Named(fitted(conns)))
+    let conns = packed(alloc, cursor, conns)?;
+    Ok(Conns::Named(conns))
 }
 
 /// Reads expressions that may be left out, up to the `)`.
