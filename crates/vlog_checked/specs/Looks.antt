@@ -1,6 +1,7 @@
 -- What is known of a file when its rules have been tried.
-use Rattle.std.specs.Prelude.{◌≡◌, ◌-◌, ◌^◌, [], map, min, sum_by, Some}
-use Rattle.vlog_design.specs.Names.{Name}
+use Rattle.std.specs.Prelude.{◌≡◌, ◌-◌, ◌^◌, true, [], map, min, sum_by, Some}
+use Rattle.std.specs.List.{AllByRecursion}
+use Rattle.vlog_design.specs.Names.{Name, implicit_names}
 use Rattle.vlog_design.specs.Reach.{module_number, reached}
 use Rattle.vlog_design.specs.Rules.{first_G, refusals}
 use Rattle.vlog_design.specs.Tables.{modules_of}
@@ -11,7 +12,8 @@ use Rattle.vlog_checked.specs.declared.check.CleanModules.{CleanModules}
 use Rattle.vlog_checked.specs.declared.check.Checked.{Checked}
 use Rattle.vlog_checked.specs.declared.check.Checked.TheVariants.{Refused, Clean}
 
--- no rule is broken, and these are the reached modules, their names, what they show, the number of the top among them, and their bits
+-- no rule is broken, and these are the reached modules, their names, what they show, the number of the top among them, their bits, and,
+-- where it is said, that a declaration declares each of their nets
 pub record AreCleanModules (file : VlogFile) (top : Name) (checked : CleanModules) : Type 0 where
   pub no_refusals : refusals file top ≡ []
   pub modules_are : modules_of checked.modules.items ≡ reached file top
@@ -20,6 +22,7 @@ pub record AreCleanModules (file : VlogFile) (top : Name) (checked : CleanModule
   pub top_is : checked.top ≡ module_number (reached file top) top
   pub most_is : checked.most ≡ min (2 ^ 64 - 1) (sum_by (most_joins (reached file top)) (reached file top))
   pub bits_is : checked.bits ≡ min (2 ^ 64 - 1) (sum_by module_bits (reached file top))
+  pub declared : checked.is_declared ≡ true → AllByRecursion (λ m. implicit_names m ≡ []) (reached file top)
 
 -- the first object of the least rule that is broken, or the reached modules where none is
 abbrev pub IsChecked : VlogFile → Name → Checked → Type 0

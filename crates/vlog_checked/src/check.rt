@@ -39,6 +39,8 @@ pub struct CleanModules<'a> {
     pub most: u64,
     /// The bits of all ports and nets, or 2^64-1 where there are more.
     pub bits: u64,
+    /// Whether it is seen that a declaration declares each net of the modules.
+    pub is_declared: bool,
 }
 
 /// What the rules say of a file.
@@ -99,6 +101,7 @@ fn examined_reached<'a>(
         top: number,
         most: look.most,
         bits: look.bits,
+        is_declared: look.is_declared,
     }))
 }
 

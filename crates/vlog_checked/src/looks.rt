@@ -5,19 +5,18 @@ ghost use Rattle.vlog_checked.specs.ByTables.{AreLooked, IsFreeAlone};
 ghost use Rattle.vlog_checked.specs.Tabled.{CanHaveTables};
 ghost use Rattle.vlog_design.specs.Rules.{declared_twice};
 ghost use Rattle.vlog_design.specs.Tables.{modules_of};
+ghost use Rattle.vlog_rules.specs.WrongUses.{has_wrong_use};
 ghost use Rattle.vlog_ties.specs.Ties.{modules_in};
 ghost use Rattle.vlog_values.specs.Sizes.{module_size};
 ghost use Rattle.vlog_values.specs.Values.{IsModule};
 
 use nl_base::NoMemory;
 use std::alloc::Global;
-use std::slice;
 use vlog_design::names::NameSet;
 use vlog_rules::module_rules::TooWide;
 use vlog_rules::passes::{ModuleScope, ScopeRule};
-use vlog_rules::wrong_uses::have_wrong_use;
 use vlog_scopes::redeclared::Redeclared;
-use vlog_scopes::scopes::scope_of;
+use vlog_scopes::scopes::{DeclaredScope, declared_scope};
 use vlog_ties::counts::table_bits;
 use vlog_ties::sides::{Sides, sides_in_scope};
 use vlog_values::Module;
@@ -27,17 +26,19 @@ use vlog_values::Module;
 pub struct Look {
     /// Whether it is seen that none of them breaks a rule that needs a table.
     pub is_free: bool,
+    /// Whether it is seen that a declaration declares each of their nets.
+    pub is_declared: bool,
     /// The bits of the left sides of all that is tied, or 2^64-1 where there are more.
     pub most: u64,
     /// The bits of the ports and nets, or 2^64-1 where there are more.
     pub bits: u64,
 }
 
-/// Whether the names, the selects, the widths and the ranges of a module break no rule.
-fn is_free_alone(alloc: Global, scope: &ModuleScope) -> Result<bool, NoMemory>
+/// Whether the names, the selects, the widths and the ranges of a module break no rule, where it is known whether some use is wrong.
+fn is_free_alone(alloc: Global, scope: &ModuleScope, wrong: bool) -> Result<bool, NoMemory>
+    requires { wrong ≡ has_wrong_use scope.now.module.now }
     ensures { IfOk result (λ free. free ≡ true → IsFreeAlone scope.now.module.now) }
 {
-    let wrong = have_wrong_use(alloc, slice::from_ref(scope))?;
     if wrong {
         return Ok(false);
     }
@@ -69,11 +70,12 @@ fn look_at(
     requires small { module_size m.now ≤ 268435456 }
     ensures { IfOk result (AreLooked (modules_in shown.now) (m.now ∷ [])) }
 {
-    let scope = scope_of(alloc, m)?;
+    let DeclaredScope { scope, is_declared } = declared_scope(alloc, m)?;
     let sides = sides_in_scope(alloc, names, shown, &scope)?;
-    let alone = is_free_alone(alloc, &scope)?;
+    let alone = is_free_alone(alloc, &scope, sides.wrong)?;
     Ok(Look {
         is_free: is_free(alone, &sides),
+        is_declared,
         most: sides.most,
         bits: table_bits(&scope.table),
     })
@@ -82,11 +84,13 @@ fn look_at(
 /// What is seen of modules, by what is seen of the ones in front and of the others.
 fn joined(front: Look, back: Look) -> Look
     ensures free { result.is_free ≡ (front.is_free && back.is_free) }
+    ensures declared { result.is_declared ≡ (front.is_declared && back.is_declared) }
     ensures most { result.most ≡ min (front.most + back.most) (2 ^ 64 - 1) }
     ensures bits { result.bits ≡ min (front.bits + back.bits) (2 ^ 64 - 1) }
 {
     Look {
         is_free: front.is_free && back.is_free,
+        is_declared: front.is_declared && back.is_declared,
         most: front.most.saturating_add(back.most),
         bits: front.bits.saturating_add(back.bits),
     }
@@ -105,6 +109,7 @@ pub(crate) fn looks_at(
 {
     let mut look = Look {
         is_free: true,
+        is_declared: true,
         most: 0,
         bits: 0,
     };

@@ -1,13 +1,15 @@
 // The rules on modules with the tables of their names.
 ghost use Rattle.std.specs.Prelude.{◌≡◌, ◌≤◌, ◌<◌, ◌++◌, true, length, map, IfOk};
-ghost use Rattle.std.specs.List.{AllByRecursion};
+ghost use Rattle.std.specs.List.{AllByRecursion, list_any};
 ghost use Rattle.nl_base.specs.declared.rule.Rule.TheVariants.{G6, G7, G8, G13};
 ghost use Rattle.vlog_checked.specs.ByTables.{IsFree};
 ghost use Rattle.vlog_checked.specs.Groups.{BreakNone, connection_refusals, design_refusals, name_refusals, table_refusals, width_refusals};
 ghost use Rattle.vlog_checked.specs.Tabled.{CanHaveTables};
 ghost use Rattle.vlog_design.specs.Rules.{bad_selects, first_of, in_modules, unequal_widths, unknown_names, unsized};
 ghost use Rattle.vlog_design.specs.Tables.{modules_of};
+ghost use Rattle.vlog_rules.specs.WrongUses.{has_wrong_use};
 ghost use Rattle.vlog_scopes.specs.Distinct.{AreDeclaredOnce};
+ghost use Rattle.vlog_ties.specs.Sides.{AreSides};
 ghost use Rattle.vlog_ties.specs.Ties.{modules_in};
 ghost use Rattle.vlog_values.specs.Sizes.{module_size};
 
@@ -21,11 +23,10 @@ use vlog_rules::module_rules::{BadSelects, TooWide, UnknownInstances, UnknownNam
 use vlog_rules::modules::ParamsTwice;
 use vlog_rules::passes::{EachStatement, ModuleScope, first_in_modules, first_in_scopes};
 use vlog_rules::statements::EachInstance;
-use vlog_rules::wrong_uses::have_wrong_use;
 use vlog_scopes::recursion::first_recursion;
 use vlog_scopes::redeclared::Redeclared;
 use vlog_scopes::scopes::scope_of;
-use vlog_ties::sides::sides_of;
+use vlog_ties::sides::{Sides, sides_of};
 use vlog_values::Module;
 
 /// The modules with the tables of their names, in their order.
@@ -44,14 +45,18 @@ pub fn scopes_of<'a>(
     Ok(scopes)
 }
 
-/// The first name in an expression that is no port and no net, or else the first select that means no bits. Where there is none, each
-/// name is looked up once.
-fn first_in_uses(alloc: Global, scopes: &[ModuleScope]) -> Result<Option<Refusal>, NoMemory>
+/// The first name in an expression that is no port and no net, or else the first select that means no bits, where it is known whether
+/// there is one.
+fn first_in_uses(
+    alloc: Global,
+    scopes: &[ModuleScope],
+    wrong: bool,
+) -> Result<Option<Refusal>, NoMemory>
+    requires { wrong ≡ list_any has_wrong_use (modules_in scopes.now) }
     ensures { IfOk result (λ found. found
         ≡ first_of (in_modules G6 unknown_names (modules_in scopes.now)
         ++ in_modules G7 bad_selects (modules_in scopes.now))) }
 {
-    let wrong = have_wrong_use(alloc, scopes)?;
     if !wrong {
         return Ok(None);
     }
@@ -65,13 +70,15 @@ fn first_in_uses(alloc: Global, scopes: &[ModuleScope]) -> Result<Option<Refusal
 fn first_in_names(
     alloc: Global,
     scopes: &[ModuleScope],
+    wrong: bool,
     unequal: Option<Refusal>,
 ) -> Result<Option<Refusal>, NoMemory>
-    requires { unequal ≡ first_of
+    requires wrong { wrong ≡ list_any has_wrong_use (modules_in scopes.now) }
+    requires unequal { unequal ≡ first_of
         (in_modules G8 (unequal_widths (modules_in scopes.now)) (modules_in scopes.now)) }
     ensures { IfOk result (λ found. found ≡ first_of (name_refusals (modules_in scopes.now))) }
 {
-    if let Some(refusal) = first_in_uses(alloc, scopes)? {
+    if let Some(refusal) = first_in_uses(alloc, scopes, wrong)? {
         return Ok(Some(refusal));
     }
     Ok(unequal)
@@ -153,21 +160,22 @@ pub(crate) fn first_in_tables(
     library: &ModulePorts,
     scopes: &[ModuleScope],
     top: u32,
-    unequal: Option<Refusal>,
-    loose: Option<Refusal>,
+    sides: Sides,
 ) -> Result<Option<Refusal>, NoMemory>
     requires same { modules_in scopes.now ≡ modules_of library.now.modules.items }
     requires kept { CanHaveTables (modules_of library.now.modules.items) }
     requires within { top < length library.now.modules.items }
-    requires unequal { unequal
-        ≡ first_of (in_modules G8 (unequal_widths (modules_in scopes.now))
-        (modules_in scopes.now)) }
-    requires loose { loose ≡ first_of
-        (in_modules G13 (unsized (modules_in scopes.now)) (modules_in scopes.now)) }
+    requires sides { AreSides (modules_in scopes.now) (modules_in scopes.now) sides }
     ensures { IfOk result (λ found. found
         ≡ first_of (table_refusals (modules_of library.now.modules.items))) }
 {
-    if let Some(refusal) = first_in_names(alloc, scopes, unequal)? {
+    let Sides {
+        unequal,
+        loose,
+        wrong,
+        ..
+    } = sides;
+    if let Some(refusal) = first_in_names(alloc, scopes, wrong, unequal)? {
         return Ok(Some(refusal));
     }
     if let Some(refusal) = first_in_connections(alloc, library)? {
@@ -193,7 +201,7 @@ fn first_by_tables(
     let made = scopes_of(alloc, &library.modules)?;
     let scopes = made.as_slice();
     let sides = sides_of(alloc, &library.names, scopes)?;
-    first_in_tables(alloc, library, scopes, top, sides.unequal, sides.loose)
+    first_in_tables(alloc, library, scopes, top, sides)
 }
 
 /// Whether it is seen that no module breaks a rule on connections, parameters or values for parameters of instances. All of them are

@@ -8,13 +8,12 @@ use Rattle.std.proofs.lemmas.List.Folds.{list_any-append}
 use Rattle.nl_base.specs.declared.rule.Rule.TheVariants.{G6, G7}
 use Rattle.vlog_design.specs.Names.{Signal, Use, item_exprs, module_uses, signal_named, signals, uses}
 use Rattle.vlog_design.specs.Ranges.{selected}
-use Rattle.vlog_design.specs.Rules.{bad_select_in, bad_selects, refused, unknown_names}
+use Rattle.vlog_design.specs.Rules.{bad_select_in, bad_selects, in_modules, refused, unknown_names}
 use Rattle.vlog_design.specs.declared.signals.Slot.{Slot}
 use Rattle.vlog_design.proofs.Steps.{flat_map_left}
 use Rattle.vlog_values.specs.declared.module.ItemV.{ItemV}
 use Rattle.vlog_values.specs.declared.module.Module.{Module}
 use Rattle.vlog_rules.specs.WrongUses.{has_wrong_use, is_wrong}
-use Rattle.vlog_rules.specs.declared.passes.ModuleScope.{ModuleScope}
 
 -- a condition on the parts of the parts of a list, tried one element after the other
 module _ {A B C : Type 0} (p : C → Bool) (g : B → List C) (f : A → List B) (xs : List A) (i : ℕ) where
@@ -69,13 +68,11 @@ module _ (m : Module) (h : has_wrong_use m ≡ false) where
       (none_kept (bad_select_in names) (is_wrong names) (λ u e. bad_wrong (λ slot. is_none (selected slot.range u.select)) (signal_named names u.name) e) (module_uses m) h)
 
 -- no module breaks one of the two rules
-pub none_refused : (scopes : List ModuleScope) → list_any (λ scope. has_wrong_use scope.module.now) scopes ≡ false
-    → (flat_map (λ scope. map (refused G6 scope.module.now.name) (unknown_names scope.module.now)) scopes ≡ []) × (flat_map (λ scope. map (refused G7 scope.module.now.name) (bad_selects scope.module.now)) scopes ≡ [])
+pub none_refused : (modules : List Module) → list_any has_wrong_use modules ≡ false → (in_modules G6 unknown_names modules ≡ []) × (in_modules G7 bad_selects modules ≡ [])
 none_refused [] h = (refl, refl)
-none_refused (scope ∷ scopes) h =
-    let m = scope.module.now in
-    let parts = or_parts (has_wrong_use m) (list_any (λ (s : ModuleScope). has_wrong_use s.module.now) scopes) h in
-    let rest = none_refused scopes parts.1 in (
+none_refused (m ∷ modules) h =
+    let parts = or_parts (has_wrong_use m) (list_any has_wrong_use modules) h in
+    let rest = none_refused modules parts.1 in (
       (λ j. map (refused G6 m.name) (none_unknown m parts.0 j) ++ rest.0 j),
       (λ j. map (refused G7 m.name) (none_bad m parts.0 j) ++ rest.1 j),
     )

@@ -3,12 +3,10 @@ ghost use Rattle.std.specs.Prelude.{◌≡◌, flat_map, IfOk};
 ghost use Rattle.std.specs.List.{list_any};
 ghost use Rattle.vlog_design.specs.Names.{item_exprs, uses};
 ghost use Rattle.vlog_design.specs.Uses.{use_of, uses_of};
-ghost use Rattle.vlog_rules.specs.WrongUses.{has_wrong_use, is_wrong};
+ghost use Rattle.vlog_rules.specs.WrongUses.{is_wrong};
 
-use crate::passes::ModuleScope;
 use crate::selects::is_selected;
 use nl_base::NoMemory;
-use std::alloc::Global;
 use vlog_design::table::Table;
 use vlog_design::uses::{UseOf, push_item_uses};
 use vlog_values::ItemV;
@@ -34,8 +32,8 @@ fn any_wrong(table: &Table, uses: &[UseOf]) -> bool
     false
 }
 
-/// Whether one of the uses in an item is wrong. The list has room for its uses.
-fn has_wrong_use_in<'a>(
+/// Whether one of the uses in an item is wrong. The list has room for its uses; what stands in it is left.
+pub fn has_wrong_use_in<'a>(
     table: &Table,
     item: &'a ItemV,
     found: &mut Vec<UseOf<'a>>,
@@ -46,32 +44,4 @@ fn has_wrong_use_in<'a>(
     found.clear();
     push_item_uses(item, found)?;
     Ok(any_wrong(table, found))
-}
-
-/// Whether one of the uses in the module of a scope is wrong. No list of all of them is made.
-fn has_wrong_use(alloc: Global, scope: &ModuleScope) -> Result<bool, NoMemory>
-    ensures { IfOk result (λ wrong. wrong ≡ has_wrong_use scope.now.module.now) }
-{
-    let mut found = Vec::new(alloc);
-    for item in scope.module.items.items() {
-        let wrong = has_wrong_use_in(&scope.table, item, &mut found)?;
-        if wrong {
-            return Ok(true);
-        }
-    }
-    Ok(false)
-}
-
-/// Whether one of the uses in the modules is wrong.
-pub fn have_wrong_use(alloc: Global, scopes: &[ModuleScope]) -> Result<bool, NoMemory>
-    ensures { IfOk result (λ wrong. wrong
-        ≡ list_any (λ scope. has_wrong_use scope.module.now) scopes.now) }
-{
-    for scope in scopes {
-        let wrong = has_wrong_use(alloc, scope)?;
-        if wrong {
-            return Ok(true);
-        }
-    }
-    Ok(false)
 }

@@ -1,5 +1,5 @@
 -- What is in a table when the names of a module were added.
-use Rattle.std.proofs.Common.{◌≡◌, ℕ, ◌+◌, ◌<◌, Bool, true, false, not, ◌||◌, cond, List, [], ◌∷◌, ◌++◌, Option, None, Result, Ok, Err, IfOk, OnOk, OnErr, filter, flat_map, is_none, drop, get_or, length, bytes_eq, if◌then◌else◌, refl, sym, ap, subst, ◌∙◌, append_assoc, append-nil, arith}
+use Rattle.std.proofs.Common.{◌≡◌, ℕ, ◌+◌, ◌<◌, Bool, true, false, not, ◌||◌, cond, List, [], ◌∷◌, ◌++◌, Option, None, Result, Ok, Err, IfOk, OnErr, filter, flat_map, is_none, drop, get_or, length, bytes_eq, if◌then◌else◌, refl, sym, ap, subst, ◌∙◌, append_assoc, append-nil, arith}
 use Rattle.std.specs.Borrow.{Bor}
 use Rattle.std.proofs.lemmas.Bool.{both_ways, false_from_ne_true, not-true, or_parts}
 use Rattle.std.proofs.lemmas.List.{drop_more, map-append}
@@ -215,7 +215,6 @@ implicit_distinct m table names once t n =
     ∙ ap (λ rest. signal_names (declared_signals m) ++ rest) (net_slot_names (number_behind 0 (declared_nets m)) (of_range None (implicit_names m)) ∙ plain_of_range None (implicit_names m))) in
     subst Distinct (are ∙ (λ j. signal_names (sym t j) ++ sym n j)) (names_distinct m once)
 
-pub implicit_added : {A E : Type 0} (m : Module) (result : Result A E) (table after : List Signal) (first : ℕ) (names : List Name) → table ≡ declared_signals m → first ≡ number_behind 0 (declared_nets m) → names ≡ implicit_names m
-    → OnOk result (after ≡ table ++ net_slots first (of_range None names)) → OnOk result (after ≡ signals m)
-implicit_added m (Ok x) table after first names t f n a = a ∙ ((λ j. t j ++ net_slots (f j) (of_range None (n j))) ∙ sym (signals_are m))
-implicit_added m (Err e) table after first names t f n a = tt
+pub implicit_added : (m : Module) (table after : List Signal) (first : ℕ) (names : List Name) → table ≡ declared_signals m → first ≡ number_behind 0 (declared_nets m) → names ≡ implicit_names m
+    → after ≡ table ++ net_slots first (of_range None names) → after ≡ signals m
+implicit_added m table after first names t f n a = a ∙ ((λ j. t j ++ net_slots (f j) (of_range None (n j))) ∙ sym (signals_are m))

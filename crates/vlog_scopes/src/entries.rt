@@ -1,6 +1,6 @@
 // The names of a module in the order of its table: the ports, the declared nets that are no ports, and the nets without a declaration.
-ghost use Rattle.std.specs.Prelude.{◌≡◌, ◌≤◌, ◌+◌, ◌*◌, ◌++◌, [], length, flat_map, IfOk, OnOk, None, ◌^◌};
-ghost use Rattle.vlog_design.specs.Names.{port_names, port_signals, signals};
+ghost use Rattle.std.specs.Prelude.{◌≡◌, ◌≤◌, ◌+◌, ◌*◌, ◌++◌, [], true, length, flat_map, IfOk, OnOk, None, ◌^◌};
+ghost use Rattle.vlog_design.specs.Names.{implicit_names, port_names, port_signals, signals};
 ghost use Rattle.net_hier.specs.Cells.{width_of};
 ghost use Rattle.vlog_design.specs.Rules.{declared_twice};
 ghost use Rattle.vlog_design.specs.Tables.{names_of};
@@ -188,24 +188,26 @@ pub(crate) fn add_single<'a>(
 }
 
 /// Adds the nets of the module that no declaration declares, of which the first has this number, to the table of the ports and the
-/// declared nets. Mostly that table shows that there are none.
+/// declared nets. Mostly that table shows that there are none, which is the answer then.
 pub(crate) fn add_implicit<'a>(
     alloc: Global,
     m: &'a Module,
     first: u64,
     out: &mut NewTable<'a>,
-) -> Result<(), NoMemory>
+) -> Result<bool, NoMemory>
     requires once { declared_twice m.now ≡ [] }
     requires declared { out.old ≡ declared_signals m.now }
     requires behind { first ≡ number_behind 0 (declared_nets m.now) }
     requires small { first ≤ 2 ^ 60 }
     ensures added { OnOk result (out.new ≡ signals m.now) }
+    ensures none { IfOk result (λ none. none ≡ true → implicit_names m.now ≡ []) }
 {
     let shown = shows_none(alloc, m, out)?;
     if shown {
-        return Ok(());
+        return Ok(true);
     }
     let names = implicit_in(alloc, m)?;
     out.expect(names.len());
-    add_single(&names, first, out)
+    add_single(&names, first, out)?;
+    Ok(false)
 }

@@ -12,3 +12,4 @@ pub mod SideLaws
 pub mod Spelled
 pub mod TableBits
 pub mod Valid
+pub mod WrongLaws

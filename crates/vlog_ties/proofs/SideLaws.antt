@@ -1,5 +1,5 @@
 -- What the rules on two sides say of one module, and of modules one after the other.
-use Rattle.std.proofs.Common.{◌≡◌, ◌+◌, ◌-◌, ◌^◌, ◌<◌, ◌≤◌, ℕ, List, [], ◌∷◌, ◌++◌, None, Some, Option, ap, append-nil, arith, find, get_or, length, map, min, option_map, refl, subst, sum_by, sym, take, ◌∙◌}
+use Rattle.std.proofs.Common.{◌≡◌, ◌+◌, ◌-◌, ◌^◌, ◌<◌, ◌≤◌, ◌||◌, ℕ, false, List, [], ◌∷◌, ◌++◌, None, Some, Option, ap, append-nil, arith, find, get_or, length, map, min, option_map, refl, subst, sum_by, sym, take, ◌∙◌}
 use Rattle.std.specs.Option.{option_or}
 use Rattle.std.proofs.lemmas.List.{map_more, take_all}
 use Rattle.std.proofs.lemmas.List.Concat.{flat_map-append}
@@ -10,6 +10,7 @@ use Rattle.nl_base.specs.declared.rule.Rule.{Rule}
 use Rattle.nl_base.specs.declared.rule.Rule.TheVariants.{G8, G13}
 use Rattle.vlog_design.specs.Names.{Signal, signals}
 use Rattle.vlog_design.specs.Rules.{Objects, first_of, in_modules, refused, unequal_widths, unsized}
+use Rattle.vlog_rules.specs.WrongUses.{has_wrong_use}
 use Rattle.vlog_rules.specs.declared.passes.ModuleScope.{ModuleScope}
 use Rattle.vlog_values.specs.declared.module.Module.{Module}
 use Rattle.vlog_ties.specs.Sides.{AreSides, AreTieSides, tie_refusal}
@@ -19,6 +20,7 @@ use Rattle.vlog_ties.specs.declared.rules.TieRule.TheVariants.{EqualWidths, Size
 use Rattle.vlog_ties.specs.declared.sides.Sides.{Sides}
 use Rattle.vlog_ties.proofs.Broken.{broken_first}
 use Rattle.vlog_ties.proofs.MostJoins.{module_most}
+use Rattle.vlog_ties.proofs.WrongLaws.{any_alone, any_both}
 
 map_or : {A B : Type 0} (f : A → B) (one other : Option A) → option_map f (option_or one other) ≡ option_or (option_map f one) (option_map f other)
 map_or f None other = refl
@@ -62,11 +64,13 @@ module _ (m : Module) (table : List Signal) where
       })
 
 -- the sides of a module are those of its ties
-pub module_sides : (modules : List Module) (m : Module) (table : List Signal) (ts : List Tied) (sides : Sides) → table ≡ signals m → ts ≡ module_ties modules m → AreTieSides m table ts sides → AreSides modules (m ∷ []) sides
-module_sides modules m table ts sides e f are = record {
+pub module_sides : (modules : List Module) (m : Module) (table : List Signal) (ts : List Tied) (sides : Sides) → table ≡ signals m → ts ≡ module_ties modules m → AreTieSides m table ts sides → sides.wrong ≡ has_wrong_use m
+    → AreSides modules (m ∷ []) sides
+module_sides modules m table ts sides e f are wrong = record {
   unequal_is = module_first EqualWidths modules m table ts sides.unequal e f are.unequal_is;
   loose_is = module_first SizedLiterals modules m table ts sides.loose e f are.loose_is;
   most_is = module_most modules m table ts (2 ^ 64 - 1) sides.most e f are.most_is;
+  wrong_is = any_alone m sides.wrong wrong;
 }
 
 first_both : {A : Type 0} (xs ys : List A) → first_of (xs ++ ys) ≡ option_or (first_of xs) (first_of ys)
@@ -89,19 +93,21 @@ module _ (modules : List Module) where
 
   module _ (scopes : List ModuleScope) where
     -- before the first module
-    pub sides_begun : (sides : Sides) → sides.unequal ≡ None → sides.loose ≡ None → sides.most ≡ 0 → AreSides modules (modules_in (take 0 scopes)) sides
-    sides_begun sides unequal loose most = record { unequal_is = unequal; loose_is = loose; most_is = most }
+    pub sides_begun : (sides : Sides) → sides.unequal ≡ None → sides.loose ≡ None → sides.most ≡ 0 → sides.wrong ≡ false → AreSides modules (modules_in (take 0 scopes)) sides
+    sides_begun sides unequal loose most wrong = record { unequal_is = unequal; loose_is = loose; most_is = most; wrong_is = wrong }
 
     -- one more module
     pub sides_more : (i : ℕ) (scope : ModuleScope) → scope ≡ get_or scopes i scope → i < length scopes → (front back both : Sides) → AreSides modules (modules_in (take i scopes)) front → AreSides modules (scope.module.now ∷ []) back
-        → both.unequal ≡ option_or front.unequal back.unequal → both.loose ≡ option_or front.loose back.loose → both.most ≡ min (front.most + back.most) (2 ^ 64 - 1) → AreSides modules (modules_in (take (i + 1) scopes)) both
-    sides_more i scope is lt front back both a b unequal loose most =
+        → both.unequal ≡ option_or front.unequal back.unequal → both.loose ≡ option_or front.loose back.loose → both.most ≡ min (front.most + back.most) (2 ^ 64 - 1) → both.wrong ≡ (front.wrong || back.wrong)
+        → AreSides modules (modules_in (take (i + 1) scopes)) both
+    sides_more i scope is lt front back both a b unequal loose most wrong =
         let those : List Module = modules_in (take i scopes) in
         let more : modules_in (take (i + 1) scopes) ≡ those ++ scope.module.now ∷ [] = map_more (λ (s : ModuleScope). s.module.now) scopes i scope lt ∙ ap (λ (s : ModuleScope). those ++ s.module.now ∷ []) (sym is) in
         subst (λ all. AreSides modules all both) (sym more) (record {
           unequal_is = modules_first G8 (unequal_widths modules) those (scope.module.now ∷ []) front.unequal back.unequal both.unequal a.unequal_is b.unequal_is unequal;
           loose_is = modules_first G13 (unsized modules) those (scope.module.now ∷ []) front.loose back.loose both.loose a.loose_is b.loose_is loose;
           most_is = most_both those (scope.module.now ∷ []) (2 ^ 64 - 1) front.most back.most both.most a.most_is b.most_is most;
+          wrong_is = any_both has_wrong_use those (scope.module.now ∷ []) front.wrong back.wrong both.wrong a.wrong_is b.wrong_is wrong;
         })
 
     -- behind the last module

@@ -4,7 +4,8 @@
 // each name of a supply net, in the order of the text and without bits. `push_ties` adds the joins of ties, bit by bit, and
 // `push_item_joins` those of an item; `join_count` answers how many these are before any is made. `sides_of` answers the first connection or
 // assignment whose two sides have two widths and the first with an unsized literal, as refusals, or nothing exactly where the rule is
-// kept, and the bits of all left sides, which no count of joins passes.
+// kept, the bits of all left sides, which no count of joins passes, and whether some name in an expression is no port and no net or some
+// select means no bits.
 #![tactic(auto)]
 
 pub mod connections;

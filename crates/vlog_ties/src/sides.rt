@@ -1,5 +1,5 @@
 // What the rules on the two sides of connections and assignments say of modules.
-ghost use Rattle.std.specs.Prelude.{None, All, ◌≡◌, ◌≤◌, ◌∷◌, ◌+◌, ◌-◌, ◌^◌, [], min, map, IfOk};
+ghost use Rattle.std.specs.Prelude.{None, All, ◌≡◌, ◌≤◌, ◌∷◌, ◌+◌, ◌-◌, ◌^◌, ◌||◌, [], false, min, map, IfOk};
 ghost use Rattle.std.specs.List.{AllByRecursion};
 ghost use Rattle.std.specs.Option.{option_or};
 ghost use Rattle.vlog_values.specs.Sizes.{module_size};
@@ -15,6 +15,7 @@ use nl_base::{NoMemory, Refusal};
 use std::alloc::Global;
 use vlog_design::names::NameSet;
 use vlog_rules::passes::ModuleScope;
+use vlog_rules::wrong_uses::has_wrong_use_in;
 
 /// What the two sides of connections and assignments of modules break, and at most how many joins the modules have.
 #[derive(Drop)]
@@ -25,6 +26,8 @@ pub struct Sides {
     pub loose: Option<Refusal>,
     /// The bits of all left sides and supply nets, or 2^64-1 where there are more: there are no more joins.
     pub most: u64,
+    /// Whether some name in an expression is no port and no net, or some select means no bits.
+    pub wrong: bool,
 }
 
 /// The sides of no ties and of no modules.
@@ -32,18 +35,27 @@ fn no_sides() -> Sides
     ensures unequal { result.unequal ≡ None }
     ensures loose { result.loose ≡ None }
     ensures most { result.most ≡ 0 }
+    ensures wrong { result.wrong ≡ false }
 {
     Sides {
         unequal: None,
         loose: None,
         most: 0,
+        wrong: false,
     }
 }
 
-/// The sides of these ties of the module of a scope.
-fn sides_of_ties(alloc: Global, scope: &ModuleScope, ties: &[Tie]) -> Result<Sides, NoMemory>
+/// The sides of these ties of the module of a scope, of an item with a wrong use or without.
+fn sides_of_ties(
+    alloc: Global,
+    scope: &ModuleScope,
+    ties: &[Tie],
+    wrong: bool,
+) -> Result<Sides, NoMemory>
     requires { All (λ tie. HasNarrowLeft scope.now.table (tied tie)) ties.now }
-    ensures { IfOk result (AreTieSides scope.now.module.now scope.now.table (all_tied ties.now)) }
+    ensures sides { IfOk result
+        (AreTieSides scope.now.module.now scope.now.table (all_tied ties.now)) }
+    ensures wrong { IfOk result (λ sides. sides.wrong ≡ wrong) }
 {
     let unequal = first_refusal(alloc, TieRule::EqualWidths, scope, ties)?;
     let loose = first_refusal(alloc, TieRule::SizedLiterals, scope, ties)?;
@@ -52,6 +64,7 @@ fn sides_of_ties(alloc: Global, scope: &ModuleScope, ties: &[Tie]) -> Result<Sid
         unequal,
         loose,
         most,
+        wrong,
     })
 }
 
@@ -60,26 +73,30 @@ fn joined(front: Sides, back: Sides) -> Sides
     ensures unequal { result.unequal ≡ option_or front.unequal back.unequal }
     ensures loose { result.loose ≡ option_or front.loose back.loose }
     ensures most { result.most ≡ min (front.most + back.most) (2 ^ 64 - 1) }
+    ensures wrong { result.wrong ≡ (front.wrong || back.wrong) }
 {
     let Sides {
         unequal: front_unequal,
         loose: front_loose,
         most: front_most,
+        wrong: front_wrong,
     } = front;
     let Sides {
         unequal,
         loose,
         most,
+        wrong,
     } = back;
     Sides {
         unequal: front_unequal.or(unequal),
         loose: front_loose.or(loose),
         most: front_most.saturating_add(most),
+        wrong: front_wrong || wrong,
     }
 }
 
-/// The sides of the module of a scope, where `scopes` are the modules below it and `names` their names. No list of all its ties
-/// is made.
+/// The sides of the module of a scope, where `scopes` are the modules below it and `names` their names. Item by item, so that each name
+/// is looked up again at once; no list of all its ties is made.
 pub fn sides_in_scope<'a>(
     alloc: Global,
     names: &NameSet,
@@ -93,11 +110,13 @@ pub fn sides_in_scope<'a>(
 {
     let mut sides = no_sides();
     let mut ties = Vec::new(alloc);
+    let mut found = Vec::new(alloc);
     let mut number: u32 = 0;
     for item in scope.module.items.items() {
         ties.clear();
         push_item_ties(names, scopes, number, item, &mut ties)?;
-        let next = sides_of_ties(alloc, scope, ties.as_slice())?;
+        let wrong = has_wrong_use_in(&scope.table, item, &mut found)?;
+        let next = sides_of_ties(alloc, scope, ties.as_slice(), wrong)?;
         sides = joined(sides, next);
         number += instance_count(item);
     }

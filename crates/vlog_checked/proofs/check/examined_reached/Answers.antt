@@ -35,4 +35,5 @@ returns c =
       top_is = laws.top_is c.args.file.now c.args.top.now c.requires.named library.modules.items those library.names library.are_named c.number_in-number.result c.number_in-number.ensures;
       most_is = looked.most_is;
       bits_is = looked.bits_is;
+      declared = looked.declared;
     }

@@ -19,7 +19,7 @@ loop-m-init c = looked_begun (modules_in c.args.shown.now) c.args.modules.now
 pub loop-m-preserved : goal.loop-m-preserved
 loop-m-preserved c =
     looked_more (modules_in c.args.shown.now) c.args.modules.now c.loop-m.m-index c.m-item.result c.m-item.is c.loop-m-test.true c.loop-m.look c.in_ok-next.next c.joined-look.result
-    c.loop-m.invariant c.in_ok-next.ensures c.joined-look.ensures.free c.joined-look.ensures.most c.joined-look.ensures.bits
+    c.loop-m.invariant c.in_ok-next.ensures c.joined-look.ensures.free c.joined-look.ensures.declared c.joined-look.ensures.most c.joined-look.ensures.bits
 
 pub returns : goal.returns
 returns c = looked_done (modules_in c.args.shown.now) c.args.modules.now c.loop-m.m-index c.loop-m.look c.loop-m-test.false c.loop-m.invariant

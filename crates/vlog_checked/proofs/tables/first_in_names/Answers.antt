@@ -16,4 +16,4 @@ pub returns : goal.returns
 unfolding name_refusals
 returns c =
     let modules = modules_in c.args.scopes.now in
-    behind (in_modules G6 unknown_names modules ++ in_modules G7 bad_selects modules) (in_modules G8 (unequal_widths modules) modules) c.args.unequal (sym c.in_default.is ∙ c.in_ok-refusal.ensures) c.requires
+    behind (in_modules G6 unknown_names modules ++ in_modules G7 bad_selects modules) (in_modules G8 (unequal_widths modules) modules) c.args.unequal (sym c.in_default.is ∙ c.in_ok-refusal.ensures) c.requires.unequal

@@ -1,4 +1,4 @@
-use Rattle.std.proofs.Common.{◌≡◌, ◌++◌, ◌∙◌, [], ap, map, subst, sym}
+use Rattle.std.proofs.Common.{◌≡◌, ◌++◌, ◌∙◌, ap, map, subst, sym}
 use Rattle.std.specs.Prelude.{IfOk}
 use Rattle.nl_base.specs.declared.rule.Rule.TheVariants.{G6, G7}
 use Rattle.vlog_design.specs.Rules.{bad_selects, first_of, in_modules, refused, unknown_names}
@@ -9,11 +9,8 @@ use Rattle.vlog_checked.proofs.tables.first_in_uses.Goals as goal
 
 pub returns-then-not-wrong : goal.returns-then-not-wrong
 returns-then-not-wrong c =
-    let scopes = c.args.scopes.now in
-    let none = none_refused scopes (sym c.in_ok-wrong.ensures ∙ c.if-not-wrong.true) in
-    let unknown : in_modules G6 unknown_names (modules_in scopes) ≡ [] = sym (in_scopes (λ m. map (refused G6 m.name) (unknown_names m)) scopes) ∙ none.0 in
-    let bad : in_modules G7 bad_selects (modules_in scopes) ≡ [] = sym (in_scopes (λ m. map (refused G7 m.name) (bad_selects m)) scopes) ∙ none.1 in
-    sym (λ j. first_of (unknown j ++ bad j))
+    let none = none_refused (modules_in c.args.scopes.now) (sym c.requires ∙ c.if-not-wrong.true) in
+    sym (λ j. first_of (none.0 j ++ none.1 j))
 
 pub returns-in-Some : goal.returns-in-Some
 returns-in-Some c =

@@ -6,6 +6,7 @@ use Rattle.vlog_ties.proofs.Narrow.{ties_narrow}
 use Rattle.vlog_ties.proofs.Places.{counted_on, instances_left, instances_of_module, items_front}
 use Rattle.vlog_ties.proofs.SideLaws.{module_sides, ties_begun, ties_more}
 use Rattle.vlog_ties.proofs.Valid.{item_ties_valid}
+use Rattle.vlog_ties.proofs.WrongLaws.{wrong_done, wrong_more}
 use Rattle.vlog_ties.proofs.sides.sides_in_scope.Goals as goal
 
 pub loop-item-init : goal.loop-item-init
@@ -15,6 +16,7 @@ loop-item-init c =
       few = omega (arith, instances_of_module scope.module.now _ c.items-item-items.ensures c.requires.small);
       counted = refl;
       sides = ties_begun scope.module.now scope.table (modules_in c.args.scopes.now) _ c.no_sides-sides.ensures.unequal c.no_sides-sides.ensures.loose c.no_sides-sides.ensures.most;
+      wrong = c.no_sides-sides.ensures.wrong;
     }
 
 pub sides_of_ties-requires : goal.sides_of_ties-requires
@@ -36,11 +38,15 @@ loop-item-preserved c =
       counted = counted_on items i c.item-item.result c.loop-item.number c.instance_count-number.result c.item-item.is c.loop-item-test.true c.loop-item.invariant.counted c.instance_count-number.ensures;
       sides = ties_more scope.module.now scope.table (ties_from modules 0 (take i items)) (item_ties modules c.loop-item.number c.item-item.result) (ties_from modules 0 (take (i + 1) items))
           (items_front modules items i c.item-item.result c.loop-item.number c.item-item.is c.loop-item-test.true c.loop-item.invariant.counted) c.loop-item.sides c.in_ok-next.next c.joined-sides.result c.loop-item.invariant.sides
-          (subst (λ ts. AreTieSides scope.module.now scope.table ts c.in_ok-next.next) are c.in_ok-next.ensures) c.joined-sides.ensures.unequal c.joined-sides.ensures.loose c.joined-sides.ensures.most;
+          (subst (λ ts. AreTieSides scope.module.now scope.table ts c.in_ok-next.next) are c.in_ok-next.ensures.sides) c.joined-sides.ensures.unequal c.joined-sides.ensures.loose c.joined-sides.ensures.most;
+      wrong = wrong_more items i scope.table c.item-item.result c.item-item.is c.loop-item-test.true c.loop-item.sides.wrong c.in_ok-next.next.wrong c.joined-sides.result.wrong c.loop-item.invariant.wrong
+          (c.in_ok-next.ensures.wrong ∙ c.in_ok-wrong.ensures) c.joined-sides.ensures.wrong;
     }
 
 pub returns : goal.returns
 returns c =
     let scope = c.args.scope.now in
     let modules = modules_in c.args.scopes.now in
-    module_sides modules scope.module.now scope.table _ c.loop-item.sides scope.is_whole (all_taken modules scope.module.now c.items-item-items.result.now c.loop-item.item-index c.items-item-items.ensures c.loop-item-test.false) c.loop-item.invariant.sides
+    let items = c.items-item-items.result.now in
+    module_sides modules scope.module.now scope.table _ c.loop-item.sides scope.is_whole (all_taken modules scope.module.now items c.loop-item.item-index c.items-item-items.ensures c.loop-item-test.false) c.loop-item.invariant.sides
+    (wrong_done items c.loop-item.item-index scope.table scope.module.now c.loop-item.sides.wrong scope.is_whole c.items-item-items.ensures c.loop-item-test.false c.loop-item.invariant.wrong)
