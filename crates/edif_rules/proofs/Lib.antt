@@ -1,3 +1,5 @@
+pub mod WordLaws
+pub mod FirstLaws
 pub mod BitLaws
 pub mod ArrayLaws
 pub mod Turns

@@ -1,68 +1,42 @@
-// How much a walk of a cell's contents will keep of its nets, so that its sets have their room at once: a set that grows holds up to twice
-// what is in it, and for a while the old beside the new.
+// How many nets a cell has, so that the set of their identifiers has its room at once: a set that grows holds up to twice what is in it,
+// and for a while the old beside the new.
 use edif_values::{Cell, CellItem, ContentsItem, View, ViewItem};
 
-/// How many nets there are, and how many references in them.
-#[derive(Clone, Copy)]
-pub(crate) struct Room {
-    pub(crate) nets: usize,
-    pub(crate) references: usize,
-}
-
-/// Room for both.
-fn both(one: Room, other: Room) -> Room {
-    Room {
-        nets: one.nets.saturating_add(other.nets),
-        references: one.references.saturating_add(other.references),
-    }
-}
-
-/// No room.
-fn none() -> Room {
-    Room {
-        nets: 0,
-        references: 0,
-    }
-}
-
-/// Room for the net that the part of the contents is, where it is one.
-fn room_of_item(item: &ContentsItem) -> Room {
+/// Whether the part of the contents is a net.
+fn is_net(item: &ContentsItem) -> bool {
     match item {
-        ContentsItem::Net(net) => Room {
-            nets: 1,
-            references: net.joined.len(),
-        },
-        _ => none(),
+        ContentsItem::Net(_) => true,
+        _ => false,
     }
 }
 
-/// Room for the nets of some contents.
-fn room_of_contents(items: &[ContentsItem]) -> Room {
-    let mut room = none();
+/// How many nets there are in some contents.
+fn nets_in_contents(items: &[ContentsItem]) -> usize {
+    let mut count: usize = 0;
     for item in items {
-        room = both(room, room_of_item(item));
+        count = count.saturating_add(is_net(item) as usize);
     }
-    room
+    count
 }
 
-/// Room for the nets of a view.
-fn room_of_view(view: &View) -> Room {
-    let mut room = none();
+/// How many nets a view has.
+fn nets_in_view(view: &View) -> usize {
+    let mut count: usize = 0;
     for item in view.items.items() {
         if let ViewItem::Contents(items) = item {
-            room = both(room, room_of_contents(items.items()));
+            count = count.saturating_add(nets_in_contents(items.items()));
         }
     }
-    room
+    count
 }
 
-/// Room for the nets of a cell.
-pub(crate) fn room_of(cell: &Cell) -> Room {
-    let mut room = none();
+/// How many nets a cell has.
+pub(crate) fn net_count(cell: &Cell) -> usize {
+    let mut count: usize = 0;
     for item in cell.items.items() {
         if let CellItem::View(view) = item {
-            room = both(room, room_of_view(view));
+            count = count.saturating_add(nets_in_view(view));
         }
     }
-    room
+    count
 }

@@ -18,7 +18,7 @@ use crate::joined::meet_joined;
 use crate::parts::instances_of;
 use crate::ports::ports_refusal;
 use crate::references::{NetNames, unbroken};
-use crate::room::room_of;
+use crate::room::net_count;
 use crate::tables::{InstanceTable, PortTable};
 use edif_design::FileTables;
 use edif_lookup::{Meaning, NameSet, lower};
@@ -332,13 +332,13 @@ fn contents_refusal(
         ≡ lowest (in_order (contents_refusals tables.now (place_in home cell.now))
         (cell_contents cell.now))) }
 {
-    let room = room_of(cell);
+    let instances = scope.instances.instances();
     let mut met = Met {
         instances: 0,
-        renamed: any_renamed(scope.instances.instances()),
+        renamed: any_renamed(instances),
         originals: NameSet::new(alloc),
-        nets: NameSet::with_room(alloc, room.nets)?,
-        taken: TakenBits::with_room(alloc, room.references)?,
+        nets: NameSet::with_room(alloc, net_count(cell))?,
+        taken: TakenBits::empty(alloc, instances.len())?,
     };
     let found = meet_cell(alloc, tables, scope, home, cell, &mut met)?;
     Ok(found)

@@ -18,8 +18,8 @@ pub returns : goal.returns
 returns c =
     walks_whole c.args.tables.now (place_in c.args.home c.args.cell.now) _ _ _ c.in_ok-found.ensures (record {
       instances_met = refl;
-      renamed_is = c.any_renamed.ensures ∙ (any_seen is_renamed c.instances.result.now ∙ ap (list_any is_renamed) (c.instances.ensures ∙ c.requires.scope.instances_are));
+      renamed_is = c.any_renamed.ensures ∙ (any_seen is_renamed c.instances-instances.result.now ∙ ap (list_any is_renamed) (c.instances-instances.ensures ∙ c.requires.scope.instances_are));
       originals_met = λ is name. c.new.ensures name;
       nets_met = λ name. c.in_ok-with_room.ensures name;
-      bits_met = λ node. ap (list_any (same_node node)) c.in_ok-with_room-2.ensures;
+      bits_met = λ node. ap (list_any (same_node node)) c.in_ok-empty.ensures;
     })
