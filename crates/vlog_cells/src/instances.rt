@@ -116,11 +116,11 @@ fn add_statement(
     cell: u32,
     statement: &Instances,
     found: &Groups<'_, &DefSet>,
-    made: &mut Seq<HInst>,
+    made: &mut Vec<HInst>,
     spelling: &mut Vec<u8>,
 ) -> Result<(), NoMemory>
-    ensures added { OnOk result (made.new
-        ≡ made.old ++ map (instance_by cell statement.now found.now) statement.now.insts) }
+    ensures added { OnOk result (made.new.items
+        ≡ made.old.items ++ map (instance_by cell statement.now found.now) statement.now.insts) }
 {
     for instance in statement.insts.items() {
         let value = instance_of(alloc, cell, statement, found, instance, spelling)?;
@@ -135,12 +135,13 @@ pub(crate) fn add_item(
     names: &NameSet,
     found: &Groups<'_, &DefSet>,
     item: &ItemV,
-    made: &mut Seq<HInst>,
+    made: &mut Vec<HInst>,
     spelling: &mut Vec<u8>,
 ) -> Result<(), NoMemory>
     requires { length names.now < 2 ^ 32 }
-    ensures added { OnOk result (made.new
-        ≡ made.old ++ flat_map (instances_by names.now found.now) (instance_statement item.now)) }
+    ensures added { OnOk result (made.new.items
+        ≡ made.old.items
+        ++ flat_map (instances_by names.now found.now) (instance_statement item.now)) }
 {
     match item {
         ItemV::Instances(statement) => {
@@ -169,18 +170,10 @@ fn count_in(item: &ItemV) -> usize {
 }
 
 /// How many instances items have.
-fn count_of(items: &[ItemV]) -> usize {
+pub(crate) fn instance_count_of(items: &[ItemV]) -> usize {
     let mut count: usize = 0;
     for item in items {
         count = count.saturating_add(count_in(item));
     }
     count
-}
-
-/// A list with room for the instances of these items.
-pub(crate) fn instance_room(alloc: Global, items: &[ItemV]) -> Result<Seq<HInst>, NoMemory>
-    ensures { IfOk result (λ made. made ≡ []) }
-{
-    let room = Vec::with_capacity(alloc, count_of(items))?;
-    Ok(Seq::of(room))
 }

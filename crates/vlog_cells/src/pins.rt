@@ -1,5 +1,5 @@
 // The instances and the joins of a cell, made while the statements that give them are left.
-ghost use Rattle.std.specs.Prelude.{◌≡◌, ◌≤◌, ◌<◌, ◌+◌, ◌++◌, ◌^◌, All, flat_map, length, map, reverse, IfOk, OnOk};
+ghost use Rattle.std.specs.Prelude.{◌≡◌, ◌≤◌, ◌<◌, ◌+◌, ◌++◌, ◌^◌, [], All, flat_map, length, map, reverse, IfOk, OnOk};
 ghost use Rattle.std.specs.List.{AllByRecursion};
 ghost use Rattle.vlog_design.specs.Design.{instance_count, item_joins, joins_from};
 ghost use Rattle.vlog_design.specs.Names.{instance_statement};
@@ -10,10 +10,11 @@ ghost use Rattle.vlog_ties.specs.Ties.{modules_in};
 ghost use Rattle.vlog_cells.specs.Instances.{instances_by};
 
 use crate::groups::Groups;
-use crate::instances::{add_item, instance_room};
+use crate::instances::{add_item, instance_count_of};
 use crate::parts::{give_back, leave};
+use crate::pieces::Pieces;
 use net_hier::{HInst, Join};
-use nl_base::{NoMemory, Seq};
+use nl_base::NoMemory;
 use std::alloc::Global;
 use vlog_design::names::NameSet;
 use vlog_design::table::Table;
@@ -25,8 +26,18 @@ use vlog_values::{DefSet, ItemV};
 /// The instances and the joins of a cell.
 #[derive(Drop)]
 pub(crate) struct Pins {
-    pub instances: Seq<HInst>,
-    pub joins: Vec<Join>,
+    pub instances: Pieces<HInst>,
+    pub joins: Pieces<Join>,
+}
+
+/// No instances and no joins, with room for those of these items.
+fn room_for(alloc: Global, items: &[ItemV]) -> Result<Pins, NoMemory>
+    ensures joins { IfOk result (λ pins. pins.joins ≡ []) }
+    ensures instances { IfOk result (λ pins. pins.instances ≡ []) }
+{
+    let instances = Pieces::with_room(alloc, instance_count_of(items))?;
+    let joins = Pieces::with_room(alloc, items.len())?;
+    Ok(Pins { instances, joins })
 }
 
 /// Adds the joins of an item whose first instance has this number.
@@ -37,17 +48,66 @@ fn add_joins(
     table: &Table,
     number: u32,
     item: &ItemV,
-    joins: &mut Vec<Join>,
+    joins: &mut Pieces<Join>,
 ) -> Result<(), NoMemory>
     requires named { names.now ≡ map (λ m. m.name) (modules_in scopes.now) }
     requires few { number + instance_count item.now ≤ 268435456 }
     requires valid { IsItem item.now }
     requires small { item_size item.now ≤ 268435456 }
     requires numbers { All (λ signal. HasNumbers signal.slot) table.now }
-    ensures added { OnOk result (joins.new.items
-        ≡ joins.old.items ++ item_joins (modules_in scopes.now) table.now number item.now) }
+    ensures added { OnOk result (joins.new
+        ≡ joins.old ++ item_joins (modules_in scopes.now) table.now number item.now) }
 {
-    push_item_joins(alloc, names, scopes, table, number, item, joins)?;
+    push_item_joins(alloc, names, scopes, table, number, item, &mut joins.last)?;
+    joins.turn()?;
+    Ok(())
+}
+
+/// Adds the instances of an item. Literals are spelled in `spelling`, whatever stands there.
+fn add_instances(
+    alloc: Global,
+    names: &NameSet,
+    found: &Groups<'_, &DefSet>,
+    item: &ItemV,
+    spelling: &mut Vec<u8>,
+    instances: &mut Pieces<HInst>,
+) -> Result<(), NoMemory>
+    requires { length names.now < 2 ^ 32 }
+    ensures added { OnOk result (instances.new
+        ≡ instances.old
+        ++ flat_map (instances_by names.now found.now) (instance_statement item.now)) }
+{
+    add_item(alloc, names, found, item, &mut instances.last, spelling)?;
+    instances.turn()?;
+    Ok(())
+}
+
+/// Adds the joins and the instances of an item whose first instance has this number.
+fn add_pins(
+    alloc: Global,
+    names: &NameSet,
+    scopes: &[ModuleScope],
+    table: &Table,
+    found: &Groups<'_, &DefSet>,
+    number: u32,
+    item: &ItemV,
+    spelling: &mut Vec<u8>,
+    pins: &mut Pins,
+) -> Result<(), NoMemory>
+    requires named { names.now ≡ map (λ m. m.name) (modules_in scopes.now) }
+    requires modules { length (modules_in scopes.now) < 2 ^ 32 }
+    requires few { number + instance_count item.now ≤ 268435456 }
+    requires valid { IsItem item.now }
+    requires small { item_size item.now ≤ 268435456 }
+    requires numbers { All (λ signal. HasNumbers signal.slot) table.now }
+    ensures joins { OnOk result (pins.new.joins
+        ≡ pins.old.joins ++ item_joins (modules_in scopes.now) table.now number item.now) }
+    ensures instances { OnOk result (pins.new.instances
+        ≡ pins.old.instances
+        ++ flat_map (instances_by names.now found.now) (instance_statement item.now)) }
+{
+    add_joins(alloc, names, scopes, table, number, item, &mut pins.joins)?;
+    add_instances(alloc, names, found, item, spelling, &mut pins.instances)?;
     Ok(())
 }
 
@@ -68,23 +128,30 @@ pub(crate) fn pins_made(
     requires valid { AllByRecursion IsItem (reverse items.items) }
     requires small { list_size item_size (reverse items.items) ≤ 268435456 }
     requires numbers { All (λ signal. HasNumbers signal.slot) table.now }
-    ensures joins { IfOk result (λ pins. pins.joins.items
+    ensures joins { IfOk result (λ pins. pins.joins
         ≡ joins_from (modules_in scopes.now) table.now 0 (reverse items.items)) }
     ensures instances { IfOk result (λ pins. pins.instances
         ≡ flat_map (instances_by names.now found.now)
         (flat_map instance_statement (reverse items.items))) }
 {
-    let mut instances = instance_room(alloc, items.as_slice())?;
-    let mut joins = Vec::with_capacity(alloc, items.len())?;
+    let mut pins = room_for(alloc, items.as_slice())?;
     let mut spelling = Vec::new(alloc);
     let mut number: u32 = 0;
     while let Some(item) = items.pop() {
-        add_joins(alloc, names, scopes, table, number, &item, &mut joins)?;
-        add_item(alloc, names, found, &item, &mut instances, &mut spelling)?;
+        add_pins(
+            alloc,
+            names,
+            scopes,
+            table,
+            found,
+            number,
+            &item,
+            &mut spelling,
+            &mut pins,
+        )?;
         number += instance_count(&item);
         leave(item, left);
         give_back(&mut items);
     }
-    joins.shrink_to_fit();
-    Ok(Pins { instances, joins })
+    Ok(pins)
 }

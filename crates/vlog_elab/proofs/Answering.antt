@@ -1,6 +1,7 @@
 -- From the design of modules to the design of a file.
-use Rattle.std.proofs.Common.{◌≡◌, true, ℕ, zero, suc, ◌+◌, ◌-◌, ◌<◌, ◌≤◌, ◌^◌, List, [], ◌∷◌, ◌++◌, Some, None, Result, Ok, Err, length, map, min, sum_by, take, get_or, slice_get, refl, sym, ap, ◌∙◌, subst, arith}
+use Rattle.std.proofs.Common.{◌≡◌, Bool, true, ℕ, zero, suc, ◌+◌, ◌-◌, ◌<◌, ◌≤◌, ◌^◌, List, [], ◌∷◌, ◌++◌, Some, None, Result, Ok, Err, length, map, min, sum_by, take, get_or, slice_get, refl, sym, ap, ◌∙◌, subst, arith}
 use Rattle.std.specs.Prelude.{MatchResult, option_map}
+use Rattle.std.specs.List.{AllByRecursion}
 use Rattle.std.proofs.lemmas.List.{length-map, map-append, take_more}
 use Rattle.std.proofs.lemmas.List.Sums.{sum_by_push}
 use Rattle.std.proofs.lemmas.Option.{slice_get-get_or, slice_get-map}
@@ -11,7 +12,7 @@ use Rattle.net_hier.specs.Units.{units}
 use Rattle.net_hier.specs.Valid.{CellsFit, unit_limit}
 use Rattle.net_hier.specs.declared.cells.HCell.{HCell}
 use Rattle.vlog_design.specs.Design.{module_joins, vlog_design}
-use Rattle.vlog_design.specs.Names.{Name, Signal, has_name, signals}
+use Rattle.vlog_design.specs.Names.{Name, Signal, has_name, implicit_names, signals}
 use Rattle.vlog_design.specs.Reach.{module_number, modules_below, reached}
 use Rattle.vlog_design.specs.Rules.{first_G, first_of, refusals}
 use Rattle.vlog_rules.specs.declared.passes.ModuleScope.{ModuleScope}
@@ -31,6 +32,7 @@ use Rattle.vlog_elab.specs.declared.answer.ResolveError.{ResolveError}
 use Rattle.vlog_elab.specs.declared.answer.Shown.{Shown}
 use Rattle.vlog_elab.specs.declared.answer.ResolveError.TheVariants.{Refused, TooBig, NoMemory}
 use Rattle.vlog_checked.proofs.Clean.{clean_file}
+use Rattle.vlog_checked.proofs.ListLaws.{all_get}
 use Rattle.vlog_elab.proofs.Fitting.{none_back, numbers_fit, those_few, those_fit, those_small}
 use Rattle.vlog_checked.proofs.Reaching.{own_all, reached_from, those_values}
 use Rattle.vlog_checked.proofs.TableLaws.{differ_in, differ_marked}
@@ -154,16 +156,22 @@ module _ (file : VlogFile) (top : Name) (value : IsVlogValue file) (small : vlog
     free_for = subst (λ those. (number : ℕ) → ¬ ReachesItself (cells_below (cells_from those)) number) (sym are) (none_back file top value clean small)
 
     pub shown_for : (number : ℕ) → number ≡ module_number (reached file top) top → (result : Result Shown ResolveError)
-        → MatchResult result (λ shown. AreShownFrom ms number shown.modules shown.top) (IsFaultFrom (cells_from ms)) → MatchResult result (λ shown. AreShown file top shown.modules shown.top) (IsFaultOf file top)
+        → MatchResult result (λ shown. AreShownFrom ms number shown.modules shown.top shown.is_declared) (IsFaultFrom (cells_from ms)) → MatchResult result (λ shown. AreShown file top shown.modules shown.top shown.is_declared) (IsFaultOf file top)
     shown_for number is (Ok shown) h =
-        record { no_refusals = none; shown_are = h.shown_are ∙ ap (map interface) are; number_is = h.top_is ∙ is; few_units = subst (λ those. units (cells_from those) ≤ unit_limit) are h.few_units }
+        record {
+          no_refusals = none;
+          shown_are = h.shown_are ∙ ap (map interface) are;
+          number_is = h.top_is ∙ is;
+          few_units = subst (λ those. units (cells_from those) ≤ unit_limit) are h.few_units;
+          declared = λ e. subst (AllByRecursion (λ (m : Module). implicit_names m ≡ [])) are (h.declared e);
+        }
     shown_for number is (Err fault) h = fault_answered fault (subst (λ those. IsFaultFrom (cells_from those) fault) are h)
 
     pub checked_for : (result : Result (Unit {0}) ResolveError) → MatchResult result (λ done. units (cells_from ms) ≤ unit_limit) (IsFaultFrom (cells_from ms)) → MatchResult result (λ done. HasDesign file top) (IsFaultOf file top)
     checked_for result h = checked result (subst (λ those. MatchResult result (λ done. units (cells_from those) ≤ unit_limit) (IsFaultFrom (cells_from those))) are h)
 
   -- the same of the modules that are shown
-  module _ (shown : List Module) (number : ℕ) (are : AreShown file top shown number) where
+  module _ (shown : List Module) (number : ℕ) (is_declared : Bool) (are : AreShown file top shown number is_declared) where
     -- the cells of those modules of the file that are shown are those of the reached ones
     cells_are : cells_shown shown file.modules ≡ cells_from (reached file top)
     unfolding reached
@@ -174,22 +182,23 @@ module _ (file : VlogFile) (top : Name) (value : IsVlogValue file) (small : vlog
     reached_differ = differ_marked (marks_of (modules_below file.modules) (module_number file.modules top)) file.modules (differ_in file clean.once)
 
     -- a module of the file whose name is shown is a reached one
-    chosen_fits : (i : ℕ) (m : Module) → slice_get file.modules i ≡ Some m → is_shown (map interface (reached file top)) m ≡ true → CanBeCell m
+    chosen_fits : (i : ℕ) (m : Module) → slice_get file.modules i ≡ Some m → is_shown (map interface (reached file top)) m ≡ true → CanBeCell is_declared m
     chosen_fits i m e h =
         let n = name_there m.name (reached file top) (subst (λ names. has_name names m.name ≡ true) (names_same (reached file top)) h) in
         let r = reached_from file top clean.has_top clean.once n.place n.item n.is_there in
         let p : i ≡ r.place = own_all file top clean.has_top clean.once i r.place m n.item e r.is_there n.has_it in
         let q : slice_get file.modules i ≡ Some n.item = ap (slice_get file.modules) p ∙ r.is_there in
         let same : n.item ≡ m = cc in
-        subst CanBeCell same (record {
+        subst (CanBeCell is_declared) same (record {
           value = those_values file top value clean n.place n.item n.is_there;
           small = those_small file top value clean small n.place n.item n.is_there;
           once = (clean.each n.place n.item n.is_there).declared_once;
+          declared = λ e. all_get (λ (m : Module). implicit_names m ≡ []) (reached file top) (are.declared e) n.place n.item n.is_there;
           numbers = numbers_fit (reached file top) n.place n.item n.is_there (clean.each n.place n.item n.is_there).narrow are.few_units;
         })
 
-    pub can_shown : CanHaveCells shown file.modules
-    can_shown = subst (λ those. CanHaveCells those file.modules) (sym are.shown_are) (record {
+    pub can_shown : CanHaveCells is_declared shown file.modules
+    can_shown = subst (λ those. CanHaveCells is_declared those file.modules) (sym are.shown_are) (record {
       few = let g : length (map interface (reached file top)) ≤ 268435456 = omega (arith, length-map (reached file top) interface, those_few file top value clean small) in g;
       differ = subst Distinct (sym (names_same (reached file top))) reached_differ;
       once = all_once (reached file top) (λ i m e. (clean.each i m e).declared_once);

@@ -1,11 +1,12 @@
 -- What `elaborate` answers.
-use Rattle.std.specs.Prelude.{◌≡◌, ℕ, ◌<◌, ◌≤◌, List, [], Some, None, map}
+use Rattle.std.specs.Prelude.{◌≡◌, ℕ, ◌<◌, ◌≤◌, Bool, true, List, [], Some, None, map}
+use Rattle.std.specs.List.{AllByRecursion}
 use Rattle.net_hier.specs.Design.{Design}
 use Rattle.net_hier.specs.Units.{units}
 use Rattle.net_hier.specs.Valid.{IsHier, unit_limit}
 use Rattle.net_hier.specs.declared.cells.HCell.{HCell}
 use Rattle.vlog_design.specs.Design.{vlog_design}
-use Rattle.vlog_design.specs.Names.{Name}
+use Rattle.vlog_design.specs.Names.{Name, implicit_names}
 use Rattle.vlog_design.specs.Reach.{module_number, reached}
 use Rattle.vlog_design.specs.Rules.{first_G, refusals}
 use Rattle.vlog_values.specs.declared.module.Module.{Module}
@@ -58,15 +59,17 @@ IsFaultFrom cells (Refused refusal) = ⊥
 IsFaultFrom cells (TooBig count) = IsTooBigFrom cells count
 IsFaultFrom cells NoMemory = Unit {0}
 
--- the modules show this, their units are within the limit, and this is the number of the top
-pub record AreShownFrom (modules : List Module) (number : ℕ) (shown : List Module) (top : ℕ) : Type 0 where
+-- the modules show this, their units are within the limit, this is the top's number, and where it is known their nets are declared
+pub record AreShownFrom (modules : List Module) (number : ℕ) (shown : List Module) (top : ℕ) (is_declared : Bool) : Type 0 where
   pub shown_are : shown ≡ map interface modules
   pub top_is : top ≡ number
   pub few_units : units (cells_from modules) ≤ unit_limit
+  pub declared : is_declared ≡ true → AllByRecursion (λ m. implicit_names m ≡ []) modules
 
--- the file breaks no rule under this top; the reached modules show this, their units are within the limit, and this is the top's number
-pub record AreShown (file : VlogFile) (top : Name) (shown : List Module) (number : ℕ) : Type 0 where
+-- the file breaks no rule; the reached modules show this within the limit, this is the top's number; where it is known, nets are declared
+pub record AreShown (file : VlogFile) (top : Name) (shown : List Module) (number : ℕ) (is_declared : Bool) : Type 0 where
   pub no_refusals : refusals file top ≡ []
   pub shown_are : shown ≡ map interface (reached file top)
   pub number_is : number ≡ module_number (reached file top) top
   pub few_units : units (cells_from (reached file top)) ≤ unit_limit
+  pub declared : is_declared ≡ true → AllByRecursion (λ m. implicit_names m ≡ []) (reached file top)

@@ -1,8 +1,8 @@
 -- What is known of modules before their units are counted and their cells are made.
-use Rattle.std.specs.Prelude.{◌≡◌, ◌≤◌, true, List, [], All, length, map}
+use Rattle.std.specs.Prelude.{◌≡◌, ◌≤◌, Bool, true, List, [], All, length, map}
 use Rattle.std.specs.List.{AllByRecursion}
 use Rattle.net_hier.specs.Valid.{Each, count_limit}
-use Rattle.vlog_design.specs.Names.{Name, signals}
+use Rattle.vlog_design.specs.Names.{Name, implicit_names, signals}
 use Rattle.vlog_design.specs.Numbers.{HasNumbers}
 use Rattle.vlog_design.specs.Rules.{declared_twice, too_wide, unequal_widths, unsized}
 use Rattle.vlog_scopes.specs.Distinct.{AreDeclaredOnce, Distinct, module_names}
@@ -26,17 +26,18 @@ pub record AreReady (names : List Name) (modules : List Module) : Type 0 where
   pub few : length modules ≤ count_limit
   pub each : Each (IsReady modules) modules
 
--- the module is small, it declares no name twice, and the numbers of its ports and nets fit
-pub record CanBeCell (m : Module) : Type 0 where
+-- the module is small, it declares no name twice and, where that is known, each of its nets, and the numbers of its ports and nets fit
+pub record CanBeCell (is_declared : Bool) (m : Module) : Type 0 where
   pub value : IsModule m
   pub small : module_size m ≤ count_limit
   pub once : declared_twice m ≡ []
+  pub declared : is_declared ≡ true → implicit_names m ≡ []
   pub numbers : All (λ signal. HasNumbers signal.slot) (signals m)
 
 -- what is shown is few and small, its names differ and none of it declares a name twice; the modules that are shown can be cells
-pub record CanHaveCells (shown modules : List Module) : Type 0 where
+pub record CanHaveCells (is_declared : Bool) (shown modules : List Module) : Type 0 where
   pub few : length shown ≤ count_limit
   pub differ : Distinct (module_names shown)
   pub once : AreDeclaredOnce shown
   pub small : AllByRecursion (λ m. module_size m ≤ count_limit) shown
-  pub fit : Each (λ m. is_shown shown m ≡ true → CanBeCell m) modules
+  pub fit : Each (λ m. is_shown shown m ≡ true → CanBeCell is_declared m) modules

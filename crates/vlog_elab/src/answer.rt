@@ -1,5 +1,6 @@
 // The design of a file, or why it has none.
-ghost use Rattle.std.specs.Prelude.{ℕ, ◌≡◌, ◌≤◌, ◌-◌, ◌^◌, map, min, sum_by, IfOk, MatchResult};
+ghost use Rattle.std.specs.Prelude.{ℕ, ◌≡◌, ◌≤◌, ◌-◌, ◌^◌, [], true, map, min, sum_by, IfOk, MatchResult};
+ghost use Rattle.std.specs.List.{AllByRecursion};
 ghost use Rattle.net_graph.specs.Graph.{ReachesItself};
 ghost use Rattle.net_hier.specs.Design.{cells_below};
 ghost use Rattle.net_hier.specs.Units.{units};
@@ -9,6 +10,7 @@ ghost use Rattle.vlog_elab.specs.Ready.{AreReady, CanHaveCells};
 ghost use Rattle.vlog_elab.specs.Units.{cells_from};
 ghost use Rattle.vlog_shown.specs.Interfaces.{cells_shown, interface};
 ghost use Rattle.vlog_elab.specs.declared.answer.ResolveError.TheVariants.{NoMemory};
+ghost use Rattle.vlog_design.specs.Names.{implicit_names};
 ghost use Rattle.vlog_design.specs.Tables.{modules_of};
 ghost use Rattle.vlog_ties.specs.Ties.{module_bits, most_joins};
 ghost use Rattle.vlog_values.specs.Sizes.{vlog_size};
@@ -36,11 +38,13 @@ pub enum ResolveError {
     NoMemory,
 }
 
-/// What the reached modules show to one another, in file order, and the number of the top among them.
+/// What the reached modules show to one another, in file order, the number of the top among them, and whether it is seen that a
+/// declaration declares each of their nets.
 #[derive(Drop)]
 pub struct Shown {
     pub modules: Seq<Module>,
     pub top: u32,
+    pub is_declared: bool,
 }
 
 impl From<NoMemory> for ResolveError {
@@ -103,14 +107,17 @@ fn shown_from(alloc: Global, clean: CleanModules) -> Result<Shown, ResolveError>
         ≡ min (2 ^ 64 - 1) (sum_by module_bits (modules_of clean.modules.items)) }
     requires most { clean.most ≡ min (2 ^ 64 - 1)
         (sum_by (most_joins (modules_of clean.modules.items)) (modules_of clean.modules.items)) }
+    requires declared { clean.is_declared ≡ true
+        → AllByRecursion (λ m. implicit_names m ≡ []) (modules_of clean.modules.items) }
     ensures { MatchResult result (λ shown. AreShownFrom (modules_of clean.entry.modules.items)
-        clean.entry.top shown.modules shown.top)
+        clean.entry.top shown.modules shown.top shown.is_declared)
         (IsFaultFrom (cells_from (modules_of clean.entry.modules.items))) }
 {
     few_units(alloc, &clean.names, &clean.modules, clean.bits, clean.most)?;
     Ok(Shown {
         modules: clean.shown,
         top: clean.top,
+        is_declared: clean.is_declared,
     })
 }
 
@@ -118,7 +125,8 @@ fn shown_from(alloc: Global, clean: CleanModules) -> Result<Shown, ResolveError>
 fn shown_of(alloc: Global, file: &VlogFile, top: &Text) -> Result<Shown, ResolveError>
     requires value { IsVlogValue file.now }
     requires small { vlog_size file.now ≤ count_limit }
-    ensures { MatchResult result (λ shown. AreShown file.now top.now shown.modules shown.top)
+    ensures { MatchResult result (λ shown. AreShown file.now top.now
+        shown.modules shown.top shown.is_declared)
         (IsFaultOf file.now top.now) }
 {
     match check_file(alloc, file, top.bytes())? {
@@ -129,7 +137,7 @@ fn shown_of(alloc: Global, file: &VlogFile, top: &Text) -> Result<Shown, Resolve
 
 /// The design of those modules of a file that are shown, whose cells fit and of which none reaches itself.
 fn design_of(alloc: Global, shown: Shown, file: VlogFile) -> Result<Hier, ResolveError>
-    requires can { CanHaveCells shown.modules file.modules }
+    requires can { CanHaveCells shown.is_declared shown.modules file.modules }
     requires fit { CellsFit (cells_shown shown.modules file.modules) shown.top }
     requires no_recursion { (number : ℕ)
         → ¬ ReachesItself (cells_below (cells_shown shown.modules file.modules)) number }
@@ -138,8 +146,12 @@ fn design_of(alloc: Global, shown: Shown, file: VlogFile) -> Result<Hier, Resolv
         (IsDesignFrom (cells_shown shown.modules file.modules) shown.top)
         (IsFaultFrom (cells_shown shown.modules file.modules)) }
 {
-    let Shown { modules, top } = shown;
-    let cells = cells_of(alloc, modules.items(), file)?;
+    let Shown {
+        modules,
+        top,
+        is_declared,
+    } = shown;
+    let cells = cells_of(alloc, modules.items(), is_declared, file)?;
     let hier = built(alloc, cells, top)?;
     Ok(hier)
 }

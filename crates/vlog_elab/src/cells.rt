@@ -20,19 +20,20 @@ fn push_cell(
     alloc: Global,
     names: &NameSet,
     scopes: &[ModuleScope],
+    is_declared: bool,
     m: Module,
     cells: &mut Seq<HCell>,
 ) -> Result<(), NoMemory>
     requires named { names.now ≡ map (λ m. m.name) (modules_in scopes.now) }
     requires few { length (modules_in scopes.now) < 2 ^ 32 }
-    requires fits { is_shown (modules_in scopes.now) m ≡ true → CanBeCell m }
+    requires fits { is_shown (modules_in scopes.now) m ≡ true → CanBeCell is_declared m }
     ensures added { OnOk result (cells.new
         ≡ cells.old ++ cell_shown (modules_in scopes.now) m) }
 {
     if !names.has(m.name.bytes()) {
         return Ok(());
     }
-    let cell = cell_of(alloc, names, scopes, m)?;
+    let cell = cell_of(alloc, names, scopes, is_declared, m)?;
     cells.push(cell)
 }
 
@@ -41,16 +42,18 @@ fn cells_made(
     alloc: Global,
     names: &NameSet,
     scopes: &[ModuleScope],
+    is_declared: bool,
     modules: Seq<Module>,
 ) -> Result<Seq<HCell>, NoMemory>
     requires named { names.now ≡ map (λ m. m.name) (modules_in scopes.now) }
     requires few { length (modules_in scopes.now) < 2 ^ 32 }
-    requires fit { Each (λ m. is_shown (modules_in scopes.now) m ≡ true → CanBeCell m) modules }
+    requires fit { Each (λ m. is_shown (modules_in scopes.now) m ≡ true
+        → CanBeCell is_declared m) modules }
     ensures { IfOk result (λ cells. cells ≡ cells_shown (modules_in scopes.now) modules) }
 {
     let mut cells = Seq::empty(alloc);
     for m in modules.into_vec() {
-        push_cell(alloc, names, scopes, m, &mut cells)?;
+        push_cell(alloc, names, scopes, is_declared, m, &mut cells)?;
     }
     Ok(cells)
 }
@@ -59,13 +62,14 @@ fn cells_made(
 pub(crate) fn cells_of(
     alloc: Global,
     shown: &[Module],
+    is_declared: bool,
     file: VlogFile,
 ) -> Result<Seq<HCell>, NoMemory>
-    requires { CanHaveCells shown.now file.modules }
+    requires { CanHaveCells is_declared shown.now file.modules }
     ensures { IfOk result (λ cells. cells ≡ cells_shown shown.now file.modules) }
 {
     let VlogFile { modules } = file;
     let names = names_shown(alloc, shown)?;
     let scopes = scopes_shown(alloc, shown)?;
-    cells_made(alloc, &names, &scopes, modules)
+    cells_made(alloc, &names, &scopes, is_declared, modules)
 }

@@ -14,18 +14,24 @@ loop-item-init c =
     record {
       valid = c.requires.valid;
       small = omega (arith, c.requires.small);
-      joined = ap (λ l. l ++ joins_from modules c.args.table.now 0 items) c.in_ok-joins.ensures.items;
-      made = ap (λ l. l ++ flat_map (instances_by c.args.names.now c.args.found.now) (flat_map instance_statement items)) c.in_ok-instances.ensures;
+      joined = ap (λ l. l ++ joins_from modules c.args.table.now 0 items) c.in_ok-pins.ensures.joins;
+      made = ap (λ l. l ++ flat_map (instances_by c.args.names.now c.args.found.now) (flat_map instance_statement items)) c.in_ok-pins.ensures.instances;
     }
 
-pub add_joins-requires-clause-few : goal.add_joins-requires-clause-few
-add_joins-requires-clause-few c = (known_taken c.loop-item.number c.in-Some.item c.loop-item.items.items c.pop.new.self.items c.in-Some.ensures.items c.loop-item.invariant.valid c.loop-item.invariant.small).few
+pub add_pins-requires-clause-few : goal.add_pins-requires-clause-few
+add_pins-requires-clause-few c = (known_taken c.loop-item.number c.in-Some.item c.loop-item.items.items c.pop.new.self.items c.in-Some.ensures.items c.loop-item.invariant.valid c.loop-item.invariant.small).few
 
-pub add_joins-requires-clause-valid : goal.add_joins-requires-clause-valid
-add_joins-requires-clause-valid c = (known_taken c.loop-item.number c.in-Some.item c.loop-item.items.items c.pop.new.self.items c.in-Some.ensures.items c.loop-item.invariant.valid c.loop-item.invariant.small).valid
+pub add_pins-requires-clause-valid : goal.add_pins-requires-clause-valid
+add_pins-requires-clause-valid c = (known_taken c.loop-item.number c.in-Some.item c.loop-item.items.items c.pop.new.self.items c.in-Some.ensures.items c.loop-item.invariant.valid c.loop-item.invariant.small).valid
 
-pub add_joins-requires-clause-small : goal.add_joins-requires-clause-small
-add_joins-requires-clause-small c = (known_taken c.loop-item.number c.in-Some.item c.loop-item.items.items c.pop.new.self.items c.in-Some.ensures.items c.loop-item.invariant.valid c.loop-item.invariant.small).small
+pub add_pins-requires-clause-small : goal.add_pins-requires-clause-small
+add_pins-requires-clause-small c = (known_taken c.loop-item.number c.in-Some.item c.loop-item.items.items c.pop.new.self.items c.in-Some.ensures.items c.loop-item.invariant.valid c.loop-item.invariant.small).small
+
+pub instance_count-number-requires : goal.instance_count-number-requires
+instance_count-number-requires c = omega (arith, (known_taken c.loop-item.number c.in-Some.item c.loop-item.items.items c.pop.new.self.items c.in-Some.ensures.items c.loop-item.invariant.valid c.loop-item.invariant.small).few)
+
+pub overflow_add-number : goal.overflow_add-number
+overflow_add-number c = omega (arith, (known_taken c.loop-item.number c.in-Some.item c.loop-item.items.items c.pop.new.self.items c.in-Some.ensures.items c.loop-item.invariant.valid c.loop-item.invariant.small).few, c.instance_count-number.ensures)
 
 pub loop-item-preserved : goal.loop-item-preserved
 loop-item-preserved c =
@@ -38,8 +44,8 @@ loop-item-preserved c =
     record {
       valid = known.others;
       small = omega (arith, known.fewer, c.instance_count-number.ensures);
-      joined = joins_turn modules c.args.table.now c.loop-item.number _ item old new c.loop-item.joins.items c.add_joins.new.joins.items _ is c.instance_count-number.ensures c.in_ok-add_joins.ensures.added c.loop-item.invariant.joined;
-      made = instances_turn (instances_by c.args.names.now c.args.found.now) item old new c.loop-item.instances c.add_item.new.made _ is c.in_ok-add_item.ensures.added c.loop-item.invariant.made;
+      joined = joins_turn modules c.args.table.now c.loop-item.number _ item old new c.loop-item.pins.joins c.add_pins.new.pins.joins _ is c.instance_count-number.ensures c.in_ok-add_pins.ensures.joins c.loop-item.invariant.joined;
+      made = instances_turn (instances_by c.args.names.now c.args.found.now) item old new c.loop-item.pins.instances c.add_pins.new.pins.instances _ is c.in_ok-add_pins.ensures.instances c.loop-item.invariant.made;
     }
 
 pub returns : goal.returns
@@ -48,6 +54,6 @@ returns c =
     let none : vec_len items ≡ 0 = c.in_default.ensures.cases.0 in
     let empty : items.items ≡ [] = no_items items.items (omega (arith, none, items.ok)) in
     record {
-      joins = c.shrink_to_fit.ensures.items ∙ joins_done (modules_in c.args.scopes.now) c.args.table.now c.loop-item.number items.items c.loop-item.joins.items _ empty c.loop-item.invariant.joined;
-      instances = instances_done (instances_by c.args.names.now c.args.found.now) items.items c.loop-item.instances _ empty c.loop-item.invariant.made;
+      joins = joins_done (modules_in c.args.scopes.now) c.args.table.now c.loop-item.number items.items c.loop-item.pins.joins _ empty c.loop-item.invariant.joined;
+      instances = instances_done (instances_by c.args.names.now c.args.found.now) items.items c.loop-item.pins.instances _ empty c.loop-item.invariant.made;
     }

@@ -12,8 +12,8 @@ abbrev pub invariant-loop-item : goal.invariant-loop-item
 invariant-loop-item l = record {
   valid : AllByRecursion IsItem (reverse l.items.items);
   small : l.number + list_size item_size (reverse l.items.items) ≤ 268435456;
-  joined : l.joins.items ++ joins_from (modules_in l.scopes) l.table l.number (reverse l.items.items) ≡ joins_from (modules_in l.scopes) l.table 0 (reverse l.initial.items.items);
-  made : l.instances ++ flat_map (instances_by l.names l.found) (flat_map instance_statement (reverse l.items.items)) ≡ flat_map (instances_by l.names l.found) (flat_map instance_statement (reverse l.initial.items.items));
+  joined : l.pins.joins ++ joins_from (modules_in l.scopes) l.table l.number (reverse l.items.items) ≡ joins_from (modules_in l.scopes) l.table 0 (reverse l.initial.items.items);
+  made : l.pins.instances ++ flat_map (instances_by l.names l.found) (flat_map instance_statement (reverse l.items.items)) ≡ flat_map (instances_by l.names l.found) (flat_map instance_statement (reverse l.initial.items.items));
 }
 
 abbrev pub decreases-loop-item : goal.decreases-loop-item
