@@ -1,8 +1,6 @@
 -- One more turn of a loop that takes items from the end of a list.
 use Rattle.std.proofs.Common.{◌≡◌, ℕ, ◌+◌, ◌≤◌, List, [], ◌∷◌, ◌++◌, append-nil, append_assoc, flat_map, length, map, reverse, refl, sym, ap, subst, ◌∙◌, arith}
 use Rattle.std.specs.List.{AllByRecursion}
-use Rattle.std.specs.declared.alloc.Global.{Global}
-use Rattle.std.specs.declared.vec.Vec.{Vec}
 use Rattle.std.proofs.lemmas.Grind.{flat_map-append}
 use Rattle.std.proofs.lemmas.List.{reverse-append}
 use Rattle.std.proofs.lemmas.List.Sums.{sum_by-cons}
@@ -63,11 +61,6 @@ all_taken f left now all none before = ap (λ l. flat_map f l ++ reverse now) (s
 pub no_items : {A : Type 0} (xs : List A) → length xs ≡ 0 → xs ≡ []
 no_items [] e = refl
 no_items (x ∷ xs) e = absurd (omega (arith, e))
-
--- what is added to the last piece is added to the whole list
-pub piece_more : {A : Type 0} (full : List (Vec A Global)) (last new now next more : List A) → flat_map (λ piece. piece.items) full ++ last ≡ now → new ≡ last ++ more → next ≡ flat_map (λ piece. piece.items) full ++ new → next ≡ now ++ more
-piece_more full last new now next more before added turned =
-    turned ∙ (ap (λ l. flat_map (λ piece. piece.items) full ++ l) added ∙ (sym (append_assoc (flat_map (λ piece. piece.items) full) last more) ∙ ap (λ l. l ++ more) before))
 
 -- ---- joins and instances
 

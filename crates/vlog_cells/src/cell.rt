@@ -1,11 +1,14 @@
 // A cell of a design, made of a module of a Verilog file.
-ghost use Rattle.std.specs.Prelude.{◌≡◌, ◌≤◌, ◌<◌, ◌^◌, [], true, All, length, map, reverse, IfOk};
+ghost use Rattle.std.specs.Prelude.{◌≡◌, ◌≤◌, ◌<◌, ◌^◌, ◌++◌, [], true, All, None, length, map, reverse, IfOk};
 ghost use Rattle.std.specs.List.{AllByRecursion};
 ghost use Rattle.vlog_design.specs.Design.{module_cell, module_nets};
 ghost use Rattle.vlog_design.specs.Names.{implicit_names, signals};
 ghost use Rattle.vlog_design.specs.Numbers.{HasNumbers};
 ghost use Rattle.vlog_design.specs.Rules.{declared_twice};
 ghost use Rattle.vlog_design.specs.Tables.{names_of};
+ghost use Rattle.vlog_scopes.specs.Distinct.{Distinct, signal_names};
+ghost use Rattle.vlog_scopes.specs.Ranged.{net_slots, number_behind, of_range};
+ghost use Rattle.vlog_scopes.specs.Signals.{declared_nets, declared_signals};
 ghost use Rattle.vlog_values.specs.declared.module.Module.{Module as ModuleValue};
 ghost use Rattle.vlog_values.specs.Sizes.{item_size, list_size, module_size};
 ghost use Rattle.vlog_values.specs.Values.{IsItem, IsModule};
@@ -142,6 +145,47 @@ fn made_by(
     })
 }
 
+/// What the cell of a module has, by what the module declares, these names that it uses without a declaration, and its items that tie nodes,
+/// the last one first. The table of its names is left.
+fn made_with(
+    alloc: Global,
+    names: &NameSet,
+    scopes: &[ModuleScope],
+    undeclared: &[Text],
+    declared: &Module,
+    tying: Vec<ItemV>,
+    left: &mut Vec<ItemV>,
+) -> Result<Made, NoMemory>
+    requires named { names.now ≡ map (λ m. m.name) (modules_in scopes.now) }
+    requires few { length (modules_in scopes.now) < 2 ^ 32 }
+    requires once { declared_twice declared.now ≡ [] }
+    requires small { module_size declared.now ≤ 268435456 }
+    requires apart { Distinct (signal_names (declared_signals declared.now) ++ undeclared.now) }
+    requires numbers { All (λ signal. HasNumbers signal.slot) (declared_signals declared.now
+        ++ net_slots (number_behind 0 (declared_nets declared.now))
+        (of_range None undeclared.now)) }
+    requires valid { AllByRecursion IsItem (reverse tying.items) }
+    requires few_tying { list_size item_size (reverse tying.items) ≤ 268435456 }
+    ensures ports { IfOk result (λ made. (m : ModuleValue) → declared.now ≡ declared_part m
+        → undeclared.now ≡ implicit_names m → declared_twice m ≡ []
+        → made.ports ≡ (module_cell (modules_in scopes.now) m).ports) }
+    ensures instances { IfOk result (λ made. (m : ModuleValue) → declared.now ≡ declared_part m
+        → reverse tying.items ≡ tying_items m
+        → made.pins.instances ≡ (module_cell (modules_in scopes.now) m).instances) }
+    ensures joins { IfOk result (λ made. (m : ModuleValue) → declared.now ≡ declared_part m
+        → undeclared.now ≡ implicit_names m → reverse tying.items ≡ tying_items m
+        → made.pins.joins ≡ (module_cell (modules_in scopes.now) m).joins) }
+    ensures nets { IfOk result (λ made. (m : ModuleValue) → declared.now ≡ declared_part m
+        → undeclared.now ≡ implicit_names m
+        → made.nets ≡ (module_cell (modules_in scopes.now) m).nets) }
+    ensures props { IfOk result (λ made. (m : ModuleValue) → declared.now ≡ declared_part m
+        → made.props ≡ (module_cell (modules_in scopes.now) m).props) }
+{
+    let table = table_with(alloc, declared, undeclared)?;
+    let made = made_by(alloc, names, scopes, declared, &table, tying, left)?;
+    Ok(made)
+}
+
 /// What the cell of a module has, with the names that the module uses without a declaration. The module and the table of its names are
 /// left.
 fn made_of(
@@ -173,8 +217,9 @@ fn made_of(
         tying,
         mut left,
     } = parted(alloc, m)?;
-    let table = table_with(alloc, &declared, undeclared)?;
-    let made = made_by(alloc, names, scopes, &declared, &table, tying, &mut left)?;
+    let made = made_with(
+        alloc, names, scopes, undeclared, &declared, tying, &mut left,
+    )?;
     Ok(made)
 }
 
@@ -206,6 +251,29 @@ fn cell_with(name: Text, made: Made) -> Result<HCell, NoMemory>
     })
 }
 
+/// The cell that a module is, with the names that the module uses without a declaration. The module is left.
+fn cell_by(
+    alloc: Global,
+    names: &NameSet,
+    scopes: &[ModuleScope],
+    undeclared: &[Text],
+    m: Module,
+) -> Result<HCell, NoMemory>
+    requires named { names.now ≡ map (λ m. m.name) (modules_in scopes.now) }
+    requires few { length (modules_in scopes.now) < 2 ^ 32 }
+    requires small { module_size m ≤ 268435456 }
+    requires valid { IsModule m }
+    requires undeclared { undeclared.now ≡ implicit_names m }
+    requires once { declared_twice m ≡ [] }
+    requires numbers { All (λ signal. HasNumbers signal.slot) (signals m) }
+    ensures { IfOk result (λ made. made ≡ module_cell (modules_in scopes.now) m) }
+{
+    let name = Text::copy(alloc, m.name.bytes())?;
+    let made = made_of(alloc, names, scopes, undeclared, m)?;
+    let cell = cell_with(name, made)?;
+    Ok(cell)
+}
+
 /// The cell that a module is, in which no name is declared twice, where it is told whether it is known that a declaration declares each of
 /// its nets. The scopes are the modules of the design, and the names their names. The statements of a large module are left while its
 /// cell is made.
@@ -226,8 +294,5 @@ pub fn cell_of(
     ensures { IfOk result (λ made. made ≡ module_cell (modules_in scopes.now) m) }
 {
     let undeclared = undeclared(alloc, is_declared, &m)?;
-    let name = Text::copy(alloc, m.name.bytes())?;
-    let made = made_of(alloc, names, scopes, undeclared.as_slice(), m)?;
-    let cell = cell_with(name, made)?;
-    Ok(cell)
+    cell_by(alloc, names, scopes, undeclared.as_slice(), m)
 }

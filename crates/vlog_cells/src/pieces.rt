@@ -6,7 +6,7 @@ use std::mem::replace;
 
 /// How many items a full piece has. So few take the place of what was left before, which one long list cannot: it is put together when all
 /// that it was made of is left.
-const FULL: usize = 4096;
+const FULL: usize = 16384;
 
 /// A list that grows at its end, which contracts see as the list of its items.
 #[derive(Drop)]

@@ -83,7 +83,7 @@ fn add_instances(
 }
 
 /// Adds the joins and the instances of an item whose first instance has this number.
-fn add_pins(
+fn add_item_pins(
     alloc: Global,
     names: &NameSet,
     scopes: &[ModuleScope],
@@ -109,6 +109,39 @@ fn add_pins(
     add_joins(alloc, names, scopes, table, number, item, &mut pins.joins)?;
     add_instances(alloc, names, found, item, spelling, &mut pins.instances)?;
     Ok(())
+}
+
+/// Adds the joins and the instances of an item whose first instance has this number, and leaves the item, or keeps it in `left` where there is
+/// room for it. It is left in one place, whether there was memory or not: each exit that drops an item is slow to prove.
+fn add_pins(
+    alloc: Global,
+    names: &NameSet,
+    scopes: &[ModuleScope],
+    table: &Table,
+    found: &Groups<'_, &DefSet>,
+    number: u32,
+    item: ItemV,
+    left: &mut Vec<ItemV>,
+    spelling: &mut Vec<u8>,
+    pins: &mut Pins,
+) -> Result<(), NoMemory>
+    requires named { names.now ≡ map (λ m. m.name) (modules_in scopes.now) }
+    requires modules { length (modules_in scopes.now) < 2 ^ 32 }
+    requires few { number + instance_count item ≤ 268435456 }
+    requires valid { IsItem item }
+    requires small { item_size item ≤ 268435456 }
+    requires numbers { All (λ signal. HasNumbers signal.slot) table.now }
+    ensures joins { OnOk result (pins.new.joins
+        ≡ pins.old.joins ++ item_joins (modules_in scopes.now) table.now number item) }
+    ensures instances { OnOk result (pins.new.instances
+        ≡ pins.old.instances
+        ++ flat_map (instances_by names.now found.now) (instance_statement item)) }
+{
+    let added = add_item_pins(
+        alloc, names, scopes, table, found, number, &item, spelling, pins,
+    );
+    leave(item, left);
+    added
 }
 
 /// The instances and the joins of these items, of which the last comes first, where `scopes` are the modules below, `names` their names,
@@ -138,6 +171,7 @@ pub(crate) fn pins_made(
     let mut spelling = Vec::new(alloc);
     let mut number: u32 = 0;
     while let Some(item) = items.pop() {
+        let count = instance_count(&item);
         add_pins(
             alloc,
             names,
@@ -145,12 +179,12 @@ pub(crate) fn pins_made(
             table,
             found,
             number,
-            &item,
+            item,
+            left,
             &mut spelling,
             &mut pins,
         )?;
-        number += instance_count(&item);
-        leave(item, left);
+        number += count;
         give_back(&mut items);
     }
     Ok(pins)

@@ -1,9 +1,8 @@
-use Rattle.std.proofs.Common.{◌≡◌, ap, flat_map, reverse, ◌∙◌}
+use Rattle.std.proofs.Common.{ap, flat_map, ◌∙◌}
 use Rattle.vlog_design.specs.Design.{def_sets, module_cell}
-use Rattle.vlog_design.specs.Names.{instance_statement, signals}
+use Rattle.vlog_design.specs.Names.{instance_statement}
 use Rattle.vlog_ties.specs.Ties.{modules_in}
 use Rattle.vlog_cells.specs.Instances.{instances_by, sets_for}
-use Rattle.vlog_cells.specs.Parts.{declared_part, tying_items}
 use Rattle.vlog_cells.proofs.InstanceLaws.{instances_are}
 use Rattle.vlog_cells.proofs.PartLaws.{sets_kept}
 use Rattle.vlog_cells.proofs.TyingLaws.{joins_tied, statements_kept}

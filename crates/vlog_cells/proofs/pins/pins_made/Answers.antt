@@ -27,11 +27,11 @@ add_pins-requires-clause-valid c = (known_taken c.loop-item.number c.in-Some.ite
 pub add_pins-requires-clause-small : goal.add_pins-requires-clause-small
 add_pins-requires-clause-small c = (known_taken c.loop-item.number c.in-Some.item c.loop-item.items.items c.pop.new.self.items c.in-Some.ensures.items c.loop-item.invariant.valid c.loop-item.invariant.small).small
 
-pub instance_count-number-requires : goal.instance_count-number-requires
-instance_count-number-requires c = omega (arith, (known_taken c.loop-item.number c.in-Some.item c.loop-item.items.items c.pop.new.self.items c.in-Some.ensures.items c.loop-item.invariant.valid c.loop-item.invariant.small).few)
+pub instance_count-count-requires : goal.instance_count-count-requires
+instance_count-count-requires c = omega (arith, (known_taken c.loop-item.number c.in-Some.item c.loop-item.items.items c.pop.new.self.items c.in-Some.ensures.items c.loop-item.invariant.valid c.loop-item.invariant.small).few)
 
 pub overflow_add-number : goal.overflow_add-number
-overflow_add-number c = omega (arith, (known_taken c.loop-item.number c.in-Some.item c.loop-item.items.items c.pop.new.self.items c.in-Some.ensures.items c.loop-item.invariant.valid c.loop-item.invariant.small).few, c.instance_count-number.ensures)
+overflow_add-number c = omega (arith, (known_taken c.loop-item.number c.in-Some.item c.loop-item.items.items c.pop.new.self.items c.in-Some.ensures.items c.loop-item.invariant.valid c.loop-item.invariant.small).few, c.instance_count-count.ensures)
 
 pub loop-item-preserved : goal.loop-item-preserved
 loop-item-preserved c =
@@ -43,8 +43,8 @@ loop-item-preserved c =
     let known = known_taken c.loop-item.number item old new is c.loop-item.invariant.valid c.loop-item.invariant.small in
     record {
       valid = known.others;
-      small = omega (arith, known.fewer, c.instance_count-number.ensures);
-      joined = joins_turn modules c.args.table.now c.loop-item.number _ item old new c.loop-item.pins.joins c.add_pins.new.pins.joins _ is c.instance_count-number.ensures c.in_ok-add_pins.ensures.joins c.loop-item.invariant.joined;
+      small = omega (arith, known.fewer, c.instance_count-count.ensures);
+      joined = joins_turn modules c.args.table.now c.loop-item.number _ item old new c.loop-item.pins.joins c.add_pins.new.pins.joins _ is c.instance_count-count.ensures c.in_ok-add_pins.ensures.joins c.loop-item.invariant.joined;
       made = instances_turn (instances_by c.args.names.now c.args.found.now) item old new c.loop-item.pins.instances c.add_pins.new.pins.instances _ is c.in_ok-add_pins.ensures.instances c.loop-item.invariant.made;
     }
 

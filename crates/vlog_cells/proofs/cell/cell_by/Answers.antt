@@ -1,6 +1,6 @@
 use Rattle.std.proofs.Common.{◌∙◌}
 use Rattle.vlog_design.specs.Design.{module_cell}
-use Rattle.vlog_cells.proofs.cell.cell_of.Goals as goal
+use Rattle.vlog_cells.proofs.cell.cell_by.Goals as goal
 
 pub returns : goal.returns
 unfolding module_cell
