@@ -4,7 +4,7 @@ use Rattle.std.specs.Borrow.{Bor}
 use Rattle.std.proofs.lemmas.Bool.{false≢true}
 use Rattle.std.proofs.lemmas.List.{map-append, take_all, take_more}
 use Rattle.edif_meanings.specs.Apart.{AreApart, is_alike_any}
-use Rattle.edif_meanings.proofs.ApartLaws.{apart_more}
+use Rattle.edif_meanings.proofs.ApartLaws.{apart_more, apart_none}
 use Rattle.edif_spaces.specs.Spaces.{AreIdents, AreIdentsBehind, IsIdentFor, can_be_own}
 
 -- a name that is its own identifier
@@ -37,26 +37,33 @@ behind_more before (first ∷ names) (other ∷ idents) name ident h fits =
     (h.0, behind_more (before ++ other ∷ []) names idents name ident h.1 (subst (λ l. IsIdentFor l name ident) (sym (append_assoc before (other ∷ []) idents)) fits))
 
 -- what is behind a borrow
+abbrev pub lent : Bor (List ℕ) → List ℕ
+lent name = name.now
+
 abbrev pub seen : List (Bor (List ℕ)) → List (List ℕ)
-seen = map (λ name. name.now)
+seen = map lent
 
--- the identifiers of the first names, of which no two are alike
-pub record AreFirst (names : List (Bor (List ℕ))) (count : ℕ) (idents : List (List ℕ)) : Type 0 where
+-- the identifiers of the names of the first items, of which no two are alike
+pub record AreFirst {X : Type 0} (name_of : X → List ℕ) (items : List X) (count : ℕ) (idents : List (List ℕ)) : Type 0 where
   pub apart : AreApart idents
-  pub each : AreIdentsBehind [] (seen (take count names)) idents
+  pub each : AreIdentsBehind [] (map name_of (take count items)) idents
 
-pub first_more : (names : List (Bor (List ℕ))) (count : ℕ) (d x : Bor (List ℕ)) (idents new : List (List ℕ)) (ident : List ℕ) → count < length names → x ≡ get_or names count d → AreFirst names count idents
-    → IsIdentFor idents x.now ident → is_alike_any ident idents ≡ false → new ≡ idents ++ ident ∷ [] → AreFirst names (count + 1) new
-first_more names count d x idents new ident within is before fits fresh pushed = record {
-  apart = subst AreApart (sym pushed) (apart_more idents ident before.apart fresh);
-  each = subst (AreIdentsBehind [] (seen (take (count + 1) names))) (sym pushed)
-      (subst (λ l. AreIdentsBehind [] l (idents ++ ident ∷ [])) (sym more) (behind_more [] (seen (take count names)) idents x.now ident before.each fits));
-}
-  where
-    more : seen (take (count + 1) names) ≡ seen (take count names) ++ x.now ∷ []
-    more = ap seen (take_more names count d within) ∙ (map-append (λ name. name.now) (take count names) (get_or names count d ∷ []) ∙ ap (λ (y : Bor (List ℕ)). seen (take count names) ++ y.now ∷ []) (sym is))
+module _ {X : Type 0} (name_of : X → List ℕ) (items : List X) where
+  pub first_none : (idents : List (List ℕ)) → idents ≡ [] → AreFirst name_of items 0 idents
+  first_none idents none = subst (AreFirst name_of items 0) (sym none) (record { apart = apart_none; each = behind_none })
 
-pub first_all : (names : List (Bor (List ℕ))) (count : ℕ) (idents : List (List ℕ)) → length names ≤ count → AreFirst names count idents → AreIdents (seen names) idents
-first_all names count idents past are =
-    let each : AreIdentsBehind [] (seen names) idents = subst (λ l. AreIdentsBehind [] (seen l) idents) (take_all count names past) are.each in
-    record { len = behind_len [] (seen names) idents each; apart = are.apart; each = each }
+  pub first_more : (count : ℕ) (d : X) (name : List ℕ) (idents new : List (List ℕ)) (ident : List ℕ) → count < length items → name ≡ name_of (get_or items count d) → AreFirst name_of items count idents
+      → IsIdentFor idents name ident → is_alike_any ident idents ≡ false → new ≡ idents ++ ident ∷ [] → AreFirst name_of items (count + 1) new
+  first_more count d name idents new ident within is before fits fresh pushed = record {
+    apart = subst AreApart (sym pushed) (apart_more idents ident before.apart fresh);
+    each = subst (AreIdentsBehind [] (map name_of (take (count + 1) items))) (sym pushed)
+        (subst (λ l. AreIdentsBehind [] l (idents ++ ident ∷ [])) (sym more) (behind_more [] (map name_of (take count items)) idents name ident before.each fits));
+  }
+    where
+      more : map name_of (take (count + 1) items) ≡ map name_of (take count items) ++ name ∷ []
+      more = ap (map name_of) (take_more items count d within) ∙ (map-append name_of (take count items) (get_or items count d ∷ []) ∙ ap (λ y. map name_of (take count items) ++ y ∷ []) (sym is))
+
+  pub first_all : (count : ℕ) (idents : List (List ℕ)) → length items ≤ count → AreFirst name_of items count idents → AreIdents (map name_of items) idents
+  first_all count idents past are =
+      let each : AreIdentsBehind [] (map name_of items) idents = subst (λ l. AreIdentsBehind [] (map name_of l) idents) (take_all count items past) are.each in
+      record { len = behind_len [] (map name_of items) idents each; apart = are.apart; each = each }

@@ -14,10 +14,10 @@ use Rattle.std.proofs.lemmas.Slice.Eq.{bytes_eq-Decides}
 use Rattle.nl_base.specs.Case.{same_up_to_case, small}
 use Rattle.net_bits.specs.Names.{numbered}
 use Rattle.edif_meanings.specs.Apart.{is_alike_any}
-use Rattle.edif_meanings.proofs.ApartLaws.{alike_itself, apart_none, or_left, or_right}
+use Rattle.edif_meanings.proofs.ApartLaws.{alike_itself, or_left, or_right}
 use Rattle.edif_spaces.specs.Plain.{IsPlain, IsPlainStep, has_stem, is_own_behind}
 use Rattle.edif_spaces.specs.Spaces.{IsMade, can_be_own, stem}
-use Rattle.edif_spaces.proofs.IdentLaws.{AreFirst, behind_none, own_fits, seen}
+use Rattle.edif_spaces.proofs.IdentLaws.{own_fits, seen}
 use Rattle.edif_spaces.proofs.SpaceLaws.{or_true}
 
 -- ---- what is alike an identifier that is made
@@ -135,6 +135,3 @@ none_stemmed (y ∷ ys) (suc i) d x h within is = none_stemmed ys i d x (or_righ
 
 pub plain_none : IsPlain [] 0
 plain_none = record { used = λ lesser below. absurd (omega (arith, below)); free = λ number le fits. refl }
-
-pub first_none : (names : List (Bor (List ℕ))) → AreFirst names 0 []
-first_none names = record { apart = apart_none; each = behind_none }

@@ -1,7 +1,6 @@
 -- One more identifier in a name space.
 use Rattle.std.proofs.Common.{◌≡◌, ℕ, ◌+◌, ◌<◌, get_or, length, Bool, true, false, cond, List, [], ◌∷◌, ◌++◌, refl, sym, ap, ◌∙◌, subst}
 use Rattle.std.specs.Prelude.{◌||◌, IsTrue}
-use Rattle.std.specs.Borrow.{Bor}
 use Rattle.std.specs.List.{list_any}
 use Rattle.std.proofs.lemmas.Bool.{false≢true}
 use Rattle.std.proofs.lemmas.List.Folds.{list_any-append}
@@ -13,16 +12,6 @@ use Rattle.edif_spaces.proofs.IdentLaws.{AreFirst, first_more}
 -- a set up to case has a name where one is alike
 pub has_alike : (set : NameSet) (name : List ℕ) → set.up_to_case ≡ true → has_name set name ≡ is_alike_any name set.names
 has_alike set name e = ap (λ c. list_any (alike c name) set.names) e
-
-names_with : (set : NameSet) (name : List ℕ) → has_name set name ≡ false → (with_name set name).names ≡ set.names ++ name ∷ []
-names_with set name h = by (has_name set name) h
-  where
-    by : (b : Bool) → b ≡ false → cond b set.names (set.names ++ name ∷ []) ≡ set.names ++ name ∷ []
-    by true e = absurd (false≢true (sym e))
-    by false e = refl
-
-pub added_names : (set new : NameSet) (name : List ℕ) → new ≡ with_name set name → set.up_to_case ≡ true → is_alike_any name set.names ≡ false → new.names ≡ set.names ++ name ∷ []
-added_names set new name is_new e h = ap (λ s. s.names) is_new ∙ names_with set name (has_alike set name e ∙ h)
 
 pub or_true : (a b : Bool) → a ≡ true → (a || b) ≡ true
 or_true true b h = refl
@@ -52,10 +41,10 @@ space_made used names name ident number exact shown fresh is = (
   },
 )
 
--- a turn of the loop over the names
-pub space_turn : (names : List (Bor (List ℕ))) (count : ℕ) (d x : Bor (List ℕ)) (space more idents new : List (List ℕ)) (ident : List ℕ) → count < length names → x ≡ get_or names count d → AreFirst names count idents → space ≡ idents
-    → IsIdentFor space x.now ident → is_alike_any ident space ≡ false → more ≡ space ++ ident ∷ [] → new ≡ idents ++ ident ∷ [] → AreFirst names (count + 1) new × (more ≡ new)
-space_turn names count d x space more idents new ident within is before same fits fresh added pushed = (
-  first_more names count d x idents new ident within is before (subst (λ l. IsIdentFor l x.now ident) same fits) (subst (λ l. is_alike_any ident l ≡ false) same fresh) pushed,
+-- a turn of a loop over items whose names get identifiers
+pub space_turn : {X : Type 0} (name_of : X → List ℕ) (items : List X) (count : ℕ) (d : X) (name : List ℕ) (space more idents new : List (List ℕ)) (ident : List ℕ) → count < length items → name ≡ name_of (get_or items count d)
+    → AreFirst name_of items count idents → space ≡ idents → IsIdentFor space name ident → is_alike_any ident space ≡ false → more ≡ space ++ ident ∷ [] → new ≡ idents ++ ident ∷ [] → AreFirst name_of items (count + 1) new × (more ≡ new)
+space_turn name_of items count d name space more idents new ident within is before same fits fresh added pushed = (
+  first_more name_of items count d name idents new ident within is before (subst (λ l. IsIdentFor l name ident) same fits) (subst (λ l. is_alike_any ident l ≡ false) same fresh) pushed,
   added ∙ (ap (λ l. l ++ ident ∷ []) same ∙ sym pushed),
 )

@@ -8,19 +8,19 @@ use nl_base::{Ident, NoMemory, Seq};
 use std::alloc::Global;
 
 /// The identifiers of up to so many names are looked through one by one, and those of more of them by a table.
-const FEW: usize = 64;
+pub const FEW: usize = 64;
 
 /// Identifiers for names of one name space, of which no two are alike up to case, by a table of those that were given.
 fn many_idents(alloc: Global, names: &[&[u8]]) -> Result<Seq<Ident>, NoMemory>
     ensures { IfOk result (λ idents. AreIdents (map (λ name. name.now) names.now) idents) }
 {
-    let mut space = Space::new(alloc);
-    let mut idents = Seq::empty(alloc);
+    let mut space = Space::with_room(alloc, names.len())?;
+    let mut idents = Vec::with_capacity(alloc, names.len())?;
     for name in names {
         let ident = space.ident(alloc, name)?;
         idents.push(ident)?;
     }
-    Ok(idents)
+    Ok(Seq::of(idents))
 }
 
 /// Identifiers for names of one name space, of which no two are alike up to case.

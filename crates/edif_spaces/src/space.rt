@@ -1,5 +1,5 @@
 // Name spaces.
-ghost use Rattle.std.specs.Prelude.{◌≡◌, ◌≤◌, ◌++◌, ◌∷◌, [], false, true, length, IfOk, OnErr};
+ghost use Rattle.std.specs.Prelude.{◌≡◌, ◌≤◌, ◌++◌, ◌∷◌, [], false, true, is_none, length, option_to_list, IfOk, IfSome, OnErr};
 ghost use Rattle.nl_base.specs.Identifiers.{is_identifier as is_identifier_text};
 ghost use Rattle.edif_meanings.specs.Apart.{is_alike_any};
 ghost use Rattle.edif_spaces.specs.Spaces.{IsIdentFor, IsMade, can_be_own as can_be_own_text};
@@ -41,6 +41,16 @@ impl Space {
         }
     }
 
+    /// The name space without identifiers, with room for so many.
+    pub fn with_room(alloc: Global, count: usize) -> Result<Space, NoMemory>
+        ensures { IfOk result (λ space. space ≡ []) }
+    {
+        Ok(Space {
+            used: Names::with_room(alloc, true, count)?,
+            from: 0,
+        })
+    }
+
     /// Gives the name an identifier: its own where it can be one and no other is alike, else `id` and the least number that is free.
     pub fn ident(&mut self, alloc: Global, name: &[u8]) -> Result<Ident, NoMemory>
         ensures own { can_be_own_text name.now ≡ true → is_alike_any name.now self.old ≡ false
@@ -50,26 +60,30 @@ impl Space {
         ensures kept { OnErr result (self.new ≡ self.old) }
         ensures fits { IfOk result (IsIdentFor self.old name.now) }
     {
-        if can_be_own(name) && !self.used.has(name) {
-            let ident = self.own(alloc, name)?;
-            return Ok(ident);
+        if can_be_own(name) {
+            if let Some(ident) = self.own(alloc, name)? {
+                return Ok(ident);
+            }
         }
         let ident = self.fresh(alloc)?;
         Ok(ident)
     }
 
-    // Gives the name itself.
-    fn own(&mut self, alloc: Global, name: &[u8]) -> Result<Ident, NoMemory>
+    // Gives the name itself, where no other is alike.
+    fn own(&mut self, alloc: Global, name: &[u8]) -> Result<Option<Ident>, NoMemory>
         requires own { can_be_own_text name.now ≡ true }
-        requires new { is_alike_any name.now self.old ≡ false }
-        ensures ident { IfOk result (λ ident. ident ≡ name.now) }
-        ensures added { IfOk result (λ ident. self.new ≡ self.old ++ ident ∷ []) }
+        ensures none { IfOk result (λ found. is_none found ≡ is_alike_any name.now self.old) }
+        ensures ident { IfOk result (λ found. IfSome found (λ ident. ident ≡ name.now)) }
+        ensures added { IfOk result (λ found. self.new ≡ self.old ++ option_to_list found) }
         ensures kept { OnErr result (self.new ≡ self.old) }
-        ensures fits { IfOk result (IsIdentFor self.old name.now) }
+        ensures fits { IfOk result (λ found. IfSome found (IsIdentFor self.old name.now)) }
     {
         let text = Text::copy(alloc, name)?;
-        self.used.add(alloc, name)?;
-        Ok(Ident::of(text))
+        let new = self.used.add(alloc, name)?;
+        if !new {
+            return Ok(None);
+        }
+        Ok(Some(Ident::of(text)))
     }
 
     // Gives `id` and the least number that is free.

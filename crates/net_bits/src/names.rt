@@ -46,6 +46,17 @@ impl Names {
         }
     }
 
+    /// The set without names, with room for so many. With `fold` names that are alike up to case are equal.
+    pub fn with_room(alloc: Global, fold: bool, count: usize) -> Result<Names, NoMemory>
+        ensures { IfOk result (λ names. names ≡ record { up_to_case = fold; names = [] }) }
+    {
+        Ok(Names {
+            fold,
+            entries: Vec::with_capacity(alloc, count)?,
+            latest: IndexMap::with_capacity(alloc, count)?,
+        })
+    }
+
     /// How many names the set has.
     pub fn len(&self) -> usize
         ensures { result ≡ length self.now.names }
@@ -64,7 +75,15 @@ impl Names {
     pub fn has(&self, name: &[u8]) -> bool
         ensures { result ≡ has_name self.now name.now }
     {
-        let mut place = self.latest.get(&digest(name, self.fold)).copied();
+        self.has_of(digest(name, self.fold), name)
+    }
+
+    /// Whether the set has the name, which has this digest.
+    fn has_of(&self, digest: u64, name: &[u8]) -> bool
+        requires { digest ≡ digest_of self.now.up_to_case name.now }
+        ensures { result ≡ has_name self.now name.now }
+    {
+        let mut place = self.latest.get(&digest).copied();
         while let Some(at) = place {
             let entry = &self.entries[at];
             if are_alike(name, entry.name.bytes(), self.fold) {
@@ -81,10 +100,10 @@ impl Names {
         ensures added { OnOk result (self.new ≡ with_name self.old name.now) }
         ensures kept { OnErr result (self.new ≡ self.old) }
     {
-        if self.has(name) {
+        let digest = digest(name, self.fold);
+        if self.has_of(digest, name) {
             return Ok(false);
         }
-        let digest = digest(name, self.fold);
         let earlier = self.latest.get(&digest).copied();
         let place = self.entries.len();
         let name = Text::copy(alloc, name)?;

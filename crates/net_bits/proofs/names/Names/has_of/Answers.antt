@@ -1,7 +1,7 @@
 use Rattle.std.proofs.Common.{rules, ◌≡◌, ◌<◌, true, false, Some, None, subst, sym, ap, ◌∙◌}
 use Rattle.net_bits.specs.Names.{NameSet, alike, has_name}
 use Rattle.net_bits.proofs.NameLaws.{IsSeeking, after, seek_found, seek_less, seek_on, seeking_end}
-use Rattle.net_bits.proofs.names.Names.has.Goals as goal
+use Rattle.net_bits.proofs.names.Names.has_of.Goals as goal
 
 pub returns-then-are_alike : goal.returns-then-are_alike
 returns-then-are_alike c =

@@ -1,5 +1,5 @@
 use Rattle.net_bits.proofs.NameLaws.{IsSeeking, after}
-use Rattle.net_bits.proofs.names.Names.has.Given as goal
+use Rattle.net_bits.proofs.names.Names.has_of.Given as goal
 
 abbrev pub invariant-loop-place : goal.invariant-loop-place
 invariant-loop-place l = IsSeeking l.self l.name l.place
