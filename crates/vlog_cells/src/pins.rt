@@ -46,6 +46,7 @@ fn add_joins(
     names: &NameSet,
     scopes: &[ModuleScope],
     table: &Table,
+    near: &mut usize,
     number: u32,
     item: &ItemV,
     joins: &mut Pieces<Join>,
@@ -58,7 +59,16 @@ fn add_joins(
     ensures added { OnOk result (joins.new
         ≡ joins.old ++ item_joins (modules_in scopes.now) table.now number item.now) }
 {
-    push_item_joins(alloc, names, scopes, table, number, item, &mut joins.last)?;
+    push_item_joins(
+        alloc,
+        names,
+        scopes,
+        table,
+        near,
+        number,
+        item,
+        &mut joins.last,
+    )?;
     joins.turn()?;
     Ok(())
 }
@@ -88,6 +98,7 @@ fn add_item_pins(
     names: &NameSet,
     scopes: &[ModuleScope],
     table: &Table,
+    near: &mut usize,
     found: &Groups<'_, &DefSet>,
     number: u32,
     item: &ItemV,
@@ -106,7 +117,16 @@ fn add_item_pins(
         ≡ pins.old.instances
         ++ flat_map (instances_by names.now found.now) (instance_statement item.now)) }
 {
-    add_joins(alloc, names, scopes, table, number, item, &mut pins.joins)?;
+    add_joins(
+        alloc,
+        names,
+        scopes,
+        table,
+        near,
+        number,
+        item,
+        &mut pins.joins,
+    )?;
     add_instances(alloc, names, found, item, spelling, &mut pins.instances)?;
     Ok(())
 }
@@ -118,6 +138,7 @@ fn add_pins(
     names: &NameSet,
     scopes: &[ModuleScope],
     table: &Table,
+    near: &mut usize,
     found: &Groups<'_, &DefSet>,
     number: u32,
     item: ItemV,
@@ -138,7 +159,7 @@ fn add_pins(
         ++ flat_map (instances_by names.now found.now) (instance_statement item)) }
 {
     let added = add_item_pins(
-        alloc, names, scopes, table, found, number, &item, spelling, pins,
+        alloc, names, scopes, table, near, found, number, &item, spelling, pins,
     );
     leave(item, left);
     added
@@ -170,6 +191,7 @@ pub(crate) fn pins_made(
     let mut pins = room_for(alloc, items.as_slice())?;
     let mut spelling = Vec::new(alloc);
     let mut number: u32 = 0;
+    let mut near: usize = 0;
     while let Some(item) = items.pop() {
         let count = instance_count(&item);
         add_pins(
@@ -177,6 +199,7 @@ pub(crate) fn pins_made(
             names,
             scopes,
             table,
+            &mut near,
             found,
             number,
             item,

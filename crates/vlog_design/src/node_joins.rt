@@ -65,6 +65,7 @@ fn push_made_joins(
 fn push_part_joins(
     alloc: Global,
     table: &Table,
+    near: &mut usize,
     left: Row,
     expr: &Expr,
     out: &mut Vec<Join>,
@@ -76,7 +77,7 @@ fn push_part_joins(
     ensures left { IfOk result (λ rest. rest ≡ drop (length (bits table.now expr.now)) left) }
 {
     if let Expr::Ref { select, name } = expr {
-        return match table.find(name.bytes()) {
+        return match table.find_near(near, name.bytes()) {
             None => Ok(left),
             Some(slot) => push_selected_joins(left, slot, *select, out),
         };
@@ -88,6 +89,7 @@ fn push_part_joins(
 fn push_parts_joins(
     alloc: Global,
     table: &Table,
+    near: &mut usize,
     left: Row,
     parts: &[Expr],
     out: &mut Vec<Join>,
@@ -101,7 +103,7 @@ fn push_parts_joins(
 {
     let mut rest = left;
     for part in parts {
-        rest = push_part_joins(alloc, table, rest, part, out)?;
+        rest = push_part_joins(alloc, table, near, rest, part, out)?;
     }
     Ok(rest)
 }
@@ -110,6 +112,7 @@ fn push_parts_joins(
 fn push_expr_joins(
     alloc: Global,
     table: &Table,
+    near: &mut usize,
     left: Row,
     expr: &Expr,
     out: &mut Vec<Join>,
@@ -121,15 +124,16 @@ fn push_expr_joins(
     ensures left { IfOk result (λ rest. rest ≡ drop (length (bits table.now expr.now)) left) }
 {
     if let Expr::Cat(parts) = expr {
-        return push_parts_joins(alloc, table, left, parts.items(), out);
+        return push_parts_joins(alloc, table, near, left, parts.items(), out);
     }
-    push_part_joins(alloc, table, left, expr, out)
+    push_part_joins(alloc, table, near, left, expr, out)
 }
 
-/// Adds the joins of so many nodes, from the first on, with the bits of an expression.
+/// Adds the joins of so many nodes, from the first on, with the bits of an expression. Its names are looked for near the last one.
 pub fn push_node_joins(
     alloc: Global,
     table: &Table,
+    near: &mut usize,
     first: Node,
     count: u32,
     expr: &Expr,
@@ -142,6 +146,6 @@ pub fn push_node_joins(
         ≡ out.old.items ++ joins_between (nodes_from first count) (bits table.now expr.now)) }
 {
     let row = Row { first, count };
-    let _rest = push_expr_joins(alloc, table, row, expr, out)?;
+    let _rest = push_expr_joins(alloc, table, near, row, expr, out)?;
     Ok(())
 }

@@ -23,7 +23,7 @@ impl<'a> Model for Table<'a> {
     ghost view = { λ t. signals_of (t.few.items ++ t.slots.entries) };
 }
 
-ghost use Rattle.std.specs.Prelude.{◌≡◌, [], ◌++◌, ◌∷◌, length, slice_get, option_map, IfOk, OnErr, is_some, is_none, option_copied, if◌then◌else◌};
+ghost use Rattle.std.specs.Prelude.{◌≡◌, [], ◌++◌, ◌∷◌, length, slice_get, option_map, IfOk, IfSome, OnErr, Some, is_some, is_none, option_copied, if◌then◌else◌};
 ghost use Rattle.vlog_design.specs.Names.{signal_named};
 ghost use Rattle.vlog_design.specs.Tables.{signal_of, signals_of};
 
@@ -37,6 +37,40 @@ fn find_among(entries: &[(&[u8], Slot)], name: &[u8]) -> Option<Slot>
         }
     }
     None
+}
+
+/// What the name stands for among these, where it is the name of this number.
+fn slot_at(slots: &IndexMap<&[u8], Slot>, number: usize, name: &[u8]) -> Option<Slot>
+    ensures { IfSome result
+        (λ slot. signal_named (signals_of slots.now.entries) name.now ≡ Some slot) }
+{
+    if let Some((key, slot)) = slots.get_index(number) {
+        if *key == name {
+            return Some(*slot);
+        }
+    }
+    None
+}
+
+/// What the name stands for among these, which is looked for at the number `near` and behind it before a search.
+fn slot_near(slots: &IndexMap<&[u8], Slot>, near: &mut usize, name: &[u8]) -> Option<Slot>
+    ensures { result ≡ signal_named (signals_of slots.now.entries) name.now }
+{
+    if let Some(slot) = slot_at(slots, *near, name) {
+        return Some(slot);
+    }
+    let next = near.saturating_add(1);
+    if let Some(slot) = slot_at(slots, next, name) {
+        *near = next;
+        return Some(slot);
+    }
+    match slots.get_full(name) {
+        None => None,
+        Some((number, _, slot)) => {
+            *near = number;
+            Some(*slot)
+        }
+    }
 }
 
 impl<'a> Table<'a> {
@@ -86,11 +120,20 @@ impl<'a> Table<'a> {
         ensures { result ≡ signal_named self.now name.now }
     {
         if self.few.is_empty() {
-            if let Some((key, slot)) = self.slots.get_index(number) {
-                if *key == name {
-                    return Some(*slot);
-                }
+            if let Some(slot) = slot_at(&self.slots, number, name) {
+                return Some(slot);
             }
+        }
+        self.find(name)
+    }
+
+    /// What the name stands for. Names that are used together often stand together in the text: the name of the number `near` and the
+    /// one behind it are tried before a search, and `near` is then the number of the name that was found.
+    pub fn find_near(&self, near: &mut usize, name: &[u8]) -> Option<Slot>
+        ensures { result ≡ signal_named self.now name.now }
+    {
+        if self.few.is_empty() {
+            return slot_near(&self.slots, near, name);
         }
         self.find(name)
     }

@@ -58,35 +58,43 @@ pub fn selected_width(range: Option<Range>, select: Select) -> u64
     }
 }
 
-/// How many bits an expression has, or 2^64-1 where there are more.
+/// How many bits an expression has, or 2^64-1 where there are more. Its names are looked for near the last one.
 #[cycle(width)]
-pub fn expr_width(table: &Table, expr: &Expr) -> u64
+pub fn width_near(table: &Table, near: &mut usize, expr: &Expr) -> u64
     ensures { result ≡ min (2 ^ 64 - 1) (width table.now expr.now) }
 {
     match expr {
-        Expr::Ref { select, name } => match table.find(name.bytes()) {
+        Expr::Ref { select, name } => match table.find_near(near, name.bytes()) {
             None => 0,
             Some(slot) => selected_width(slot.range, *select),
         },
         Expr::Lit(literal) => u64::from(literal.get().size),
         Expr::LooseNumber(_) => 0,
         Expr::Loose(_) => 0,
-        Expr::Cat(parts) => parts_width(table, parts.items()),
+        Expr::Cat(parts) => parts_width(table, near, parts.items()),
         Expr::Rep(count, parts) => {
-            times(count).saturating_mul(parts_width(table, parts.get().items()))
+            times(count).saturating_mul(parts_width(table, near, parts.get().items()))
         }
     }
 }
 
 #[cycle(width)]
-fn parts_width(table: &Table, parts: &[Expr]) -> u64
+fn parts_width(table: &Table, near: &mut usize, parts: &[Expr]) -> u64
     ensures { result ≡ min (2 ^ 64 - 1) (sum (map (width table.now) parts.now)) }
 {
     let mut total: u64 = 0;
     for part in parts {
-        total = total.saturating_add(expr_width(table, part));
+        total = total.saturating_add(width_near(table, near, part));
     }
     total
+}
+
+/// How many bits an expression has, or 2^64-1 where there are more.
+pub fn expr_width(table: &Table, expr: &Expr) -> u64
+    ensures { result ≡ min (2 ^ 64 - 1) (width table.now expr.now) }
+{
+    let mut near: usize = 0;
+    width_near(table, &mut near, expr)
 }
 
 // How often a replication repeats its parts.

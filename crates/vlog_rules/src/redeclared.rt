@@ -38,20 +38,20 @@ fn is_other_slot(range: Option<Range>, slot: Slot) -> bool
 
 /// Whether the name is that of a port of another range.
 #[tactic(auto, unfolding(crate::specs::Redeclared::other_in))]
-fn is_other(table: &Table, range: Option<Range>, name: &[u8]) -> bool
+fn is_other(table: &Table, near: &mut usize, range: Option<Range>, name: &[u8]) -> bool
     ensures { result ≡ other_in table.now range name.now }
 {
-    match table.find(name) {
+    match table.find_near(near, name) {
         None => false,
         Some(slot) => is_other_slot(range, slot),
     }
 }
 
-fn first_other<'a>(table: &Table, decl: &'a NetDecl) -> Option<&'a [u8]>
+fn first_other<'a>(table: &Table, near: &mut usize, decl: &'a NetDecl) -> Option<&'a [u8]>
     ensures { option_copied result ≡ find (other_in table.now decl.now.range) decl.now.names }
 {
     for name in decl.names.items() {
-        if is_other(table, decl.range, name.bytes()) {
+        if is_other(table, near, decl.range, name.bytes()) {
             return Some(name.bytes());
         }
     }
@@ -59,13 +59,13 @@ fn first_other<'a>(table: &Table, decl: &'a NetDecl) -> Option<&'a [u8]>
 }
 
 #[tactic(auto, using(crate::proofs::RuleLaws::first_filter))]
-fn first_in_item<'a>(table: &Table, item: &'a ItemV) -> Option<&'a [u8]>
+fn first_in_item<'a>(table: &Table, near: &mut usize, item: &'a ItemV) -> Option<&'a [u8]>
     ensures { option_copied result
         ≡ first_of (flat_map (λ decl. filter (other_in table.now decl.range) decl.names)
         (net_decl item.now)) }
 {
     match item {
-        ItemV::Net(decl) => first_other(table, decl),
+        ItemV::Net(decl) => first_other(table, near, decl),
         ItemV::Port(_) => None,
         ItemV::Param(_) => None,
         ItemV::Assign(_) => None,
@@ -79,8 +79,9 @@ fn first_in_items<'a>(table: &Table, items: &'a [ItemV]) -> Option<&'a [u8]>
         ≡ first_of (flat_map (λ decl. filter (other_in table.now decl.range) decl.names)
         (flat_map net_decl items.now)) }
 {
+    let mut near: usize = 0;
     for item in items {
-        if let Some(name) = first_in_item(table, item) {
+        if let Some(name) = first_in_item(table, &mut near, item) {
             return Some(name);
         }
     }

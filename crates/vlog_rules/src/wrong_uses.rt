@@ -12,20 +12,20 @@ use vlog_design::uses::{UseOf, push_item_uses};
 use vlog_values::ItemV;
 
 /// Whether the name is no port and no net, or the select means no bits.
-fn is_wrong(table: &Table, u: &UseOf) -> bool
+fn is_wrong(table: &Table, near: &mut usize, u: &UseOf) -> bool
     ensures { result ≡ is_wrong table.now (use_of u.now) }
 {
-    match table.find(u.name) {
+    match table.find_near(near, u.name) {
         None => true,
         Some(slot) => !is_selected(slot.range, u.select),
     }
 }
 
-fn any_wrong(table: &Table, uses: &[UseOf]) -> bool
+fn any_wrong(table: &Table, near: &mut usize, uses: &[UseOf]) -> bool
     ensures { result ≡ list_any (is_wrong table.now) (uses_of uses.now) }
 {
     for u in uses {
-        if is_wrong(table, u) {
+        if is_wrong(table, near, u) {
             return true;
         }
     }
@@ -35,6 +35,7 @@ fn any_wrong(table: &Table, uses: &[UseOf]) -> bool
 /// Whether one of the uses in an item is wrong. The list has room for its uses; what stands in it is left.
 pub fn has_wrong_use_in<'a>(
     table: &Table,
+    near: &mut usize,
     item: &'a ItemV,
     found: &mut Vec<UseOf<'a>>,
 ) -> Result<bool, NoMemory>
@@ -43,5 +44,5 @@ pub fn has_wrong_use_in<'a>(
 {
     found.clear();
     push_item_uses(item, found)?;
-    Ok(any_wrong(table, found))
+    Ok(any_wrong(table, near, found))
 }

@@ -15,17 +15,17 @@ use vlog_design::uses::UseOf;
 use vlog_values::{ItemV, Module};
 
 /// Whether the name stands whole and is none of the table.
-fn is_unknown(table: &NewTable, u: &UseOf) -> bool
+fn is_unknown(table: &NewTable, near: &mut usize, u: &UseOf) -> bool
     ensures { result ≡ is_unknown table.now (use_of u.now) }
 {
-    is_whole(u.select) && !table.has(u.name)
+    is_whole(u.select) && !table.has_near(near, u.name)
 }
 
-fn any_unknown(table: &NewTable, uses: &[UseOf]) -> bool
+fn any_unknown(table: &NewTable, near: &mut usize, uses: &[UseOf]) -> bool
     ensures { result ≡ list_any (is_unknown table.now) (uses_of uses.now) }
 {
     for u in uses {
-        if is_unknown(table, u) {
+        if is_unknown(table, near, u) {
             return true;
         }
     }
@@ -35,6 +35,7 @@ fn any_unknown(table: &NewTable, uses: &[UseOf]) -> bool
 /// Whether a target in an item is unknown. The list has room for its targets.
 fn has_unknown_in<'a>(
     table: &NewTable,
+    near: &mut usize,
     item: &'a ItemV,
     targets: &mut Vec<UseOf<'a>>,
 ) -> Result<bool, NoMemory>
@@ -43,7 +44,7 @@ fn has_unknown_in<'a>(
 {
     targets.clear();
     push_item_targets(item, targets)?;
-    Ok(any_unknown(table, targets))
+    Ok(any_unknown(table, near, targets))
 }
 
 /// Whether a target in some of the items is unknown. No list of all of them is made.
@@ -52,8 +53,9 @@ fn has_unknown(alloc: Global, table: &NewTable, items: &[ItemV]) -> Result<bool,
         ≡ list_any (is_unknown table.now) (flat_map uses (flat_map item_targets items.now))) }
 {
     let mut targets = Vec::new(alloc);
+    let mut near: usize = 0;
     for item in items {
-        let unknown = has_unknown_in(table, item, &mut targets)?;
+        let unknown = has_unknown_in(table, &mut near, item, &mut targets)?;
         if unknown {
             return Ok(true);
         }

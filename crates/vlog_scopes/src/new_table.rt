@@ -131,13 +131,13 @@ impl<'a> NewTable<'a> {
         self.room = self.room.saturating_add(more);
     }
 
-    /// Whether the name is there.
-    pub(crate) fn has(&self, name: &[u8]) -> bool
+    /// Whether the name is there. It is looked for near the last one.
+    pub(crate) fn has_near(&self, near: &mut usize, name: &[u8]) -> bool
         ensures { result ≡ has_name (signal_names self.now) name.now }
     {
         match &self.many {
             None => is_among(self.few.as_slice(), name),
-            Some(table) => table.find(name).is_some(),
+            Some(table) => table.find_near(near, name).is_some(),
         }
     }
 

@@ -59,7 +59,13 @@ fn push_assign(
 }
 
 /// Adds the joins of what is tied.
-fn push_tie(alloc: Global, table: &Table, tie: &Tie, out: &mut Vec<Join>) -> Result<(), NoMemory>
+fn push_tie(
+    alloc: Global,
+    table: &Table,
+    near: &mut usize,
+    tie: &Tie,
+    out: &mut Vec<Join>,
+) -> Result<(), NoMemory>
     requires digits { All HasDigits (tie_literals tie.now) }
     requires numbers { All (λ signal. HasNumbers signal.slot) table.now }
     ensures added { OnOk result (out.new.items ≡ out.old.items ++ tie_joins table.now tie.now) }
@@ -78,7 +84,7 @@ fn push_tie(alloc: Global, table: &Table, tie: &Tie, out: &mut Vec<Join>) -> Res
                 port: port_number,
                 bit: 0,
             };
-            push_node_joins(alloc, table, first, width, value, out)
+            push_node_joins(alloc, table, near, first, width, value, out)
         }
         Tie::Assign { left, right } => push_assign(alloc, table, left, right, out),
         Tie::Supply { name, constant } => match table.find(name) {
@@ -92,6 +98,7 @@ fn push_tie(alloc: Global, table: &Table, tie: &Tie, out: &mut Vec<Join>) -> Res
 pub fn push_ties(
     alloc: Global,
     table: &Table,
+    near: &mut usize,
     ties: &[Tie],
     out: &mut Vec<Join>,
 ) -> Result<(), NoMemory>
@@ -101,7 +108,7 @@ pub fn push_ties(
         ≡ out.old.items ++ flat_map (tie_joins table.now) ties.now) }
 {
     for tie in ties {
-        push_tie(alloc, table, tie, out)?;
+        push_tie(alloc, table, near, tie, out)?;
     }
     Ok(())
 }
@@ -112,6 +119,7 @@ pub fn push_item_joins<'a>(
     names: &NameSet,
     scopes: &[ModuleScope<'a>],
     table: &Table,
+    near: &mut usize,
     number: u32,
     item: &'a ItemV,
     out: &mut Vec<Join>,
@@ -126,5 +134,5 @@ pub fn push_item_joins<'a>(
 {
     let mut ties = Vec::new(alloc);
     push_item_ties(names, scopes, number, item, &mut ties)?;
-    push_ties(alloc, table, ties.as_slice(), out)
+    push_ties(alloc, table, near, ties.as_slice(), out)
 }

@@ -9,7 +9,7 @@ use crate::tie::Tie;
 use nl_base::{NoMemory, Refusal, Rule};
 use std::alloc::Global;
 use vlog_design::table::Table;
-use vlog_design::widths::expr_width;
+use vlog_design::widths::width_near;
 use vlog_rules::passes::ModuleScope;
 use vlog_rules::refusals::{refuse, refuse_two};
 use vlog_values::Expr;
@@ -32,16 +32,16 @@ fn rule_number(rule: TieRule) -> Rule
 }
 
 /// Whether the two sides have two widths, and no unsized literal stands in them.
-fn is_unequal(table: &Table, tie: &Tie) -> bool
+fn is_unequal(table: &Table, near: &mut usize, tie: &Tie) -> bool
     requires { HasNarrowLeft table.now (tied tie.now) }
     ensures { result ≡ any_pairing is_unequal table.now (tied tie.now) }
 {
     match *tie {
         Tie::Pin { width, value, .. } => {
-            u64::from(width) != expr_width(table, value) && !has_loose(value)
+            u64::from(width) != width_near(table, near, value) && !has_loose(value)
         }
         Tie::Assign { left, right } => {
-            expr_width(table, left) != expr_width(table, right)
+            width_near(table, near, left) != width_near(table, near, right)
                 && !(has_loose(left) || has_loose(right))
         }
         Tie::Supply { .. } => false,
@@ -60,24 +60,29 @@ fn is_unsized(table: &Table, tie: &Tie) -> bool
 }
 
 /// Whether a tie breaks the rule.
-fn is_broken(rule: TieRule, table: &Table, tie: &Tie) -> bool
+fn is_broken(rule: TieRule, table: &Table, near: &mut usize, tie: &Tie) -> bool
     requires { HasNarrowLeft table.now (tied tie.now) }
     ensures { result ≡ any_pairing (is_broken rule) table.now (tied tie.now) }
 {
     match rule {
-        TieRule::EqualWidths => is_unequal(table, tie),
+        TieRule::EqualWidths => is_unequal(table, near, tie),
         TieRule::SizedLiterals => is_unsized(table, tie),
     }
 }
 
 /// The first of the ties that breaks the rule.
-fn first_broken<'a>(rule: TieRule, table: &Table, ties: &[Tie<'a>]) -> Option<Tie<'a>>
+fn first_broken<'a>(
+    rule: TieRule,
+    table: &Table,
+    near: &mut usize,
+    ties: &[Tie<'a>],
+) -> Option<Tie<'a>>
     requires { All (λ tie. HasNarrowLeft table.now (tied tie)) ties.now }
     ensures { option_map tied result ≡ find (any_pairing (is_broken rule) table.now)
         (all_tied ties.now) }
 {
     for tie in ties {
-        if is_broken(rule, table, tie) {
+        if is_broken(rule, table, near, tie) {
             return Some(*tie);
         }
     }
@@ -111,6 +116,7 @@ pub(crate) fn first_refusal(
     alloc: Global,
     rule: TieRule,
     scope: &ModuleScope,
+    near: &mut usize,
     ties: &[Tie],
 ) -> Result<Option<Refusal>, NoMemory>
     requires { All (λ tie. HasNarrowLeft scope.now.table (tied tie)) ties.now }
@@ -118,7 +124,7 @@ pub(crate) fn first_refusal(
         ≡ option_map (λ t. refused (rule_number rule) scope.now.module.now.name (tied_names t))
         (find (any_pairing (is_broken rule) scope.now.table) (all_tied ties.now))) }
 {
-    match first_broken(rule, &scope.table, ties) {
+    match first_broken(rule, &scope.table, near, ties) {
         None => Ok(None),
         Some(tie) => {
             let cell = scope.module.name.bytes();

@@ -49,6 +49,7 @@ fn no_sides() -> Sides
 fn sides_of_ties(
     alloc: Global,
     scope: &ModuleScope,
+    near: &mut usize,
     ties: &[Tie],
     wrong: bool,
 ) -> Result<Sides, NoMemory>
@@ -57,8 +58,13 @@ fn sides_of_ties(
         (AreTieSides scope.now.module.now scope.now.table (all_tied ties.now)) }
     ensures wrong { IfOk result (λ sides. sides.wrong ≡ wrong) }
 {
-    let unequal = first_refusal(alloc, TieRule::EqualWidths, scope, ties)?;
-    let loose = first_refusal(alloc, TieRule::SizedLiterals, scope, ties)?;
+    // Most items without a tie are declarations.
+    if ties.is_empty() {
+        let sides = no_sides();
+        return Ok(Sides { wrong, ..sides });
+    }
+    let unequal = first_refusal(alloc, TieRule::EqualWidths, scope, near, ties)?;
+    let loose = first_refusal(alloc, TieRule::SizedLiterals, scope, near, ties)?;
     let most = most_joins(&scope.table, ties);
     Ok(Sides {
         unequal,
@@ -111,12 +117,15 @@ pub fn sides_in_scope<'a>(
     let mut sides = no_sides();
     let mut ties = Vec::new(alloc);
     let mut found = Vec::new(alloc);
+    // Each pass over an item has its own.
+    let mut near_use: usize = 0;
+    let mut near_side: usize = 0;
     let mut number: u32 = 0;
     for item in scope.module.items.items() {
         ties.clear();
         push_item_ties(names, scopes, number, item, &mut ties)?;
-        let wrong = has_wrong_use_in(&scope.table, item, &mut found)?;
-        let next = sides_of_ties(alloc, scope, ties.as_slice(), wrong)?;
+        let wrong = has_wrong_use_in(&scope.table, &mut near_use, item, &mut found)?;
+        let next = sides_of_ties(alloc, scope, &mut near_side, ties.as_slice(), wrong)?;
         sides = joined(sides, next);
         number += instance_count(item);
     }

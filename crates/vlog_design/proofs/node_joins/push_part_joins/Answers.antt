@@ -6,16 +6,16 @@ use Rattle.vlog_design.proofs.Parts.{all_found}
 use Rattle.vlog_design.proofs.node_joins.push_part_joins.Goals as goal
 
 pub push_selected_joins-requires : goal.push_selected_joins-requires
-push_selected_joins-requires c = all_found HasNumbers _ _ _ c.requires.numbers (sym c.find.ensures ∙ c.in-Some.is)
+push_selected_joins-requires c = all_found HasNumbers _ _ _ c.requires.numbers (sym c.find_near.ensures ∙ c.in-Some.is)
 
 pub returns-in-None-clause-added : goal.returns-in-None-clause-added
-returns-in-None-clause-added c = rw (c.in-Ref.is, bits-Ref, ← c.bytes.ensures, ← c.find.ensures, c.in-None.is) (nothing_met _ _ _ refl)
+returns-in-None-clause-added c = rw (c.in-Ref.is, bits-Ref, ← c.bytes.ensures, ← c.find_near.ensures, c.in-None.is) (nothing_met _ _ _ refl)
 
 pub returns-in-None-clause-left : goal.returns-in-None-clause-left
-returns-in-None-clause-left c = rw (c.in-Ref.is, bits-Ref, ← c.bytes.ensures, ← c.find.ensures, c.in-None.is) refl
+returns-in-None-clause-left c = rw (c.in-Ref.is, bits-Ref, ← c.bytes.ensures, ← c.find_near.ensures, c.in-None.is) refl
 
 pub returns-in-Some-clause-added : goal.returns-in-Some-clause-added
-returns-in-Some-clause-added c = rw (c.in-Ref.is, bits-Ref, ← c.bytes.ensures, ← c.find.ensures, c.in-Some.is) c.push_selected_joins.ensures.added
+returns-in-Some-clause-added c = rw (c.in-Ref.is, bits-Ref, ← c.bytes.ensures, ← c.find_near.ensures, c.in-Some.is) c.push_selected_joins.ensures.added
 
 pub returns-in-Some-clause-left : goal.returns-in-Some-clause-left
-returns-in-Some-clause-left c = rw (c.in-Ref.is, bits-Ref, ← c.bytes.ensures, ← c.find.ensures, c.in-Some.is) c.push_selected_joins.ensures.left
+returns-in-Some-clause-left c = rw (c.in-Ref.is, bits-Ref, ← c.bytes.ensures, ← c.find_near.ensures, c.in-Some.is) c.push_selected_joins.ensures.left

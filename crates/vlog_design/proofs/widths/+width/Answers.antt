@@ -4,26 +4,26 @@ use Rattle.vlog_design.proofs.ExprLemmas.{width-Cat, width-Lit, width-Loose, wid
 use Rattle.vlog_design.proofs.Capped.{capped_mul, nothing_left, sum_left}
 use Rattle.vlog_design.proofs.widths.+width.Goals as goal
 
-pub expr_width-returns-in-None : goal.expr_width-returns-in-None
-expr_width-returns-in-None t c = rw (c.in-Ref.is, width-Ref, ← c.bytes.ensures, ← c.find.ensures, c.in-None.is) refl
+pub width_near-returns-in-None : goal.width_near-returns-in-None
+width_near-returns-in-None t c = rw (c.in-Ref.is, width-Ref, ← c.bytes.ensures, ← c.find_near.ensures, c.in-None.is) refl
 
-pub expr_width-returns-in-Some : goal.expr_width-returns-in-Some
-expr_width-returns-in-Some t c = rw (c.in-Ref.is, width-Ref, ← c.bytes.ensures, ← c.find.ensures, c.in-Some.is) (omega (arith, c.selected_width.ensures))
+pub width_near-returns-in-Some : goal.width_near-returns-in-Some
+width_near-returns-in-Some t c = rw (c.in-Ref.is, width-Ref, ← c.bytes.ensures, ← c.find_near.ensures, c.in-Some.is) (omega (arith, c.selected_width.ensures))
 
-pub expr_width-returns-in-Lit : goal.expr_width-returns-in-Lit
-expr_width-returns-in-Lit t c = rw (c.in-Lit.is, width-Lit, ← c.get.ensures) (omega (arith, c.from.ensures))
+pub width_near-returns-in-Lit : goal.width_near-returns-in-Lit
+width_near-returns-in-Lit t c = rw (c.in-Lit.is, width-Lit, ← c.get.ensures) (omega (arith, c.from.ensures))
 
-pub expr_width-returns-in-LooseNumber : goal.expr_width-returns-in-LooseNumber
-expr_width-returns-in-LooseNumber t c = rw (c.in-LooseNumber.is, width-LooseNumber) refl
+pub width_near-returns-in-LooseNumber : goal.width_near-returns-in-LooseNumber
+width_near-returns-in-LooseNumber t c = rw (c.in-LooseNumber.is, width-LooseNumber) refl
 
-pub expr_width-returns-in-Loose : goal.expr_width-returns-in-Loose
-expr_width-returns-in-Loose t c = rw (c.in-Loose.is, width-Loose) refl
+pub width_near-returns-in-Loose : goal.width_near-returns-in-Loose
+width_near-returns-in-Loose t c = rw (c.in-Loose.is, width-Loose) refl
 
-pub expr_width-returns-in-Cat : goal.expr_width-returns-in-Cat
-expr_width-returns-in-Cat t c = rw (c.in-Cat.is, width-Cat, ← c.items.ensures) c.parts_width.ensures
+pub width_near-returns-in-Cat : goal.width_near-returns-in-Cat
+width_near-returns-in-Cat t c = rw (c.in-Cat.is, width-Cat, ← c.items.ensures) c.parts_width.ensures
 
-pub expr_width-returns-in-Rep : goal.expr_width-returns-in-Rep
-expr_width-returns-in-Rep t c = rw (c.in-Rep.is, width-Rep, ← c.get-in-Rep.ensures, ← c.items-in-Rep.ensures)
+pub width_near-returns-in-Rep : goal.width_near-returns-in-Rep
+width_near-returns-in-Rep t c = rw (c.in-Rep.is, width-Rep, ← c.get-in-Rep.ensures, ← c.items-in-Rep.ensures)
     (c.saturating_mul.ensures ∙ (ap (λ b. min (c.times.result * b) 18446744073709551615) c.parts_width-in-Rep.ensures ∙ (capped_mul _ _ _ ∙ ap (λ a. min 18446744073709551615 (a * sum (map (width c.args.table.now) c.items-in-Rep.result.now))) c.times.ensures)))
 
 pub parts_width-loop-part-preserved : goal.parts_width-loop-part-preserved
@@ -34,7 +34,7 @@ parts_width-loop-part-preserved t c =
     let e : width c.args.table.now (get_or parts i x) ≡ width c.args.table.now x = ap (width c.args.table.now) (sym c.part-item.is) in
     record {
       capped = omega arith;
-      is_sum = omega (arith, c.saturating_add-total.ensures, c.expr_width.ensures, e, sum_left (width c.args.table.now) parts i x c.loop-part-test.true, c.loop-part.invariant.is_sum);
+      is_sum = omega (arith, c.saturating_add-total.ensures, c.width_near.ensures, e, sum_left (width c.args.table.now) parts i x c.loop-part-test.true, c.loop-part.invariant.is_sum);
     }
 
 pub parts_width-returns : goal.parts_width-returns
