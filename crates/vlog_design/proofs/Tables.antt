@@ -1,10 +1,11 @@
 -- A look-up in a table is a look-up in the list of its signals.
-use Rattle.std.proofs.Common.{◌≡◌, ◌∙◌, ◌+◌, ◌-◌, ◌<◌, ◌≤◌, ◌++◌, ap, drop, get_or, length, slice_get, suc, zero, sym, arith, ℕ, Bool, true, false, cond, List, [], ◌∷◌, Option, None, Some, is_some, bytes_eq, find, option_map, refl}
+use Rattle.std.proofs.Common.{◌≡◌, ◌∙◌, ◌+◌, ◌-◌, ◌<◌, ◌≤◌, ◌++◌, ap, drop, get_or, length, slice_get, suc, zero, sym, arith, ℕ, Bool, true, false, cond, List, [], ◌∷◌, Option, None, Some, is_none, is_some, bytes_eq, find, option_map, refl, unwrap_or}
 use Rattle.std.proofs.Math.ListN.{drop_of_length-le}
 use Rattle.std.proofs.lemmas.List.{drop_more}
 use Rattle.std.proofs.lemmas.Option.{slice_get-map}
 use Rattle.std.specs.Borrow.{Bor}
 use Rattle.std.specs.Map.{lookup}
+use Rattle.indexmap.specs.IndexMap.{insert_entry}
 use Rattle.vlog_design.specs.Names.{Signal, signal_named}
 use Rattle.vlog_design.specs.declared.signals.Slot.{Slot}
 use Rattle.vlog_design.specs.Tables.{signal_of, signals_of}
@@ -89,3 +90,48 @@ get_behind (x ∷ a) b (suc i) behind = get_behind a b i (omega (arith, behind))
 pub signal_behind : (a b : List (Bor (List ℕ) × Slot)) (i : ℕ) (e : Bor (List ℕ) × Slot) → length a ≤ i → slice_get b (i - length a) ≡ Some e →
     Some (signal_of e) ≡ slice_get (signals_of (a ++ b)) i
 signal_behind a b i e behind at = sym (slice_get-map signal_of (a ++ b) i ∙ ap (option_map signal_of) (get_behind a b i behind ∙ at))
+
+-- two names are the same
+abbrev same_name : Bor (List ℕ) → Bor (List ℕ) → Bool
+same_name a b = bytes_eq a.now b.now
+
+insert_alike : (eq : Bor (List ℕ) → Bor (List ℕ) → Bool) → ((a b : Bor (List ℕ)) → eq a b ≡ same_name a b) → (es : List (Bor (List ℕ) × Slot)) (key : Bor (List ℕ)) (slot : Slot) →
+    insert_entry eq es key slot ≡ insert_entry same_name es key slot
+insert_alike eq alike [] key slot = refl
+insert_alike eq alike (e ∷ es) key slot = λ j. cond (alike key e.0 j) ((e.0, slot) ∷ es) (e ∷ insert_alike eq alike es key slot j)
+
+inserted_again : (es : List (Bor (List ℕ) × Slot)) (key : Bor (List ℕ)) (slot known : Slot) → signal_named (signals_of es) key.now ≡ Some known →
+    insert_entry same_name (insert_entry same_name es key slot) key known ≡ es
+inserted_again [] key slot known there = let none : None ≡ Some known = sym (none_named key.now) ∙ there in cc
+inserted_again (e ∷ es) key slot known there = by (same_name key e.0) refl (inserted_again es key slot known) (sym (named_one e es key.now) ∙ there)
+  where
+    by : (t : Bool) → same_name key e.0 ≡ t → (signal_named (signals_of es) key.now ≡ Some known → insert_entry same_name (insert_entry same_name es key slot) key known ≡ es) →
+        cond t (Some e.1) (signal_named (signals_of es) key.now) ≡ Some known →
+        insert_entry same_name (cond t ((e.0, slot) ∷ es) (e ∷ insert_entry same_name es key slot)) key known ≡ e ∷ es
+    by true is rest there = ap (λ b. cond b ((e.0, known) ∷ es) ((e.0, slot) ∷ insert_entry same_name es key known)) is ∙ ap (λ (o : Option Slot). (e.0, unwrap_or o known) ∷ es) (sym there)
+    by false is rest there = ap (λ b. cond b ((e.0, known) ∷ insert_entry same_name es key slot) (e ∷ insert_entry same_name (insert_entry same_name es key slot) key known)) is ∙ ap (λ l. e ∷ l) (rest there)
+
+-- a name that was there and gets back what it stood for leaves the entries as they were
+pub put_back : (eq eq' : Bor (List ℕ) → Bor (List ℕ) → Bool) → ((a b : Bor (List ℕ)) → eq a b ≡ same_name a b) → ((a b : Bor (List ℕ)) → eq' a b ≡ same_name a b) →
+    (es now next : List (Bor (List ℕ) × Slot)) (key : Bor (List ℕ)) (slot known : Slot) → now ≡ insert_entry eq es key slot → next ≡ insert_entry eq' now key known →
+    signal_named (signals_of es) key.now ≡ Some known → next ≡ es
+put_back eq eq' alike alike' es now next key slot known first again there =
+    again
+    ∙ (insert_alike eq' alike' now key known
+    ∙ (ap (λ l. insert_entry same_name l key known) (first ∙ insert_alike eq alike es key slot) ∙ inserted_again es key slot known there))
+
+-- a name that stands for something is not missing, and one that stands for nothing is
+pub is_there : {A : Type 0} (o : Option A) (x : A) → o ≡ Some x → false ≡ is_none o
+is_there o x is = ap is_none (sym is)
+
+pub is_missing : {A : Type 0} (o : Option A) → o ≡ None → true ≡ is_none o
+is_missing o is = ap is_none (sym is)
+
+-- a name that the first of two lists has is in both behind one another
+pub there_first : (a b : List (Bor (List ℕ) × Slot)) (name : List ℕ) → is_some (signal_named (signals_of a) name) ≡ true →
+    false ≡ is_none (signal_named (signals_of (a ++ b)) name)
+there_first a b name there = by (signal_named (signals_of a) name) refl there
+  where
+    by : (o : Option Slot) → signal_named (signals_of a) name ≡ o → is_some o ≡ true → false ≡ is_none (signal_named (signals_of (a ++ b)) name)
+    by None is there = cc
+    by (Some slot) is there = is_there _ slot (found_first a b name slot is)

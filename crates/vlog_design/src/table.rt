@@ -73,6 +73,32 @@ fn slot_near(slots: &IndexMap<&[u8], Slot>, near: &mut usize, name: &[u8]) -> Op
     }
 }
 
+/// Adds a name at the end, and answers whether it was new. It is looked up once, as it is added; one that was there gets back what it
+/// stood for.
+fn add_slot<'a>(
+    slots: &mut IndexMap<&'a [u8], Slot>,
+    name: &'a [u8],
+    slot: Slot,
+) -> Result<bool, NoMemory>
+    ensures answer { IfOk result
+        (λ new. new ≡ is_none (signal_named (signals_of slots.old.entries) name.now)) }
+    ensures added { IfOk result
+        (λ new. signals_of slots.new.entries ≡ signals_of slots.old.entries
+        ++ (if new then record { name = name.now; slot = slot } ∷ [] else [])) }
+    ensures kept { OnErr result (signals_of slots.new.entries ≡ signals_of slots.old.entries) }
+{
+    if let Ok(before) = slots.insert(name, slot) {
+        if let Some(known) = before {
+            if let Ok(_) = slots.insert(name, known) {
+                return Ok(false);
+            }
+            return Err(NoMemory);
+        }
+        return Ok(true);
+    }
+    Err(NoMemory)
+}
+
 impl<'a> Table<'a> {
     pub fn empty(alloc: Global) -> Table<'a>
         ensures { result ≡ [] }
@@ -167,12 +193,9 @@ impl<'a> Table<'a> {
             ++ (if new then record { name = name.now; slot = slot } ∷ [] else [])) }
         ensures kept { OnErr result (self.new ≡ self.old) }
     {
-        if self.find(name).is_some() {
+        if find_among(self.few.as_slice(), name).is_some() {
             return Ok(false);
         }
-        if let Ok(_) = self.slots.insert(name, slot) {
-            return Ok(true);
-        }
-        Err(NoMemory)
+        add_slot(&mut self.slots, name, slot)
     }
 }

@@ -1,22 +1,21 @@
-use Rattle.std.proofs.Common.{ap, refl, sym, ◌≡◌, ◌∙◌, ◌++◌, ◌∷◌, ℕ, List, None, [], map}
-use Rattle.std.specs.Borrow.{Bor}
-use Rattle.std.proofs.lemmas.List.{append_assoc, map-append}
-use Rattle.indexmap.proofs.CallerLemmas.{insert_entry-new}
-use Rattle.vlog_design.specs.declared.signals.Slot.{Slot}
+use Rattle.std.proofs.Common.{ap, subst, sym, ◌≡◌, ◌∙◌, None, is_none, is_some, IfOk, true}
 use Rattle.vlog_design.specs.Names.{signal_named}
-use Rattle.vlog_design.specs.Tables.{signal_of, signals_of}
-use Rattle.vlog_design.proofs.Tables.{found, found_missing, none_of_is_some}
+use Rattle.vlog_design.specs.Tables.{signals_of}
+use Rattle.vlog_design.proofs.Tables.{found_behind, none_of_is_some, there_first}
 use Rattle.vlog_design.proofs.table.Table.add.Goals as goal
 
-pub returns-in-Ok-clause-added : goal.returns-in-Ok-clause-added
-returns-in-Ok-clause-added c =
+pub returns-then-is_some-clause-answer : goal.returns-then-is_some-clause-answer
+returns-then-is_some-clause-answer c =
     let few = c.self.inside.few.items in
-    let entries = c.self.inside.slots.entries in
     let name = c.args.name.now in
-    let entry : Bor (List ℕ) × Slot = (c.args.name, c.args.slot) in
-    let missing : signal_named (signals_of entries) name ≡ None =
-    found_missing few entries name
-    (ap (λ s. signal_named s name) c.self.view_is ∙ (sym c.find.ensures ∙ none_of_is_some c.find.result (sym c.is_some.ensures ∙ c.if-is_some.false))) in
-    ap (λ es. map signal_of (few ++ es)) (c.in-Ok.ensures.entries ∙ insert_entry-new _ c.self.inside.slots c.args.name c.args.slot (found entries _ name (λ k. refl) ∙ missing))
-    ∙ (ap (map signal_of) (sym (append_assoc few entries (entry ∷ [])))
-    ∙ (map-append signal_of (few ++ entries) (entry ∷ []) ∙ ap (λ s. s ++ signal_of entry ∷ []) c.self.view_is))
+    let there : is_some (signal_named (signals_of few) name) ≡ true =
+    ap is_some (ap (λ l. signal_named (signals_of l) name) (sym c.as_slice.ensures.value) ∙ sym c.find_among.ensures) ∙ (sym c.is_some.ensures ∙ c.if-is_some.true) in
+    there_first few c.self.inside.slots.entries name there ∙ ap (λ s. is_none (signal_named s name)) c.self.view_is
+
+pub returns-clause-answer : goal.returns-clause-answer
+returns-clause-answer c =
+    let few = c.self.inside.few.items in
+    let name = c.args.name.now in
+    let missing : signal_named (signals_of few) name ≡ None =
+    ap (λ l. signal_named (signals_of l) name) (sym c.as_slice.ensures.value) ∙ (sym c.find_among.ensures ∙ none_of_is_some c.find_among.result (sym c.is_some.ensures ∙ c.if-is_some.false)) in
+    subst (λ o. IfOk c.add_slot.result (λ new. new ≡ is_none o)) (sym (found_behind few c.self.inside.slots.entries name missing) ∙ ap (λ s. signal_named s name) c.self.view_is) c.add_slot.ensures.answer
