@@ -1,7 +1,6 @@
 pub mod Bare
 pub mod CellLaws
 pub mod LiveBelow
-pub mod MadeItems
 pub mod MadeNets
 pub mod MemberLaws
 pub mod NetLaws

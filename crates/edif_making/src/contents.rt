@@ -3,7 +3,6 @@ ghost use Rattle.std.specs.Prelude.{◌≡◌, ◌+◌, ◌<◌, Bool, [], true,
 ghost use Rattle.std.specs.List.{AllByRecursion};
 ghost use Rattle.net_hier.specs.Valid.{Each};
 ghost use Rattle.net_live.specs.Live.{needs_constant};
-ghost use Rattle.edif_values.specs.declared.view.ContentsItem.TheVariants as contents_items;
 ghost use Rattle.edif_written.specs.Sound.{IsShort};
 ghost use Rattle.edif_plans.specs.Made.{AreInstancesFor};
 ghost use Rattle.edif_plans.specs.Plans.{FitsCells, HasConstant, HasHead, HasPorts, constant_number};
@@ -14,32 +13,13 @@ ghost use Rattle.edif_making.specs.Whole.{IsWhole, whole_cell};
 use crate::members::live_members;
 use crate::nets::{net_idents, with_nets};
 use crate::refs::Scope;
-use crate::room::give_back;
-use edif_parts::{instances_of, instances_with};
+use edif_parts::{InstanceItems, instances_of, instances_with};
 use edif_plans::{Head, Instances, Plan};
-use edif_values::{ContentsItem, Instance};
+use edif_values::ContentsItem;
 use net_bits::Classes;
 use net_hier::{Constants, HCell, HInst};
 use nl_base::{NoMemory, Seq};
 use std::alloc::Global;
-
-/// Instances as parts of contents, in a list with room for so many parts behind them. They are taken from the last one on, so that their
-/// list gives room back while the other one fills.
-fn instance_items(
-    alloc: Global,
-    mut instances: Vec<Instance>,
-    behind: usize,
-) -> Result<Vec<ContentsItem>, NoMemory>
-    ensures { IfOk result (λ items. items.items ≡ map contents_items.Instance instances.items) }
-{
-    let mut items = Vec::with_capacity(alloc, instances.len().saturating_add(behind))?;
-    while let Some(instance) = instances.pop() {
-        items.push(ContentsItem::Instance(instance))?;
-        give_back(&mut instances);
-    }
-    items.reverse();
-    Ok(items)
-}
 
 /// The numbers of the cells of the instances.
 fn belows_of(alloc: Global, instances: &[HInst]) -> Result<Vec<u32>, NoMemory>
@@ -52,21 +32,22 @@ fn belows_of(alloc: Global, instances: &[HInst]) -> Result<Vec<u32>, NoMemory>
     Ok(belows)
 }
 
-/// The instances that are written for those of a cell, which are left.
+/// The instances that are written for those of a cell, which are left, with room for so many parts behind them.
 fn instances_made(
     alloc: Global,
     plan: &Plan,
     instances: &Instances,
     own: Seq<HInst>,
-) -> Result<Vec<Instance>, NoMemory>
+    behind: usize,
+) -> Result<InstanceItems, NoMemory>
     requires heads { Each (λ instance. HasHead plan.now instance.cell) own }
     requires constants { Each (λ one. constant_number plan.now one.value
         < length plan.now.heads) instances.now.added }
     requires idents { length own + length instances.now.added ≡ length instances.now.idents }
     requires short { AllByRecursion (λ one. IsShort one.name) instances.now.added }
-    ensures { IfOk result (λ made. AreInstancesFor plan.now own instances.now made.items) }
+    ensures { IfOk result (λ made. AreInstancesFor plan.now own instances.now made) }
 {
-    let made = instances_of(alloc, plan, instances, own.items())?;
+    let made = instances_of(alloc, plan, instances, own.items(), behind)?;
     Ok(made)
 }
 
@@ -86,9 +67,8 @@ fn instances_written(
     ensures { IfOk result (λ items. HaveInstances
         (AreInstancesFor plan.now own instances.now) items.items) }
 {
-    let made = instances_made(alloc, plan, instances, own)?;
-    let items = instance_items(alloc, made, behind)?;
-    Ok(items)
+    let made = instances_made(alloc, plan, instances, own, behind)?;
+    Ok(made.into_items())
 }
 
 /// The contents of the cell that is written for the one with these ports, these instances and the nets of `inside`, under this head: its

@@ -13,6 +13,7 @@ ghost use Rattle.edif_plans.specs.Plans.{HasHead, constant_number};
 ghost use Rattle.edif_plans.specs.Sound.{IsSoundInstance};
 
 use crate::instance::instance_of;
+use crate::items::InstanceItems;
 use edif_naming::last_properties;
 use edif_plans::{Added, Instances, Plan};
 use edif_values::{Instance, Property};
@@ -51,27 +52,27 @@ fn own_instance(
     Ok(made)
 }
 
-/// The instances that are written for those of the design, under the first identifiers.
+/// The instances that are written for those of the design, under the first identifiers, with room for so many parts behind.
 fn own_instances(
     alloc: Global,
     plan: &Plan,
     idents: &[Ident],
     instances: &[HInst],
-) -> Result<Vec<Instance>, NoMemory>
+    room: usize,
+) -> Result<InstanceItems, NoMemory>
     requires heads { Each (λ instance. HasHead plan.now instance.cell) instances.now }
     requires idents { length instances.now ≤ length idents.now }
     ensures idents { IfOk result
-        (λ made. map instance_ident made.items ++ drop (length instances.now) idents.now
+        (λ made. map instance_ident made ++ drop (length instances.now) idents.now
         ≡ idents.now) }
     ensures summaries { IfOk result
-        (λ made. map instance_summary made.items ≡ map (own_summary plan.now) instances.now) }
+        (λ made. map instance_summary made ≡ map (own_summary plan.now) instances.now) }
     ensures sound { AllByRecursion IsSoundInstance instances.now
-        → IfOk result (λ made. AllByRecursion IsInstance made.items) }
+        → IfOk result (λ made. AllByRecursion IsInstance made) }
     ensures no_spare_text { IfOk result (λ made.
-        AllByRecursion (λ instance. HasNoSpareText instance.name) made.items) }
+        AllByRecursion (λ instance. HasNoSpareText instance.name) made) }
 {
-    // There is room for those of the constants, which come behind.
-    let mut made = Vec::with_capacity(alloc, idents.len())?;
+    let mut made = InstanceItems::with_room(alloc, room)?;
     for place in 0..instances.len() {
         let instance = own_instance(alloc, plan, &idents[place], &instances[place])?;
         made.push(instance)?;
@@ -110,22 +111,22 @@ fn with_added(
     plan: &Plan,
     idents: &[Ident],
     added: &[Added],
-    own: Vec<Instance>,
-) -> Result<Vec<Instance>, NoMemory>
+    own: InstanceItems,
+) -> Result<InstanceItems, NoMemory>
     requires heads { Each (λ one. constant_number plan.now one.value
         < length plan.now.heads) added.now }
-    requires idents { length own.items + length added.now ≡ length idents.now }
-    requires named { map instance_ident own.items ++ drop (length own.items) idents.now
+    requires idents { length own + length added.now ≡ length idents.now }
+    requires named { map instance_ident own ++ drop (length own) idents.now
         ≡ idents.now }
-    ensures idents { IfOk result (λ made. map instance_ident made.items ≡ idents.now) }
+    ensures idents { IfOk result (λ made. map instance_ident made ≡ idents.now) }
     ensures summaries { IfOk result
-        (λ made. map instance_summary made.items
-        ≡ map instance_summary own.items ++ map (added_summary plan.now) added.now) }
-    ensures sound { AllByRecursion IsInstance own.items
+        (λ made. map instance_summary made
+        ≡ map instance_summary own ++ map (added_summary plan.now) added.now) }
+    ensures sound { AllByRecursion IsInstance own
         → AllByRecursion (λ one. IsShort one.name) added.now
-        → IfOk result (λ made. AllByRecursion IsInstance made.items) }
-    ensures no_spare_text { AllByRecursion (λ instance. HasNoSpareText instance.name) own.items
-        → IfOk result (λ made. AllByRecursion (λ instance. HasNoSpareText instance.name) made.items) }
+        → IfOk result (λ made. AllByRecursion IsInstance made) }
+    ensures no_spare_text { AllByRecursion (λ instance. HasNoSpareText instance.name) own
+        → IfOk result (λ made. AllByRecursion (λ instance. HasNoSpareText instance.name) made) }
 {
     let mut made = own;
     for one in added {
@@ -136,30 +137,32 @@ fn with_added(
     Ok(made)
 }
 
-/// The instances of a cell, its own and then those of the constants.
+/// The instances of a cell, its own and then those of the constants, with room for so many other parts of the cell behind them.
 pub fn instances_of(
     alloc: Global,
     plan: &Plan,
     instances: &Instances,
     own: &[HInst],
-) -> Result<Vec<Instance>, NoMemory>
+    behind: usize,
+) -> Result<InstanceItems, NoMemory>
     requires heads { Each (λ instance. HasHead plan.now instance.cell) own.now }
     requires constants { Each (λ one. constant_number plan.now one.value
         < length plan.now.heads) instances.now.added }
     requires idents { length own.now + length instances.now.added ≡ length instances.now.idents }
-    ensures idents { IfOk result (λ made. map instance_ident made.items ≡ instances.now.idents) }
+    ensures idents { IfOk result (λ made. map instance_ident made ≡ instances.now.idents) }
     ensures summaries { IfOk result
-        (λ made. map instance_summary made.items
+        (λ made. map instance_summary made
         ≡ map (own_summary plan.now) own.now ++ map (added_summary plan.now) instances.now.added) }
     ensures sound { AllByRecursion IsSoundInstance own.now
         → AllByRecursion (λ one. IsShort one.name) instances.now.added
-        → IfOk result (λ made. AllByRecursion IsInstance made.items) }
+        → IfOk result (λ made. AllByRecursion IsInstance made) }
     ensures no_spare_text { IfOk result (λ made.
-        AllByRecursion (λ instance. HasNoSpareText instance.name) made.items) }
+        AllByRecursion (λ instance. HasNoSpareText instance.name) made) }
 {
     let idents = instances.idents.items();
     let added = instances.added.items();
-    let first = own_instances(alloc, plan, idents, own)?;
+    let room = idents.len().saturating_add(behind);
+    let first = own_instances(alloc, plan, idents, own, room)?;
     let made = with_added(alloc, plan, idents, added, first)?;
     Ok(made)
 }

@@ -16,13 +16,13 @@ with_added-requires-clause-heads c = subst (λ (l : List Added). Each (λ (one :
 
 pub with_added-requires-clause-idents : goal.with_added-requires-clause-idents
 with_added-requires-clause-idents c =
-    ap (λ n. n + length c.items-added.result.now) (same_length instance_summary (own_summary c.args.plan.now) c.in_ok-first.first.items c.args.own.now c.in_ok-first.ensures.summaries)
+    ap (λ n. n + length c.items-added.result.now) (same_length instance_summary (own_summary c.args.plan.now) c.in_ok-first.first c.args.own.now c.in_ok-first.ensures.summaries)
     ∙ (ap (λ (l : List Added). length c.args.own.now + length l) c.items-added.ensures ∙ (c.requires.idents ∙ ap length (sym c.items-idents.ensures)))
 
 pub with_added-requires-clause-named : goal.with_added-requires-clause-named
 with_added-requires-clause-named c =
-    subst (λ n. map instance_ident c.in_ok-first.first.items ++ drop n c.items-idents.result.now ≡ c.items-idents.result.now)
-    (sym (same_length instance_summary (own_summary c.args.plan.now) c.in_ok-first.first.items c.args.own.now c.in_ok-first.ensures.summaries)) c.in_ok-first.ensures.idents
+    subst (λ n. map instance_ident c.in_ok-first.first ++ drop n c.items-idents.result.now ≡ c.items-idents.result.now)
+    (sym (same_length instance_summary (own_summary c.args.plan.now) c.in_ok-first.first c.args.own.now c.in_ok-first.ensures.summaries)) c.in_ok-first.ensures.idents
 
 pub returns-clause-summaries : goal.returns-clause-summaries
 returns-clause-summaries c = c.in_ok-made.ensures.summaries ∙ (λ j. c.in_ok-first.ensures.summaries j ++ map (added_summary c.args.plan.now) (c.items-added.ensures j))

@@ -14,8 +14,8 @@ own_instance-requires c = c.requires.heads c.loop-place.place c.index-instances-
 pub loop-place-preserved : goal.loop-place-preserved
 loop-place-preserved c = record {
   idents = item_turn instance_ident c.args.idents.now c.loop-place.place _ c.index-idents-place.result c.index-idents-place.result _ _ c.in_ok-instance.instance _
-      (omega (arith, c.requires.idents, c.loop-place-test.true)) (search rules) c.loop-place.invariant.idents c.in_ok-push.ensures.items c.in_ok-instance.ensures.ident refl;
-  summaries = map_turn instance_summary (own_summary c.args.plan.now) c.args.instances.now c.loop-place.place c.index-instances-place.result c.index-instances-place.result _ _ c.in_ok-instance.instance _ c.loop-place-test.true (search rules) c.loop-place.invariant.summaries c.in_ok-push.ensures.items c.in_ok-instance.ensures.summary;
-  sound = all_turn IsSoundInstance IsInstance c.args.instances.now c.loop-place.place c.index-instances-place.result c.index-instances-place.result _ _ c.in_ok-instance.instance c.loop-place-test.true (search rules) c.loop-place.invariant.sound c.in_ok-push.ensures.items c.in_ok-instance.ensures.sound;
-  no_spare_text = all_push (λ (i : Instance). HasNoSpareText i.name) c.loop-place.made.items _ c.in_ok-instance.instance c.loop-place.invariant.no_spare_text c.in_ok-instance.ensures.no_spare_text c.in_ok-push.ensures.items;
+      (omega (arith, c.requires.idents, c.loop-place-test.true)) (search rules) c.loop-place.invariant.idents c.in_ok-push.ensures c.in_ok-instance.ensures.ident refl;
+  summaries = map_turn instance_summary (own_summary c.args.plan.now) c.args.instances.now c.loop-place.place c.index-instances-place.result c.index-instances-place.result _ _ c.in_ok-instance.instance _ c.loop-place-test.true (search rules) c.loop-place.invariant.summaries c.in_ok-push.ensures c.in_ok-instance.ensures.summary;
+  sound = all_turn IsSoundInstance IsInstance c.args.instances.now c.loop-place.place c.index-instances-place.result c.index-instances-place.result _ _ c.in_ok-instance.instance c.loop-place-test.true (search rules) c.loop-place.invariant.sound c.in_ok-push.ensures c.in_ok-instance.ensures.sound;
+  no_spare_text = all_push (λ (i : Instance). HasNoSpareText i.name) c.loop-place.made _ c.in_ok-instance.instance c.loop-place.invariant.no_spare_text c.in_ok-instance.ensures.no_spare_text c.in_ok-push.ensures;
 }

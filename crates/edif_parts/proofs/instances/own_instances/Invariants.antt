@@ -9,8 +9,8 @@ use Rattle.edif_parts.proofs.instances.own_instances.Given as goal
 
 abbrev pub invariant-loop-place : goal.invariant-loop-place
 invariant-loop-place l = record {
-  idents : map instance_ident l.made.items ++ drop l.place l.idents ≡ l.idents;
-  summaries : map instance_summary l.made.items ++ map (own_summary l.plan) (drop l.place l.instances) ≡ map (own_summary l.plan) l.instances;
-  sound : AllByRecursion IsSoundInstance l.instances → AllByRecursion IsInstance l.made.items;
-  no_spare_text : AllByRecursion (λ (i : Instance). HasNoSpareText i.name) l.made.items;
+  idents : map instance_ident l.made ++ drop l.place l.idents ≡ l.idents;
+  summaries : map instance_summary l.made ++ map (own_summary l.plan) (drop l.place l.instances) ≡ map (own_summary l.plan) l.instances;
+  sound : AllByRecursion IsSoundInstance l.instances → AllByRecursion IsInstance l.made;
+  no_spare_text : AllByRecursion (λ (i : Instance). HasNoSpareText i.name) l.made;
 }
