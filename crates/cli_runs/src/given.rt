@@ -1,4 +1,6 @@
 // What a run is given, and what it is to give.
+ghost use Rattle.std.specs.Prelude.{◌≡◌, flat_map, if◌then◌else◌, length, map, nat_eq, IfOk};
+
 use nl_base::{Seq, Text, spell_u64};
 use nl_io::{MemSink, MemSource};
 use std::alloc::Global;
@@ -59,7 +61,12 @@ pub fn wanted_of<'a>(
     status: u8,
     output: &'a [u8],
     errors: &'a [u8],
-) -> Wanted<'a> {
+) -> Wanted<'a>
+    ensures status { result.status ≡ status }
+    ensures output { result.output.now ≡ output.now }
+    ensures errors { result.errors.now ≡ errors.now }
+    ensures taken { result.taken ≡ (if nat_eq status 5 then 0 else length given.now.text.now) }
+{
     let taken = if status == 5 {
         0
     } else {
@@ -95,7 +102,9 @@ pub fn source_of(alloc: Global, given: &Given<'_>) -> Result<MemSource, Fail> {
 }
 
 /// Words, in order.
-pub fn words_of(alloc: Global, line: &[&[u8]]) -> Result<Seq<Text>, Fail> {
+pub fn words_of(alloc: Global, line: &[&[u8]]) -> Result<Seq<Text>, Fail>
+    ensures { IfOk result (λ words. words ≡ map (λ word. word.now) line.now) }
+{
     let mut words = Seq::empty(alloc);
     for word in line {
         words.push(Text::copy(alloc, *word)?)?;
@@ -185,7 +194,9 @@ pub fn is_refused_early<P: Program>(
 }
 
 /// Texts behind one another.
-pub fn text_of(alloc: Global, pieces: &[&[u8]]) -> Result<Vec<u8>, Fail> {
+pub fn text_of(alloc: Global, pieces: &[&[u8]]) -> Result<Vec<u8>, Fail>
+    ensures { IfOk result (λ text. text.items ≡ flat_map (λ piece. piece.now) pieces.now) }
+{
     let mut text = Vec::new(alloc);
     for piece in pieces {
         text.extend_from_slice(*piece)?;
