@@ -136,7 +136,7 @@ flagged_is NetDeclaration false k = refl
 flagged_is Instance false k = refl
 flagged_is Parameter false k = refl
 
-pub kinds_more : (ds : List Declaration) (d : Declaration) (name : Name) → kinds_among (ds ++ d ∷ []) name ≡ cond (bytes_eq name d.name) (with_kind d.kind (kinds_among ds name)) (kinds_among ds name)
+kinds_more : (ds : List Declaration) (d : Declaration) (name : Name) → kinds_among (ds ++ d ∷ []) name ≡ cond (bytes_eq name d.name) (with_kind d.kind (kinds_among ds name)) (kinds_among ds name)
 kinds_more ds d name =
     (λ j. record {
       header = there_more ds d name InHeader j;

@@ -1,7 +1,7 @@
 pub mod Clashes
+pub mod DigestLaws
 pub mod KindLaws
 pub mod RuleLaws
-pub mod SearchLaws
 pub mod SeenLemmas
 pub mod StatementLaws
 pub mod LibraryLaws

@@ -1,7 +1,7 @@
 pub mod Defparams
+pub mod Digests
 pub mod Kinds
 pub mod Redeclared
-pub mod Searches
 pub mod Seen
 pub mod Wide
 pub mod WrongUses

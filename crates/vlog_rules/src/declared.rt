@@ -6,6 +6,7 @@ ghost use Rattle.vlog_design.specs.Names.{declarations, declared_as, declared_in
 ghost use Rattle.vlog_design.specs.Rules.{declared_twice, first_of, refused};
 ghost use Rattle.vlog_rules.specs.Seen.{declarations_of};
 
+use crate::counts::count_names;
 use crate::noting::first_clash;
 use crate::refusals::refuse;
 use nl_base::{NoMemory, Refusal, Rule, Text};
@@ -119,7 +120,7 @@ fn push_items<'a>(items: &'a [ItemV], out: &mut Vec<(Kind, &'a [u8])>) -> Result
 pub fn declarations_in<'a>(alloc: Global, m: &'a Module) -> Result<Vec<(Kind, &'a [u8])>, NoMemory>
     ensures { IfOk result (λ found. declarations_of found.items ≡ declarations m.now) }
 {
-    let mut found = Vec::new(alloc);
+    let mut found = Vec::with_capacity(alloc, count_names(m))?;
     push_params(m.params.items(), &mut found)?;
     push_header(&m.header, &mut found)?;
     push_items(m.items.items(), &mut found)?;

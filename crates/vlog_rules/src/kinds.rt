@@ -94,13 +94,13 @@ fn clashes_with(kind: Kind, kinds: Kinds) -> bool
 }
 
 impl<'a> Met<'a> {
-    /// No declarations, with room for so many names.
-    pub fn with_room(alloc: Global, count: usize) -> Result<Met<'a>, NoMemory>
-        ensures { IfOk result (λ met. (name : Name) → kept_kinds met name ≡ no_kinds) }
+    /// No declarations.
+    pub fn empty(alloc: Global) -> Met<'a>
+        ensures { (name : Name) → kept_kinds result name ≡ no_kinds }
     {
-        Ok(Met {
-            kinds: IndexMap::with_capacity(alloc, count)?,
-        })
+        Met {
+            kinds: IndexMap::new(alloc),
+        }
     }
 
     /// Notes a declaration, and answers whether one that was met clashes with it.

@@ -10,6 +10,7 @@ pub mod connections;
 pub mod counts;
 pub mod declared;
 pub mod defparams;
+mod digests;
 pub mod directions;
 mod kinds;
 pub mod library;

@@ -1,177 +1,79 @@
-// The first declaration of a module that clashes with one before it, found item by item: no list of the declarations is made.
-ghost use Rattle.std.specs.Prelude.{◌≡◌, [], ◌∷◌, flat_map, map, option_copied, option_map, IfOk};
-ghost use Rattle.vlog_design.specs.declared.signals.Kind.TheVariants.{Parameter, Instance};
-ghost use Rattle.vlog_design.specs.Names.{clashing, declarations, declared_as, declared_in_header, declared_in_item, declared_params, declared_port};
+// The first declaration of a module that clashes with one before it. Only names that may be those of two declarations go to a table.
+ghost use Rattle.std.specs.Prelude.{◌≡◌, [], filter, map, option_copied, option_map, IfOk};
+ghost use Rattle.vlog_design.specs.Names.{clashing, declarations};
 ghost use Rattle.vlog_design.specs.Rules.{clash, first_of};
-ghost use Rattle.vlog_rules.specs.Searches.{Searches};
+ghost use Rattle.vlog_rules.specs.Digests.{digest_of, has_digest, AreNoted, HasRoom};
+ghost use Rattle.vlog_rules.specs.Seen.{declaration_of, declarations_of};
 
-use crate::counts::count_names;
+use crate::declared::declarations_in;
+use crate::digests::Digests;
 use crate::kinds::Met;
-use nl_base::{NoMemory, Text};
+use nl_base::NoMemory;
 use std::alloc::Global;
 use vlog_design::signals::Kind;
-use vlog_values::{Header, ItemV, Module, ParamDecl, ParamSet, PortDecl, VInst};
+use vlog_values::Module;
 
-/// Notes a declaration, and answers its name where it clashes with one before it.
-fn note_one<'a>(kind: Kind, name: &'a [u8], met: &mut Met<'a>) -> Result<Option<&'a [u8]>, NoMemory>
-    ensures { IfOk result (λ found. Searches met.old met.new
-        (record { kind = kind; name = name.now } ∷ []) (option_copied found)) }
+/// The digests of the names of the declarations.
+fn digests_of(alloc: Global, declarations: &[(Kind, &[u8])]) -> Result<Digests, NoMemory>
+    ensures { IfOk result (λ digests. AreNoted digests
+        (map (λ declaration. declaration.name) (declarations_of declarations.now))) }
 {
-    let clashes = met.note(kind, name)?;
-    if clashes {
-        return Ok(Some(name));
+    let mut digests = Digests::with_room(alloc, declarations.len())?;
+    for declaration in declarations {
+        digests.note(declaration.1);
     }
-    Ok(None)
+    Ok(digests)
 }
 
-fn note_names<'a>(
-    kind: Kind,
-    names: &'a [Text],
-    met: &mut Met<'a>,
-) -> Result<Option<&'a [u8]>, NoMemory>
-    ensures { IfOk result (λ found. Searches met.old met.new
-        (declared_as kind names.now) (option_copied found)) }
+/// Keeps the declarations of names that were met again, by their digests.
+fn keep_again(digests: &Digests, declarations: &mut Vec<(Kind, &[u8])>)
+    requires { HasRoom digests.now }
+    ensures { declarations_of declarations.new.items
+        ≡ filter (λ declaration. has_digest digests.now.again.items (digest_of declaration.name))
+        (declarations_of declarations.old.items) }
 {
-    for name in names {
-        if let Some(found) = note_one(kind, name.bytes(), met)? {
-            return Ok(Some(found));
+    declarations.retain(|declaration| digests.is_again(declaration.1));
+}
+
+/// The first of the declarations that clashes with one before it.
+fn first_in_table<'a>(
+    alloc: Global,
+    declarations: &[(Kind, &'a [u8])],
+) -> Result<Option<(Kind, &'a [u8])>, NoMemory>
+    ensures { IfOk result (λ found. option_map declaration_of found
+        ≡ first_of (clashing clash [] (declarations_of declarations.now))) }
+{
+    let mut met = Met::empty(alloc);
+    for declaration in declarations {
+        let (kind, name) = *declaration;
+        let clashes = met.note(kind, name)?;
+        if clashes {
+            return Ok(Some(*declaration));
         }
     }
     Ok(None)
 }
 
-fn note_sets<'a>(sets: &'a [ParamSet], met: &mut Met<'a>) -> Result<Option<&'a [u8]>, NoMemory>
-    ensures { IfOk result (λ found. Searches met.old met.new
-        (declared_as Parameter (map (λ set. set.name) sets.now)) (option_copied found)) }
+/// The declarations of names that may be declared before, in the order of the text: the others clash with none.
+fn suspected<'a>(alloc: Global, m: &'a Module) -> Result<Vec<(Kind, &'a [u8])>, NoMemory>
+    ensures { IfOk result (λ found. clashing clash [] (declarations_of found.items)
+        ≡ clashing clash [] (declarations m.now)) }
 {
-    for set in sets {
-        if let Some(found) = note_one(Kind::Parameter, set.name.bytes(), met)? {
-            return Ok(Some(found));
-        }
-    }
-    Ok(None)
+    let mut declarations = declarations_in(alloc, m)?;
+    let digests = digests_of(alloc, &declarations)?;
+    keep_again(&digests, &mut declarations);
+    Ok(declarations)
 }
 
-fn note_params<'a>(decls: &'a [ParamDecl], met: &mut Met<'a>) -> Result<Option<&'a [u8]>, NoMemory>
-    ensures { IfOk result (λ found. Searches met.old met.new
-        (flat_map declared_params decls.now) (option_copied found)) }
-{
-    for decl in decls {
-        if let Some(found) = note_sets(decl.sets.items(), met)? {
-            return Ok(Some(found));
-        }
-    }
-    Ok(None)
-}
-
-fn note_instances<'a>(insts: &'a [VInst], met: &mut Met<'a>) -> Result<Option<&'a [u8]>, NoMemory>
-    ensures { IfOk result (λ found. Searches met.old met.new
-        (declared_as Instance (map (λ instance. instance.name) insts.now))
-        (option_copied found)) }
-{
-    for instance in insts {
-        if let Some(found) = note_one(Kind::Instance, instance.name.bytes(), met)? {
-            return Ok(Some(found));
-        }
-    }
-    Ok(None)
-}
-
-fn note_port<'a>(name: &'a [u8], met: &mut Met<'a>) -> Result<Option<&'a [u8]>, NoMemory>
-    ensures { IfOk result (λ found. Searches met.old met.new
-        (declared_port name.now) (option_copied found)) }
-{
-    if let Some(found) = note_one(Kind::InHeader, name, met)? {
-        return Ok(Some(found));
-    }
-    let last = note_one(Kind::Direction, name, met)?;
-    Ok(last)
-}
-
-fn note_ports<'a>(names: &'a [Text], met: &mut Met<'a>) -> Result<Option<&'a [u8]>, NoMemory>
-    ensures { IfOk result (λ found. Searches met.old met.new
-        (flat_map declared_port names.now) (option_copied found)) }
-{
-    for name in names {
-        if let Some(found) = note_port(name.bytes(), met)? {
-            return Ok(Some(found));
-        }
-    }
-    Ok(None)
-}
-
-fn note_decls<'a>(decls: &'a [PortDecl], met: &mut Met<'a>) -> Result<Option<&'a [u8]>, NoMemory>
-    ensures { IfOk result (λ found. Searches met.old met.new
-        (flat_map (λ decl. flat_map declared_port decl.names) decls.now)
-        (option_copied found)) }
-{
-    for decl in decls {
-        if let Some(found) = note_ports(decl.names.items(), met)? {
-            return Ok(Some(found));
-        }
-    }
-    Ok(None)
-}
-
-fn note_header<'a>(header: &'a Header, met: &mut Met<'a>) -> Result<Option<&'a [u8]>, NoMemory>
-    ensures { IfOk result (λ found. Searches met.old met.new
-        (declared_in_header header.now) (option_copied found)) }
-{
-    match header {
-        Header::Names(names) => note_names(Kind::InHeader, names.items(), met),
-        Header::Decls(decls) => note_decls(decls.items(), met),
-    }
-}
-
-#[tactic(auto, using(crate::proofs::SearchLaws::no_search))]
-fn note_item<'a>(item: &'a ItemV, met: &mut Met<'a>) -> Result<Option<&'a [u8]>, NoMemory>
-    ensures { IfOk result (λ found. Searches met.old met.new
-        (declared_in_item item.now) (option_copied found)) }
-{
-    match item {
-        ItemV::Port(decl) => note_names(Kind::Direction, decl.names.items(), met),
-        ItemV::Net(decl) => note_names(Kind::NetDeclaration, decl.names.items(), met),
-        ItemV::Param(decl) => note_sets(decl.sets.items(), met),
-        ItemV::Instances(statement) => note_instances(statement.insts.items(), met),
-        ItemV::Assign(_) => Ok(None),
-        ItemV::Defparam(_) => Ok(None),
-    }
-}
-
-fn note_items<'a>(items: &'a [ItemV], met: &mut Met<'a>) -> Result<Option<&'a [u8]>, NoMemory>
-    ensures { IfOk result (λ found. Searches met.old met.new
-        (flat_map declared_in_item items.now) (option_copied found)) }
-{
-    for item in items {
-        if let Some(found) = note_item(item, met)? {
-            return Ok(Some(found));
-        }
-    }
-    Ok(None)
-}
-
-fn note_module<'a>(m: &'a Module, met: &mut Met<'a>) -> Result<Option<&'a [u8]>, NoMemory>
-    ensures { IfOk result (λ found. Searches met.old met.new
-        (declarations m.now) (option_copied found)) }
-{
-    if let Some(found) = note_params(m.params.items(), met)? {
-        return Ok(Some(found));
-    }
-    if let Some(found) = note_header(&m.header, met)? {
-        return Ok(Some(found));
-    }
-    let last = note_items(m.items.items(), met)?;
-    Ok(last)
-}
-
-/// The name of the first declaration of the module that clashes with one before it. The names that were met are kept with room for all
-/// from the first, so that no smaller table of them stands beside it.
+/// The name of the first declaration of the module that clashes with one before it.
 pub fn first_clash<'a>(alloc: Global, m: &'a Module) -> Result<Option<&'a [u8]>, NoMemory>
     ensures { IfOk result (λ found. option_copied found
         ≡ option_map (λ declaration. declaration.name)
         (first_of (clashing clash [] (declarations m.now)))) }
 {
-    let mut met = Met::with_room(alloc, count_names(m))?;
-    let found = note_module(m, &mut met)?;
-    Ok(found)
+    let declarations = suspected(alloc, m)?;
+    match first_in_table(alloc, &declarations)? {
+        None => Ok(None),
+        Some(declaration) => Ok(Some(declaration.1)),
+    }
 }
