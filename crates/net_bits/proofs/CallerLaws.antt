@@ -1,12 +1,16 @@
 -- What callers cite of classes and of names.
-use Rattle.std.proofs.Common.{◌≡◌, ℕ, ◌+◌, ◌||◌, ◌⊎◌, ◌↔◌, inl, inr, true, List, [], ◌∷◌, Option, Some, None, refl, sym, ◌∙◌, ap, subst, Contains}
+use Rattle.std.proofs.Common.{◌≡◌, ℕ, ◌+◌, ◌||◌, ◌⊎◌, ◌↔◌, inl, inr, Bool, true, false, List, [], ◌∷◌, Option, Some, None, map, refl, sym, ◌∙◌, ap, subst, Contains}
+use Rattle.std.specs.List.{fold}
 use Rattle.std.proofs.Math.Bool.{or-true}
 use Rattle.std.proofs.lemmas.Bool.{eqb-true, eq-eqb}
+use Rattle.std.proofs.lemmas.Slice.Eq.{bytes_eq-Decides}
+use Rattle.nl_base.specs.Case.{small}
 use Rattle.net_graph.specs.Walks.{Leads}
 use Rattle.net_hier.specs.Cells.{HasLocalStep, IsLocallyConnected}
 use Rattle.net_hier.specs.declared.cells.HCell.{HCell}
 use Rattle.net_hier.specs.declared.nodes.Node.{Node}
 use Rattle.net_bits.specs.Classes.{AreClasses, ClassTable, class_of, is_number, members_of}
+use Rattle.net_bits.specs.NameTables.{digest_of, digest_step}
 use Rattle.net_bits.specs.Names.{AreUsed, IsFresh, NameSet, alike, has_name, numbered, with_name}
 use Rattle.net_bits.specs.Neighbours.{ends}
 use Rattle.net_bits.proofs.FreshLaws.{alike_laws, used_more}
@@ -55,6 +59,11 @@ connected_classes cell classes are x y = (
         let k = (are.joined y).0 (last_joined x (next ∷ rest) l here) in
         let same = (are.same x y j.0 k.0 j.1 k.1).1 (record { places = next ∷ rest; lead = l }) in
         inr (j.0, j.1, k.1 ∙ ap Some (sym same))
+
+-- names that are alike have one digest
+pub alike_digest : (up_to_case : Bool) (a b : List ℕ) → alike up_to_case a b ≡ true → digest_of up_to_case a ≡ digest_of up_to_case b
+alike_digest false a b h = ap (digest_of false) ((bytes_eq-Decides a b).0 h)
+alike_digest true a b h = ap (fold digest_step 14695981039346656037) ((bytes_eq-Decides (map small a) (map small b)).0 h)
 
 -- a set with one name more has that name, and what it had
 pub has-with_name : (set : NameSet) (name other : List ℕ) → has_name (with_name set name) other ≡ (alike set.up_to_case other name || has_name set other)

@@ -1,16 +1,15 @@
 -- sets of names by digests
 use Rattle.std.proofs.Common.{◌≡◌, ◌≢◌, ℕ, zero, suc, ◌+◌, ◌<◌, ◌≤◌, ◌++◌, ◌||◌, inl, inr, Bool, true, false, cond, List, [], ◌∷◌, Option, Some, None, length, get_or, map, refl, sym, ◌∙◌, ap, subst, arith, nat_eq}
-use Rattle.std.specs.List.{fold, list_any}
+use Rattle.std.specs.List.{list_any}
 use Rattle.std.proofs.lemmas.List.{map-append, get_or-map, length-map, length_push, get_or_append_left, get_or_push, get_or_default}
 use Rattle.std.proofs.lemmas.List.Folds.{list_any_none}
-use Rattle.std.proofs.lemmas.Slice.Eq.{bytes_eq-Decides}
 use Rattle.std.proofs.lemmas.Bool.{cases_eq, cases_lt, eqb-true, eq-eqb}
 use Rattle.std.proofs.Math.Bool.{or-true}
 use Rattle.indexmap.specs.IndexMap.{IndexMap, get}
-use Rattle.nl_base.specs.Case.{small}
 use Rattle.net_bits.specs.Names.{NameSet, alike, has_name}
 use Rattle.net_bits.specs.declared.names.Entry.{Entry}
-use Rattle.net_bits.specs.NameTables.{IsLast, HasLinks, digest_of, digest_step, digests}
+use Rattle.net_bits.specs.NameTables.{IsLast, HasLinks, digest_of, digests}
+use Rattle.net_bits.proofs.CallerLaws.{alike_digest}
 
 -- how far a place is from the start
 abbrev pub after : Option ℕ → ℕ
@@ -29,10 +28,6 @@ get_or-append-left xs ys i d h = get_or_append_left xs ys d i h
 
 get_or-push : {X : Type 0} (xs : List X) (y d : X) → get_or (xs ++ y ∷ []) (length xs) d ≡ y
 get_or-push xs y d = get_or_push xs y d (length xs) refl
-
-alike_digest : (c : Bool) (a b : List ℕ) → alike c a b ≡ true → digest_of c a ≡ digest_of c b
-alike_digest false a b h = ap (digest_of false) ((bytes_eq-Decides a b).0 h)
-alike_digest true a b h = ap (fold digest_step 14695981039346656037) ((bytes_eq-Decides (map small a) (map small b)).0 h)
 
 -- names with other digests are not alike
 unlike : (c : Bool) (a b : List ℕ) → digest_of c b ≢ digest_of c a → alike c a b ≡ false

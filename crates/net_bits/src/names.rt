@@ -136,8 +136,8 @@ fn counted(byte: u8, fold: bool) -> u8
     }
 }
 
-// A number that is the same for names that are alike, and seldom for others: the hash FNV-1a.
-fn digest(name: &[u8], fold: bool) -> u64
+/// A number that is the same for names that are alike, byte for byte or with `fold` up to case, and seldom for others: the hash FNV-1a.
+pub fn digest(name: &[u8], fold: bool) -> u64
     ensures { result ≡ digest_of fold name.now }
 {
     let mut hash: u64 = 0xcbf2_9ce4_8422_2325;

@@ -1,0 +1,2 @@
+pub mod CallerLaws
+mod SetLaws
