@@ -19,8 +19,7 @@ use crate::members::Members;
 use crate::refs::{Scope, refs_of};
 use crate::room::give_back;
 use edif_naming::{named, properties_of};
-use edif_spaces::idents::FEW;
-use edif_spaces::{Space, idents_of};
+use edif_spaces::idents_of;
 use edif_values::{ContentsItem, Net, NetItem, Property};
 use net_hier::{HCell, HNet, HPort, Node};
 use net_live::{bit_word, class_props, first_net, last_values};
@@ -206,8 +205,9 @@ fn lent(alloc: Global, names: &[Text]) -> Result<Vec<&[u8]>, NoMemory>
     Ok(lent)
 }
 
-/// The identifiers of the nets of a few of these classes, of which the names are in a list.
-fn few_idents(
+/// The identifiers of the nets of these classes, where the cell has these ports and these nets. The names are left: each is made again with its
+/// net.
+pub fn net_idents(
     alloc: Global,
     shown: &HCell,
     inside: &HCell,
@@ -220,42 +220,6 @@ fn few_idents(
     let lent = lent(alloc, names.as_slice())?;
     let idents = idents_of(alloc, lent.as_slice())?;
     Ok(idents)
-}
-
-/// The identifiers of the nets of many of these classes, of which no list of names is made.
-fn many_idents(
-    alloc: Global,
-    shown: &HCell,
-    inside: &HCell,
-    members: &Members,
-) -> Result<Seq<Ident>, NoMemory>
-    ensures { IfOk result
-        (AreIdents (map (name_of_class inside.now.nets shown.now.ports) members.now)) }
-{
-    let mut space = Space::with_room(alloc, members.len())?;
-    let mut idents = Vec::with_capacity(alloc, members.len())?;
-    for place in 0..members.len() {
-        let name = class_name(alloc, shown, inside, members.get(place))?;
-        idents.push(space.ident(alloc, name.bytes())?)?;
-    }
-    Ok(Seq::of(idents))
-}
-
-/// The identifiers of the nets of these classes, where the cell has these ports and these nets. The names are left: each is made again with its
-/// net.
-pub fn net_idents(
-    alloc: Global,
-    shown: &HCell,
-    inside: &HCell,
-    members: &Members,
-) -> Result<Seq<Ident>, NoMemory>
-    ensures { IfOk result
-        (AreIdents (map (name_of_class inside.now.nets shown.now.ports) members.now)) }
-{
-    if members.len() <= FEW {
-        return few_idents(alloc, shown, inside, members);
-    }
-    many_idents(alloc, shown, inside, members)
 }
 
 /// The parts of a net: its properties.

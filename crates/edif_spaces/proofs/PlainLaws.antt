@@ -45,7 +45,7 @@ starts (first ∷ (second ∷ rest)) digits e =
     let two : 100 ≡ small second = ap (λ l. get_or l 1 0) e in
     λ j. (sym one j == 105) && (sym two j == 100)
 
-unlike_plain : (name : List ℕ) (number : ℕ) → has_stem name ≡ false → same_up_to_case (numbered stem number) name ≡ false
+pub unlike_plain : (name : List ℕ) (number : ℕ) → has_stem name ≡ false → same_up_to_case (numbered stem number) name ≡ false
 unlike_plain name number h = by (same_up_to_case (numbered stem number) name) refl
   where
     by : (b : Bool) → same_up_to_case (numbered stem number) name ≡ b → b ≡ false

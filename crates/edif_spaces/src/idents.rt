@@ -2,16 +2,20 @@
 ghost use Rattle.std.specs.Prelude.{map, IfOk};
 ghost use Rattle.edif_spaces.specs.Spaces.{AreIdents};
 
+use crate::many::many_idents;
 use crate::plain::{have_stem, plain_idents};
 use crate::space::Space;
 use nl_base::{Ident, NoMemory, Seq};
 use std::alloc::Global;
 
-/// The identifiers of up to so many names are looked through one by one, and those of more of them by a table.
-pub const FEW: usize = 64;
+/// The identifiers of up to so many names are looked through one by one, and those of more of them by their digests.
+const FEW: usize = 64;
+
+/// The numbers of so many identifiers stay far below the greatest one.
+const MANY: usize = 1 << 31;
 
 /// Identifiers for names of one name space, of which no two are alike up to case, by a table of those that were given.
-fn many_idents(alloc: Global, names: &[&[u8]]) -> Result<Seq<Ident>, NoMemory>
+fn listed_idents(alloc: Global, names: &[&[u8]]) -> Result<Seq<Ident>, NoMemory>
     ensures { IfOk result (λ idents. AreIdents (map (λ name. name.now) names.now) idents) }
 {
     let mut space = Space::with_room(alloc, names.len())?;
@@ -27,7 +31,10 @@ fn many_idents(alloc: Global, names: &[&[u8]]) -> Result<Seq<Ident>, NoMemory>
 pub fn idents_of(alloc: Global, names: &[&[u8]]) -> Result<Seq<Ident>, NoMemory>
     ensures { IfOk result (λ idents. AreIdents (map (λ name. name.now) names.now) idents) }
 {
-    if names.len() <= FEW && !have_stem(names) {
+    if names.len() > MANY || have_stem(names) {
+        return listed_idents(alloc, names);
+    }
+    if names.len() <= FEW {
         return plain_idents(alloc, names);
     }
     many_idents(alloc, names)

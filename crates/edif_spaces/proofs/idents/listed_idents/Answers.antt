@@ -2,7 +2,7 @@ use Rattle.std.proofs.Common.{refl, sym, subst, ◌∙◌}
 use Rattle.edif_spaces.specs.Spaces.{AreIdents}
 use Rattle.edif_spaces.proofs.IdentLaws.{first_all, first_none, lent, seen}
 use Rattle.edif_spaces.proofs.SpaceLaws.{space_turn}
-use Rattle.edif_spaces.proofs.idents.many_idents.Goals as goal
+use Rattle.edif_spaces.proofs.idents.listed_idents.Goals as goal
 
 pub loop-name-init : goal.loop-name-init
 loop-name-init c = let none = c.in_ok-idents.ensures.items in (first_none lent c.args.names.now _ none, c.in_ok-space.ensures ∙ sym none)
