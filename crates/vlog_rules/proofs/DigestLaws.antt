@@ -1,82 +1,14 @@
--- Sets of bits of digests, and the declarations of names that were met again.
-use Rattle.std.proofs.Common.{◌≡◌, ◌≢◌, ℕ, Bool, true, false, ◌||◌, ◌&&◌, ◌==◌, ◌+◌, ◌-◌, ◌/◌, ◌%◌, ◌^◌, ◌<◌, max, cond, List, [], ◌∷◌, ◌++◌, append-nil, append_assoc, bytes_eq, filter, get_or, length, map, take, refl, sym, ap, subst, ◌∙◌, add-one, arith}
-use Rattle.std.specs.Borrow.{Bor}
-use Rattle.std.specs.Int.{bit_at}
+-- Digests of names that are declared, and the declarations of names that were met again.
+use Rattle.std.proofs.Common.{◌≡◌, ℕ, Bool, true, false, ◌||◌, ◌&&◌, ◌+◌, ◌≤◌, cond, List, [], ◌∷◌, ◌++◌, append-nil, bytes_eq, filter, map, refl, sym, ap, subst, ◌∙◌, arith}
 use Rattle.std.specs.List.{list_any}
-use Rattle.std.proofs.Math.ListN.{length-set}
-use Rattle.std.proofs.Math.Seq.{take-suc}
-use Rattle.std.proofs.lemmas.Bool.{eqb-true, eq-eqb, false≢true}
-use Rattle.std.proofs.lemmas.List.{get_or-set_other, get_or-set_same, map-append}
-use Rattle.std.proofs.lemmas.List.Folds.{list_any-append}
-use Rattle.std.proofs.lemmas.Nat.{and_le_r}
-use Rattle.std.proofs.lemmas.Nat.Bits.{bit_at_or, bit_at-pow_other, bit_at-pow_same}
+use Rattle.std.proofs.lemmas.Bool.{eq-eqb, false≢true}
+use Rattle.std.proofs.lemmas.List.{map-append}
 use Rattle.std.proofs.lemmas.Slice.Eq.{bytes_eq-Decides}
+use Rattle.digests.specs.Sets.{AreNoted, DigestSets, is_again, times}
+use Rattle.digests.proofs.CallerLaws.{times-append, times-cons}
 use Rattle.vlog_design.specs.Names.{Declaration, Name, clashing, has_name}
 use Rattle.vlog_design.specs.Rules.{clash}
-use Rattle.vlog_design.specs.declared.signals.Kind.{Kind}
-use Rattle.vlog_rules.specs.Digests.{AreNoted, HasRoom, digest_of, has_bit, has_digest, place_of, with_bit, with_digest}
-use Rattle.vlog_rules.specs.Seen.{declaration_of, declarations_of}
-use Rattle.vlog_rules.specs.declared.digests.Digests.{Digests}
-
--- bits
-
-with_bit_has : (mask i : ℕ) → has_bit (with_bit mask i) i ≡ true
-with_bit_has mask i =
-    let e : bit_at (with_bit mask i) i ≡ max (bit_at mask i) 1 = bit_at_or mask (2 ^ i) i ∙ ap (max (bit_at mask i)) (bit_at-pow_same i) in
-    eq-eqb (bit_at (with_bit mask i) i) 1 (e ∙ omega arith)
-
-with_bit_keeps : (mask i n : ℕ) → n ≢ i → has_bit (with_bit mask i) n ≡ has_bit mask n
-with_bit_keeps mask i n other =
-    let e : bit_at (with_bit mask i) n ≡ max (bit_at mask n) 0 = bit_at_or mask (2 ^ i) n ∙ ap (max (bit_at mask n)) (bit_at-pow_other i n other) in
-    ap (λ b. b == 1) (e ∙ omega arith)
-
--- a bit that is there stays
-bit_stays : (mask i n : ℕ) → has_bit mask n ≡ true → has_bit (with_bit mask i) n ≡ true
-bit_stays mask i n h = by (n == i) refl
-  where
-    by : (b : Bool) → (n == i) ≡ b → has_bit (with_bit mask i) n ≡ true
-    by true e = ap (has_bit (with_bit mask i)) (eqb-true n i e) ∙ with_bit_has mask i
-    by false e = with_bit_keeps mask i n (λ same. false≢true (sym e ∙ eq-eqb n i same)) ∙ h
-
--- words
-
-pub place_within : (words digest : ℕ) → 0 < words → place_of words digest < words
-place_within words digest h = let below = and_le_r (digest / 64) (words - 1) in omega (arith, h, below)
-
-module _ (words : List ℕ) (digest : ℕ) (some : 0 < length words) where
-  abbrev place : ℕ
-  place = place_of (length words) digest
-
-  abbrev mask : ℕ
-  mask = with_bit (get_or words place 0) (digest % 64)
-
-  pub length_with : length (with_digest words digest) ≡ length words
-  length_with = length-set words place mask
-
-  -- a digest that is added is there
-  pub digest_added : has_digest (with_digest words digest) digest ≡ true
-  digest_added =
-      ap (λ n. has_bit (get_or (with_digest words digest) (place_of n digest) 0) (digest % 64)) length_with
-      ∙ (ap (λ m. has_bit m (digest % 64)) (get_or-set_same words place mask 0 (place_within (length words) digest some))
-      ∙ with_bit_has (get_or words place 0) (digest % 64))
-
-  -- one that is there stays
-  pub digest_stays : (other : ℕ) → has_digest words other ≡ true → has_digest (with_digest words digest) other ≡ true
-  digest_stays other h =
-      ap (λ n. has_bit (get_or (with_digest words digest) (place_of n other) 0) (other % 64)) length_with
-      ∙ by (place_of (length words) other == place) refl
-    where
-      by : (b : Bool) → (place_of (length words) other == place) ≡ b → has_bit (get_or (with_digest words digest) (place_of (length words) other) 0) (other % 64) ≡ true
-      by true e =
-          let same = eqb-true (place_of (length words) other) place e in
-          ap (λ p. has_bit (get_or (with_digest words digest) p 0) (other % 64)) same
-          ∙ (ap (λ m. has_bit m (other % 64)) (get_or-set_same words place mask 0 (place_within (length words) digest some))
-          ∙ bit_stays (get_or words place 0) (digest % 64) (other % 64) (ap (λ p. has_bit (get_or words p 0) (other % 64)) (sym same) ∙ h))
-      by false e =
-          ap (λ m. has_bit m (other % 64)) (get_or-set_other words place (place_of (length words) other) mask 0 (λ same. false≢true (sym e ∙ eq-eqb (place_of (length words) other) place same)))
-          ∙ h
-
--- names among others, and those that clash with one before them
+use Rattle.vlog_rules.specs.NameDigests.{digest_of, digests_of}
 
 either : (a b : Bool) → (a || b) ≡ true → ({c : Type 0} → (a ≡ true → c) → (b ≡ true → c) → c)
 either true b h = λ first second. first refl
@@ -86,99 +18,64 @@ or_right : (a b : Bool) → b ≡ true → (a || b) ≡ true
 or_right true b h = refl
 or_right false b h = h
 
--- a name among these and one more
-among_more : (names : List Name) (name other : Name) → has_name (names ++ name ∷ []) other ≡ true → (has_name names other || bytes_eq other name) ≡ true
-among_more names name other h = sym (list_any-append (bytes_eq other) names (name ∷ []) ∙ ap (λ b. has_name names other || b) (or_false (bytes_eq other name))) ∙ h
-  where
-    or_false : (b : Bool) → (b || false) ≡ b
-    or_false true = refl
-    or_false false = refl
+-- how often a digest stands among those of names
 
-pub clashing_both : {A : Type 0} (test : A → A → Bool) (before xs ys : List A) → clashing test before (xs ++ ys) ≡ clashing test before xs ++ clashing test (before ++ xs) ys
+abbrev digests_in : List Name → List ℕ
+digests_in names = map digest_of names
+
+-- the digest of a name that is equal to the first counts there
+counts_first : (first : Name) (rest : List Name) (name : Name) → bytes_eq name first ≡ true → times (digests_in (first ∷ rest)) (digest_of name) ≡ 1 + times (digests_in rest) (digest_of name)
+counts_first first rest name same =
+    times-cons (digest_of name) (digest_of first) (digests_in rest)
+    ∙ ap (λ b. cond b 1 0 + times (digests_in rest) (digest_of name)) (eq-eqb (digest_of name) (digest_of first) (ap digest_of ((bytes_eq-Decides name first).0 same)))
+
+-- a name that stands among these
+stands_once : (names : List Name) (name : Name) → has_name names name ≡ true → 1 ≤ times (digests_in names) (digest_of name)
+stands_once [] name h = absurd (false≢true h)
+stands_once (first ∷ rest) name h = either (bytes_eq name first) (has_name rest name) h
+    (λ same. let e = counts_first first rest name same in omega (arith, e))
+    (λ behind.
+    let e = times-cons (digest_of name) (digest_of first) (digests_in rest) in
+    let more = stands_once rest name behind in
+    omega (arith, e, more))
+
+-- a name that clashes stands there twice: among those before, or among the rest
+stands_twice : (before rest : List Name) (name : Name) → has_name (clashing bytes_eq before rest) name ≡ true → 2 ≤ times (digests_in before) (digest_of name) + times (digests_in rest) (digest_of name)
 unfolding clashing
-clashing_both test before [] ys = ap (λ ds. clashing test ds ys) (sym (append-nil before))
-clashing_both test before (x ∷ xs) ys =
-    ap (λ rest. cond (list_any (test x) before) (x ∷ rest) rest)
-    (clashing_both test (before ++ x ∷ []) xs ys ∙ ap (λ ds. clashing test (before ++ x ∷ []) xs ++ clashing test ds ys) (append_assoc before (x ∷ []) xs))
-    ∙ grouped (list_any (test x) before) x (clashing test (before ++ x ∷ []) xs) (clashing test (before ++ x ∷ xs) ys)
+stands_twice before [] name h = absurd (false≢true h)
+stands_twice before (first ∷ rest) name h = by (has_name before first) refl h (stands_twice (before ++ first ∷ []) rest name)
   where
-    grouped : {A : Type 0} (b : Bool) (x : A) (p q : List A) → cond b (x ∷ (p ++ q)) (p ++ q) ≡ cond b (x ∷ p) p ++ q
-    grouped true x p q = refl
-    grouped false x p q = refl
+    later : 2 ≤ times (digests_in (before ++ first ∷ [])) (digest_of name) + times (digests_in rest) (digest_of name) → 2 ≤ times (digests_in before) (digest_of name) + times (digests_in (first ∷ rest)) (digest_of name)
+    later more =
+        let e = ap (λ digests. times digests (digest_of name)) (map-append digest_of before (first ∷ [])) ∙ times-append (digests_in before) (digest_of first ∷ []) (digest_of name) in
+        let one = times-cons (digest_of name) (digest_of first) [] in
+        let all = times-cons (digest_of name) (digest_of first) (digests_in rest) in
+        omega (arith, more, e, one, all)
 
--- a name that clashes among these and one more
-again_more : (names : List Name) (name other : Name) → has_name (clashing bytes_eq [] (names ++ name ∷ [])) other ≡ true
-    → (has_name (clashing bytes_eq [] names) other || (has_name names name && bytes_eq other name)) ≡ true
-unfolding clashing
-again_more names name other h =
-    sym (ap (λ ns. has_name ns other) (clashing_both bytes_eq [] names (name ∷ []))
-    ∙ (list_any-append (bytes_eq other) (clashing bytes_eq [] names) (cond (has_name names name) (name ∷ []) [])
-    ∙ ap (λ b. has_name (clashing bytes_eq [] names) other || b) (one (has_name names name)))) ∙ h
-  where
-    one : (b : Bool) → has_name (cond b (name ∷ []) []) other ≡ (b && bytes_eq other name)
-    one true = or_false (bytes_eq other name)
-      where
-        or_false : (b : Bool) → (b || false) ≡ b
-        or_false true = refl
-        or_false false = refl
-    one false = refl
+    here : has_name before first ≡ true → bytes_eq name first ≡ true → 2 ≤ times (digests_in before) (digest_of name) + times (digests_in (first ∷ rest)) (digest_of name)
+    here there same =
+        let once = stands_once before name (ap (has_name before) ((bytes_eq-Decides name first).0 same) ∙ there) in
+        let e = counts_first first rest name same in
+        omega (arith, once, e)
 
--- what is noted
+    by : (b : Bool) → has_name before first ≡ b → has_name (cond b (first ∷ clashing bytes_eq (before ++ first ∷ []) rest) (clashing bytes_eq (before ++ first ∷ []) rest)) name ≡ true
+        → (has_name (clashing bytes_eq (before ++ first ∷ []) rest) name ≡ true → 2 ≤ times (digests_in (before ++ first ∷ [])) (digest_of name) + times (digests_in rest) (digest_of name))
+        → 2 ≤ times (digests_in before) (digest_of name) + times (digests_in (first ∷ rest)) (digest_of name)
+    by true there h next = either (bytes_eq name first) (has_name (clashing bytes_eq (before ++ first ∷ []) rest) name) h
+        (λ same. here there same)
+        (λ behind. later (next behind))
+    by false there h next = later (next h)
 
-pub none_noted : (digests : Digests) → HasRoom digests → AreNoted digests []
-unfolding clashing
-none_noted digests room = record { room = room; met = λ name h. absurd (false≢true h); again = λ name h. absurd (false≢true h) }
+digests_named : (declarations : List Declaration) → digests_of declarations ≡ digests_in (map (λ (d : Declaration). d.name) declarations)
+digests_named [] = refl
+digests_named (d ∷ ds) = ap (λ rest. digest_of d.name ∷ rest) (digests_named ds)
 
-module _ (old new : Digests) (names : List Name) (name : Name) (noted : AreNoted old names) where
-  abbrev digest : ℕ
-  digest = digest_of name
-
-  same_digest : (other : Name) → bytes_eq other name ≡ true → digest ≡ digest_of other
-  same_digest other h = ap digest_of (sym ((bytes_eq-Decides other name).0 h))
-
-  -- a name whose digest was met
-  pub noted_again : has_digest old.met.items digest ≡ true → new.met.items ≡ old.met.items → new.again.items ≡ with_digest old.again.items digest → AreNoted new (names ++ name ∷ [])
-  noted_again there same more =
-      let some : 0 < length old.again.items = subst (λ n. 0 < n) (sym noted.room.1) noted.room.0 in
-      record {
-        room = (subst (λ ws. 0 < length ws) (sym same) noted.room.0, ap length more ∙ (length_with old.again.items digest some ∙ (noted.room.1 ∙ ap length (sym same))));
-        met = λ other h.
-            ap (λ ws. has_digest ws (digest_of other)) same
-            ∙ either (has_name names other) (bytes_eq other name) (among_more names name other h)
-            (λ first. noted.met other first)
-            (λ second. ap (has_digest old.met.items) (sym (same_digest other second)) ∙ there);
-        again = λ other h.
-            ap (λ ws. has_digest ws (digest_of other)) more
-            ∙ either (has_name (clashing bytes_eq [] names) other) (has_name names name && bytes_eq other name) (again_more names name other h)
-            (λ first. digest_stays old.again.items digest some (digest_of other) (noted.again other first))
-            (λ second. ap (has_digest (with_digest old.again.items digest)) (sym (same_digest other (both_right (has_name names name) (bytes_eq other name) second))) ∙ digest_added old.again.items digest some);
-      }
-    where
-      both_right : (a b : Bool) → (a && b) ≡ true → b ≡ true
-      both_right true b h = h
-      both_right false b h = absurd (false≢true h)
-
-  -- one whose digest was not met
-  pub noted_first : has_digest old.met.items digest ≡ false → new.met.items ≡ with_digest old.met.items digest → new.again.items ≡ old.again.items → AreNoted new (names ++ name ∷ [])
-  noted_first absent more same =
-      let some = noted.room.0 in
-      record {
-        room = (subst (λ n. 0 < n) (sym (ap length more ∙ length_with old.met.items digest some)) some, ap length same ∙ (noted.room.1 ∙ sym (ap length more ∙ length_with old.met.items digest some)));
-        met = λ other h.
-            ap (λ ws. has_digest ws (digest_of other)) more
-            ∙ either (has_name names other) (bytes_eq other name) (among_more names name other h)
-            (λ first. digest_stays old.met.items digest some (digest_of other) (noted.met other first))
-            (λ second. ap (has_digest (with_digest old.met.items digest)) (sym (same_digest other second)) ∙ digest_added old.met.items digest some);
-        again = λ other h.
-            ap (λ ws. has_digest ws (digest_of other)) same
-            ∙ either (has_name (clashing bytes_eq [] names) other) (has_name names name && bytes_eq other name) (again_more names name other h)
-            (λ first. noted.again other first)
-            (λ second. absurd (false≢true (sym absent ∙ noted.met name (both_left (has_name names name) (bytes_eq other name) second))));
-      }
-    where
-      both_left : (a b : Bool) → (a && b) ≡ true → a ≡ true
-      both_left true b h = refl
-      both_left false b h = absurd (false≢true h)
+-- where the digests of the declarations are noted, that of a name that clashes is noted again
+pub clash_again : (sets : DigestSets) (declarations : List Declaration) → AreNoted sets (digests_of declarations) → (name : Name)
+    → has_name (clashing bytes_eq [] (map (λ (d : Declaration). d.name) declarations)) name ≡ true → is_again sets (digest_of name) ≡ true
+clash_again sets declarations are name h =
+    are.again (digest_of name) (subst (λ digests. 2 ≤ times digests (digest_of name)) (sym (digests_named declarations))
+    (let twice = stands_twice [] (map (λ (d : Declaration). d.name) declarations) name h in omega (arith, twice)))
 
 -- declarations of names that no test keeps clash with none
 
@@ -262,23 +159,3 @@ module _ (test : Name → Bool) where
   clashing_kept before (x ∷ xs) h =
       kept_step before x xs (clashing clash (before ++ x ∷ []) xs) (test x.name) (list_any (clash x) before) refl refl (keeps_first before x xs h)
       (clashing_kept (before ++ x ∷ []) xs (keeps_behind before x xs h))
-
--- walks over the declarations
-
--- the names of the declarations before a place, and of those with the one at it
-pub names_more : (keys : List (Kind × Bor (List ℕ))) (i : ℕ) (d : Kind × Bor (List ℕ)) → i < length keys
-    → map (λ (x : Declaration). x.name) (declarations_of (take (i + 1) keys)) ≡ map (λ (x : Declaration). x.name) (declarations_of (take i keys)) ++ (get_or keys i d).1.now ∷ []
-names_more keys i d h =
-    ap (λ n. map (λ (x : Declaration). x.name) (declarations_of (take n keys))) (add-one i)
-    ∙ (ap (λ ks. map (λ (x : Declaration). x.name) (declarations_of ks)) (take-suc keys i d h)
-    ∙ (ap (map (λ (x : Declaration). x.name)) (map-append declaration_of (take i keys) (get_or keys i d ∷ []))
-    ∙ map-append (λ (x : Declaration). x.name) (declarations_of (take i keys)) (declaration_of (get_or keys i d) ∷ [])))
-
--- a filter of what is kept, seen as declarations
-pub filter_seen : {A B : Type 0} (seen : A → B) (test : B → Bool) (xs : List A) → map seen (filter (λ x. test (seen x)) xs) ≡ filter test (map seen xs)
-filter_seen seen test [] = refl
-filter_seen seen test (x ∷ xs) = by (test (seen x)) (filter_seen seen test xs)
-  where
-    by : (b : Bool) → map seen (filter (λ x. test (seen x)) xs) ≡ filter test (map seen xs) → map seen (cond b (x ∷ filter (λ x. test (seen x)) xs) (filter (λ x. test (seen x)) xs)) ≡ cond b (seen x ∷ filter test (map seen xs)) (filter test (map seen xs))
-    by true next = ap (λ rest. seen x ∷ rest) next
-    by false next = next

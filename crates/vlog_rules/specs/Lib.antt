@@ -1,6 +1,6 @@
 pub mod Defparams
-pub mod Digests
 pub mod Kinds
+pub mod NameDigests
 pub mod Redeclared
 pub mod Seen
 pub mod Wide

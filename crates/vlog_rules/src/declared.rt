@@ -38,7 +38,11 @@ fn push_sets<'a>(sets: &'a [ParamSet], out: &mut Vec<(Kind, &'a [u8])>) -> Resul
     Ok(())
 }
 
-fn push_params<'a>(decls: &'a [ParamDecl], out: &mut Vec<(Kind, &'a [u8])>) -> Result<(), NoMemory>
+/// Adds the declarations of parameters.
+pub(crate) fn push_params<'a>(
+    decls: &'a [ParamDecl],
+    out: &mut Vec<(Kind, &'a [u8])>,
+) -> Result<(), NoMemory>
     ensures added { OnOk result (declarations_of out.new.items
         ≡ declarations_of out.old.items ++ flat_map declared_params decls.now) }
 {
@@ -81,7 +85,11 @@ fn push_decls<'a>(decls: &'a [PortDecl], out: &mut Vec<(Kind, &'a [u8])>) -> Res
     Ok(())
 }
 
-fn push_header<'a>(header: &'a Header, out: &mut Vec<(Kind, &'a [u8])>) -> Result<(), NoMemory>
+/// Adds the declarations of a header.
+pub(crate) fn push_header<'a>(
+    header: &'a Header,
+    out: &mut Vec<(Kind, &'a [u8])>,
+) -> Result<(), NoMemory>
     ensures added { OnOk result (declarations_of out.new.items
         ≡ declarations_of out.old.items ++ declared_in_header header.now) }
 {
@@ -91,7 +99,11 @@ fn push_header<'a>(header: &'a Header, out: &mut Vec<(Kind, &'a [u8])>) -> Resul
     }
 }
 
-fn push_item<'a>(item: &'a ItemV, out: &mut Vec<(Kind, &'a [u8])>) -> Result<(), NoMemory>
+/// Adds the declarations of an item.
+pub(crate) fn push_item<'a>(
+    item: &'a ItemV,
+    out: &mut Vec<(Kind, &'a [u8])>,
+) -> Result<(), NoMemory>
     ensures added { OnOk result (declarations_of out.new.items
         ≡ declarations_of out.old.items ++ declared_in_item item.now) }
 {
