@@ -1,5 +1,5 @@
 // The first declaration of a module that clashes with one before it. Only names that may be those of two declarations go to a table.
-// The declarations are walked over twice and stand in no list: it would take 27 megabytes for a module of 16.
+// The declarations are walked over twice: a list of all of them would take more memory than the text.
 ghost use Rattle.std.specs.Prelude.{◌≡◌, ℕ, ◌++◌, [], flat_map, option_copied, option_map, IfOk, List, OnOk};
 ghost use Rattle.digests.specs.Sets.{AreNoted};
 ghost use Rattle.vlog_design.specs.Names.{clashing, declarations, declared_in_item};
