@@ -73,7 +73,8 @@ fn instances_written(
 
 /// The contents of the cell that is written for the one with these ports, these instances and the nets of `inside`, under this head: its
 /// instances, and then its nets. The classes are left before the nets are made, which need the nodes of the live ones alone, and so are the
-/// instances, of which the nets need the numbers of their cells.
+/// instances, of which the nets need the numbers of their cells. The nodes are listed before the instances get identifiers: in
+/// this order the peak of memory is the least.
 pub(crate) fn contents_of(
     alloc: Global,
     cells: &[HCell],
@@ -94,8 +95,9 @@ pub(crate) fn contents_of(
     ensures { IfOk result (λ items. AreContentsFor constants.now cells.now plan.now head.now
         (whole_cell shown.now own inside.now []) classes items.items) }
 {
+    let members = live_members(alloc, inside, &classes)?;
     let instances = instances_with(alloc, constants, own.items(), &classes)?;
-    let members = live_members(alloc, inside, classes)?;
+    drop(classes);
     let idents = net_idents(alloc, shown, inside, &members)?;
     let belows = belows_of(alloc, own.items())?;
     let first = instances_written(alloc, plan, &instances, own, members.len())?;

@@ -91,13 +91,14 @@ fn add_live(
     Ok(())
 }
 
-/// The nodes of the classes for which nets are written. The classes are needed no longer.
-pub fn live_members(alloc: Global, cell: &HCell, classes: Classes) -> Result<Members, NoMemory>
+/// The nodes of the classes for which nets are written.
+pub fn live_members(alloc: Global, cell: &HCell, classes: &Classes) -> Result<Members, NoMemory>
     ensures { IfOk result (λ members. members
-        ≡ map (members_of classes) (live_below cell.now.nets classes classes.count)) }
+        ≡ map (members_of classes.now)
+        (live_below cell.now.nets classes.now classes.now.count)) }
 {
     let mut starts = Vec::with_capacity(alloc, (classes.count() as usize).saturating_add(1))?;
-    let mut nodes = Vec::with_capacity(alloc, node_count(&classes))?;
+    let mut nodes = Vec::with_capacity(alloc, node_count(classes))?;
     starts.push(0)?;
     for class in 0..classes.count() {
         let members = classes.members(class);
