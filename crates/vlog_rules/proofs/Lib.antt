@@ -9,3 +9,4 @@ pub mod SetLaws
 pub mod WideLaws
 pub mod PortLaws
 pub mod UseLaws
+pub mod FrontLaws

@@ -6,5 +6,6 @@ pub mod ImplicitLaws
 pub mod KnownLaws
 pub mod ModuleLaws
 pub mod RangeLaws
+pub mod OrderLaws
 pub mod RecursionLaws
 pub mod SignalLaws
