@@ -9,4 +9,3 @@ pub mod SetLaws
 pub mod WideLaws
 pub mod PortLaws
 pub mod UseLaws
-pub mod FrontLaws

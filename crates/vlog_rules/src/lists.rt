@@ -1,5 +1,5 @@
 // Lists of the names of a module, and which of them stand in another list.
-ghost use Rattle.std.specs.Prelude.{◌≡◌, ◌++◌, List, ℕ, filter, find, flat_map, map, not, option_copied, IfOk, OnOk, true, []};
+ghost use Rattle.std.specs.Prelude.{◌≡◌, ◌++◌, List, ℕ, filter, find, flat_map, map, not, option_copied, IfOk, OnOk};
 ghost use Rattle.vlog_design.specs.Names.{has_name, instance_names, instance_statement, port_decl};
 ghost use Rattle.vlog_design.specs.Rules.{first_of, inner_directions};
 ghost use Rattle.vlog_design.specs.Tables.{names_of};
@@ -106,23 +106,7 @@ fn first_not_in<'a>(set: &NameSet, names: &[&'a [u8]]) -> Option<&'a [u8]>
     None
 }
 
-/// Whether the names are the others, one by one, as far as they go.
-fn is_front(names: &[&[u8]], others: &[&[u8]]) -> bool
-    ensures { result ≡ true → filter (λ name. not (has_name (names_of others.now) name))
-        (names_of names.now) ≡ [] }
-{
-    if names.len() > others.len() {
-        return false;
-    }
-    for number in 0..names.len() {
-        if names[number] != others[number] {
-            return false;
-        }
-    }
-    true
-}
-
-/// The first of the names that is none of the others. Mostly they stand in the order of the others, and no set is made.
+/// The first of the names that is none of the others.
 pub fn first_outside<'a>(
     alloc: Global,
     names: &[&'a [u8]],
@@ -132,9 +116,6 @@ pub fn first_outside<'a>(
         ≡ first_of (filter (λ name. not (has_name (names_of others.now) name))
         (names_of names.now))) }
 {
-    if is_front(names, others) {
-        return Ok(None);
-    }
     let set = name_set(alloc, others)?;
     let found = first_not_in(&set, names);
     Ok(found)

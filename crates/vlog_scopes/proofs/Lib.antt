@@ -6,6 +6,5 @@ pub mod ImplicitLaws
 pub mod KnownLaws
 pub mod ModuleLaws
 pub mod RangeLaws
-pub mod OrderLaws
 pub mod RecursionLaws
 pub mod SignalLaws

@@ -47,46 +47,6 @@ fn add_listed<'a>(
     Ok(())
 }
 
-/// Whether the declarations of directions have these names, in this order.
-fn are_in_order(listed: &[&[u8]], directions: &[Ranged]) -> bool
-    ensures { result ≡ true → names_of listed.now ≡ lent_names directions.now }
-{
-    if listed.len() != directions.len() {
-        return false;
-    }
-    for number in 0..listed.len() {
-        if listed[number] != directions[number].name {
-            return false;
-        }
-    }
-    true
-}
-
-/// Adds the ports whose directions are declared in their order.
-fn add_in_order<'a>(
-    listed: &[&'a [u8]],
-    directions: &[Ranged],
-    out: &mut NewTable<'a>,
-) -> Result<(), NoMemory>
-    requires few { length listed.now ≤ 2 ^ 32 }
-    requires same { names_of listed.now ≡ lent_names directions.now }
-    requires differ { Distinct (signal_names out.old ++ names_of listed.now) }
-    ensures added { OnOk result (out.new
-        ≡ out.old ++ port_slots (ranged_names directions.now) 0 (names_of listed.now)) }
-{
-    for number in 0..listed.len() {
-        let range = directions[number].range;
-        out.add(
-            listed[number],
-            Slot {
-                range,
-                place: SignalAt::AtPort(number as u32),
-            },
-        )?;
-    }
-    Ok(())
-}
-
 /// Adds the ports of the module, in the order of the header, to a table without names.
 fn add_ports<'a>(alloc: Global, m: &'a Module, out: &mut NewTable<'a>) -> Result<(), NoMemory>
     requires once { declared_twice m.now ≡ [] }
@@ -96,10 +56,6 @@ fn add_ports<'a>(alloc: Global, m: &'a Module, out: &mut NewTable<'a>) -> Result
 {
     let listed = ports_in(alloc, m)?;
     let directions = directions_in(alloc, m)?;
-    if are_in_order(&listed, &directions) {
-        add_in_order(&listed, &directions, out)?;
-        return Ok(());
-    }
     let names = ranged_set(alloc, &directions)?;
     add_listed(&listed, &names, &directions, out)?;
     Ok(())

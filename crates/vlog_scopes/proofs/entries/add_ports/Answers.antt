@@ -10,59 +10,34 @@ use Rattle.vlog_scopes.proofs.RangeLaws.{lent_plain, plain_directions, port_rang
 use Rattle.vlog_scopes.proofs.SignalLaws.{ports_slots}
 use Rattle.vlog_scopes.proofs.entries.add_ports.Goals as goal
 
-pub add_in_order-requires-clause-few : goal.add_in_order-requires-clause-few
-add_in_order-requires-clause-few c =
-    let m = c.args.m.now in
-    let listed : names_of c.deref-then-are_in_order.result.now ≡ port_names m = ap names_of c.deref-then-are_in_order.ensures.value ∙ c.in_ok-listed.ensures in
-    let long : length c.deref-then-are_in_order.result.now ≡ length (port_names m) = sym (length-map c.deref-then-are_in_order.result.now (λ key. key.now)) ∙ ap length listed in
-    let few : length (port_names m) ≤ 268435456 = few_ports m 268435456 c.requires.small in
-    omega (arith, long, few)
-
-pub add_in_order-requires-clause-differ : goal.add_in_order-requires-clause-differ
-add_in_order-requires-clause-differ c =
-    let m = c.args.m.now in
-    let listed : names_of c.deref-then-are_in_order.result.now ≡ port_names m = ap names_of c.deref-then-are_in_order.ensures.value ∙ c.in_ok-listed.ensures in
-    subst Distinct (sym (λ j. signal_names (c.requires.first j) ++ listed j)) (ports_distinct m c.requires.once)
-
-pub returns-then-are_in_order : goal.returns-then-are_in_order
-returns-then-are_in_order c =
-    let m = c.args.m.now in
-    let listed : names_of c.deref-then-are_in_order.result.now ≡ port_names m = ap names_of c.deref-then-are_in_order.ensures.value ∙ c.in_ok-listed.ensures in
-    let directions : ranged_names c.deref-then-are_in_order-2.result.now ≡ flat_map ranged_ports (port_decls m) = ap ranged_names c.deref-then-are_in_order-2.ensures.value ∙ c.in_ok-directions.ensures in
-    record {
-      added = c.in_ok-add_in_order.ensures.added
-          ∙ ((λ j. c.requires.first j ++ port_slots (ranged_names c.deref-then-are_in_order-2.result.now) 0 (names_of c.deref-then-are_in_order.result.now))
-          ∙ (ports_slots m (ranged_names c.deref-then-are_in_order-2.result.now) (λ name. ap (λ ranged. range_named ranged name) directions ∙ port_range_is m name) 0 (names_of c.deref-then-are_in_order.result.now) ∙ ap (port_signals m 0) listed));
-    }
-
 pub ranged_set-requires : goal.ranged_set-requires
 ranged_set-requires c =
     let m = c.args.m.now in
-    let same : lent_names c.deref-3.result.now ≡ direction_names m =
-    lent_plain c.deref-3.result.now ∙ (ap plain_names (ap ranged_names c.deref-3.ensures.value ∙ c.in_ok-directions.ensures) ∙ plain_directions (port_decls m)) in
+    let same : lent_names c.deref.result.now ≡ direction_names m =
+    lent_plain c.deref.result.now ∙ (ap plain_names (ap ranged_names c.deref.ensures.value ∙ c.in_ok-directions.ensures) ∙ plain_directions (port_decls m)) in
     subst Distinct (sym same) (directions_distinct m c.requires.once)
 
 pub add_listed-requires-clause-few : goal.add_listed-requires-clause-few
 add_listed-requires-clause-few c =
     let m = c.args.m.now in
-    let listed : names_of c.deref-4.result.now ≡ port_names m = ap names_of c.deref-4.ensures.value ∙ c.in_ok-listed.ensures in
-    let long : length c.deref-4.result.now ≡ length (port_names m) = sym (length-map c.deref-4.result.now (λ key. key.now)) ∙ ap length listed in
+    let listed : names_of c.deref-2.result.now ≡ port_names m = ap names_of c.deref-2.ensures.value ∙ c.in_ok-listed.ensures in
+    let long : length c.deref-2.result.now ≡ length (port_names m) = sym (length-map c.deref-2.result.now (λ key. key.now)) ∙ ap length listed in
     let few : length (port_names m) ≤ 268435456 = few_ports m 268435456 c.requires.small in
     omega (arith, long, few)
 
 pub add_listed-requires-clause-differ : goal.add_listed-requires-clause-differ
 add_listed-requires-clause-differ c =
     let m = c.args.m.now in
-    let listed : names_of c.deref-4.result.now ≡ port_names m = ap names_of c.deref-4.ensures.value ∙ c.in_ok-listed.ensures in
+    let listed : names_of c.deref-2.result.now ≡ port_names m = ap names_of c.deref-2.ensures.value ∙ c.in_ok-listed.ensures in
     subst Distinct (sym (λ j. signal_names (c.requires.first j) ++ listed j)) (ports_distinct m c.requires.once)
 
 pub returns : goal.returns
 returns c =
     let m = c.args.m.now in
-    let listed : names_of c.deref-4.result.now ≡ port_names m = ap names_of c.deref-4.ensures.value ∙ c.in_ok-listed.ensures in
-    let directions : ranged_names c.deref-5.result.now ≡ flat_map ranged_ports (port_decls m) = ap ranged_names c.deref-5.ensures.value ∙ c.in_ok-directions.ensures in
+    let listed : names_of c.deref-2.result.now ≡ port_names m = ap names_of c.deref-2.ensures.value ∙ c.in_ok-listed.ensures in
+    let directions : ranged_names c.deref-3.result.now ≡ flat_map ranged_ports (port_decls m) = ap ranged_names c.deref-3.ensures.value ∙ c.in_ok-directions.ensures in
     record {
       added = c.in_ok-add_listed.ensures.added
-          ∙ ((λ j. c.requires.first j ++ port_slots (ranged_names c.deref-5.result.now) 0 (names_of c.deref-4.result.now))
-          ∙ (ports_slots m (ranged_names c.deref-5.result.now) (λ name. ap (λ ranged. range_named ranged name) directions ∙ port_range_is m name) 0 (names_of c.deref-4.result.now) ∙ ap (port_signals m 0) listed));
+          ∙ ((λ j. c.requires.first j ++ port_slots (ranged_names c.deref-3.result.now) 0 (names_of c.deref-2.result.now))
+          ∙ (ports_slots m (ranged_names c.deref-3.result.now) (λ name. ap (λ ranged. range_named ranged name) directions ∙ port_range_is m name) 0 (names_of c.deref-2.result.now) ∙ ap (port_signals m 0) listed));
     }
